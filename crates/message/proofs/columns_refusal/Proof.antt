@@ -1,0 +1,23 @@
+-- `message::columns_refusal` meets its contract. Assumes nothing.
+use mathlib.Core.Path.{sym, ap}
+use Rattle.message.specs.Columns.{columnsNo}
+use borrow.Author.Needs.{needs}
+use Rattle.message.proofs.columns_refusal.Statement.{statement}
+use Rattle.message.proofs.columns_refusal.Tie as tie
+use Rattle.message.proofs.columns_refusal.Reads as reads
+use Rattle.message.proofs.columns_refusal.Lts as lts
+
+enum-told : tie.Need-enum-told
+enum-told c = search needs
+
+enum-known-a : tie.Need-enum-known-a
+enum-known-a c = search needs
+
+returns : tie.Need-returns
+returns c = sym (ap columnsNo (c .enum-told .given .1))
+
+returns-2 : tie.Need-returns-2
+returns-2 c = search needs
+
+pub columns-refusal-spec : {M : Type 1} → statement M
+columns-refusal-spec = tie.close (tie.spec enum-told enum-known-a returns returns-2)

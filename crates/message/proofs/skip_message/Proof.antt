@@ -1,0 +1,68 @@
+-- `message::skip_message` meets its contract: the version, its rule, and the content. Assumes nothing.
+use mathlib.Core.Path.{_≡_, sym, ap, _∙_}
+use Prim.Native.Nat.{ℕ}
+use lib.Dec.{leb}
+use borrow.Author.Tests.{le-leb, lt-leb}
+use Rattle.format.specs.declared.Fault.the-variants.{Version}
+use Rattle.format.specs.Format.{number}
+use Rattle.format.specs.Message.{edition, contentOf}
+use Rattle.scan.specs.Shown.{shownNext}
+use Rattle.scan.proofs.Answers.{byte-go, byte-stop}
+use Rattle.scan.proofs.Steps.{both-ends, both-stop, ruled-go, ruled-bad, ruled-stop}
+use Rattle.scan.proofs.Params.{number-fields}
+use Rattle.message.proofs.Whole.{message-ends}
+use borrow.Author.Needs.{needs}
+use Rattle.message.proofs.skip_message.Statement.{statement}
+use Rattle.message.proofs.skip_message.Tie as tie
+use Rattle.message.proofs.skip_message.Reads as reads
+use Rattle.message.proofs.skip_message.Lts as lts
+use Rattle.message.proofs.skip_content.Reads as skip-content-reads
+use Rattle.scan.proofs.byte_refusal.Reads as byte-refusal-reads
+use Rattle.scan.proofs.read_byte.Reads as read-byte-reads
+
+read-byte-requires : tie.Need-read-byte-requires
+read-byte-requires c κs = search needs
+
+enum-known-byte : tie.Need-enum-known-byte
+enum-known-byte c = search needs
+
+enum-told : tie.Need-enum-told
+enum-told c = search needs
+
+byte-refusal-requires : tie.Need-byte-refusal-requires
+byte-refusal-requires c κs = search needs
+
+returns : tie.Need-returns
+returns c =
+    let kind = c .before .before .before .before .before .args .kind in
+    let stop = byte-stop _ (c .before .before .before .read-byte .ensures) (c .before .enum-told .given .1) (c .byte-refusal .ensures) in
+    sym (message-ends _ _ kind ∙ ap shownNext (both-stop (edition 2) (contentOf kind) _ _ (ruled-stop (λ n. leb n 1) Version (number 1 2) _ _ (number-fields _ _ 1 2 ∙ stop))))
+
+returns-2 : tie.Need-returns-2
+returns-2 c =
+    let kind = c .before .before .before .before .before .before .args .kind in
+    let go = byte-go _ (c .before .before .before .before .read-byte .ensures) (c .before .before .byte .given .1) in
+    sym (message-ends _ _ kind ∙ ap shownNext (both-stop (edition 2) (contentOf kind) _ _ (ruled-bad (λ n. leb n 1) Version (number 1 2) _ _ (number-fields _ _ 1 2 ∙ go) (lt-leb _ 1 (c .if1 .taken)))))
+
+skip-content-requires : tie.Need-skip-content-requires
+skip-content-requires c κs = search needs
+
+returns-3 : tie.Need-returns-3
+returns-3 c =
+    let kind = c .before .before .before .before .before .before .before .args .kind in
+    let go = byte-go _ (c .before .before .before .before .before .read-byte .ensures) (c .before .before .before .byte .given .1) in
+    c .skip-content .ensures
+    ∙ sym (message-ends _ _ kind ∙ both-ends (edition 2) (contentOf kind) _ _ (ruled-go (λ n. leb n 1) Version (number 1 2) _ _ (number-fields _ _ 1 2 ∙ go) (le-leb _ 1 (c .before .if1 .left))))
+
+pub skip-message-spec : {M : Type 1} → statement M
+skip-message-spec =
+    tie.close
+    (tie.spec
+    read-byte-requires
+    enum-known-byte
+    enum-told
+    byte-refusal-requires
+    returns
+    returns-2
+    skip-content-requires
+    returns-3)

@@ -1,0 +1,78 @@
+-- `message::skip_response` meets its contract: its head, and then its tables. Assumes nothing.
+use mathlib.Core.Path.{_≡_, sym, ap, _∙_}
+use Rattle.format.specs.Message.{mostItems, first, table}
+use Rattle.scan.specs.Shown.{shownNext}
+use Rattle.scan.proofs.Answers.{number-go, number-stop, next-go, next-stop}
+use Rattle.scan.proofs.Params.{list-go, list-stop}
+use Rattle.message.proofs.Heads.{response-go, response-stop}
+use borrow.Author.Needs.{needs}
+use Rattle.message.proofs.skip_response.Statement.{statement}
+use Rattle.message.proofs.skip_response.Tie as tie
+use Rattle.message.proofs.skip_response.Reads as reads
+use Rattle.message.proofs.skip_response.Lts as lts
+use Rattle.message.proofs.skip_head.Reads as skip-head-reads
+use Rattle.message.proofs.skip_tables.Reads as skip-tables-reads
+use Rattle.scan.proofs.next_refusal.Reads as next-refusal-reads
+use Rattle.scan.proofs.number_refusal.Reads as number-refusal-reads
+use Rattle.scan.proofs.read_count.Reads as read-count-reads
+
+skip-head-requires : tie.Need-skip-head-requires
+skip-head-requires c κs = search needs
+
+enum-known-begun : tie.Need-enum-known-begun
+enum-known-begun c = search needs
+
+enum-told : tie.Need-enum-told
+enum-told c = search needs
+
+next-refusal-requires : tie.Need-next-refusal-requires
+next-refusal-requires c κs = search needs
+
+returns : tie.Need-returns
+returns c =
+    let stop = next-stop _ (c .before .before .before .skip-head .ensures) (c .before .enum-told .given .1) (c .next-refusal .ensures) in
+    sym (ap shownNext (response-stop _ _ stop))
+
+read-count-requires : tie.Need-read-count-requires
+read-count-requires c κs = search needs
+
+enum-known-count : tie.Need-enum-known-count
+enum-known-count c = search needs
+
+enum-told-2 : tie.Need-enum-told-2
+enum-told-2 c = search needs
+
+number-refusal-requires : tie.Need-number-refusal-requires
+number-refusal-requires c κs = search needs
+
+returns-2 : tie.Need-returns-2
+returns-2 c =
+    let go = next-go _ (c .before .before .before .before .before .before .before .skip-head .ensures) (c .before .before .before .before .before .begun .given .1) in
+    let stop = number-stop _ (c .before .before .before .read-count .ensures) (c .before .enum-told2 .given .1) (c .number-refusal .ensures) in
+    sym (response-go _ _ (go .1) ∙ list-stop _ _ 2 mostItems 40 first table stop)
+
+skip-tables-requires : tie.Need-skip-tables-requires
+skip-tables-requires c κs = search needs
+
+returns-3 : tie.Need-returns-3
+returns-3 c =
+    let go = next-go _ (c .before .before .before .before .before .before .before .before .skip-head .ensures) (c .before .before .before .before .before .before .begun .given .1) in
+    let count = number-go _ (c .before .before .before .before .read-count .ensures) (c .before .before .count .given .1) in
+    c .skip-tables .ensures ∙ sym (response-go _ _ (go .1) ∙ list-go _ _ 2 mostItems 40 first table count)
+
+pub skip-response-spec : {M : Type 1} → statement M
+skip-response-spec =
+    tie.close
+    (tie.spec
+    skip-head-requires
+    enum-known-begun
+    enum-told
+    next-refusal-requires
+    returns
+    read-count-requires
+    enum-known-count
+    enum-told-2
+    number-refusal-requires
+    returns-2
+    skip-tables-requires
+    returns-3)

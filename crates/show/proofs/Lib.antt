@@ -1,0 +1,7 @@
+pub mod Twos
+pub mod Decimals
+pub mod Floats
+pub mod Range
+pub mod Bodies
+pub mod Values
+pub mod Kept

@@ -1,0 +1,88 @@
+-- How a value of a wire type is shown, type by type.
+use Prim.Native.Nat.{ℕ, _+_, _*_, _/_, _%_, _^_, _<_, _≤_}
+use mathlib.Core.Path.{_≡_, refl, sym, _∙_, ap}
+use mathlib.Core.Bool.{Bool, true, false, _||_}
+use mathlib.Core.List.{List}
+use mathlib.Core.Option.{Option}
+use mathlib.Core.Logic.{_⊎_, ⊎-elim}
+use lib.Dec.{eqb}
+use lib.Arith.{digits-div, digits-mod}
+use lib.Ieee.{binary64, ofBits, nanBits}
+use native.Mathlib.Omega.{arith}
+use borrow.Author.Tests.{leb-true}
+use Rattle.format.specs.declared.Fault.the-variants.{Decimal, Point}
+use Rattle.format.specs.Result.{Res, ok, no, bind, pick}
+use Rattle.format.specs.Format.{Format, number, ruled, into}
+use Rattle.format.specs.Value.{Value, fixed, body, number-of, body-of, value, string, isCounted, widthOf, fixedFine, decimalFine, pointFine, within}
+use Rattle.format.proofs.Results.{and-true-both}
+use Rattle.scan.proofs.Steps.{ruled-any}
+use Rattle.show.specs.declared.Cell.{Cell}
+use Rattle.show.specs.declared.Shown.{Shown}
+use Rattle.show.specs.Signed.{signed}
+use Rattle.show.specs.Cells.{plainCell, decimalCell, pointCell, fixedCell, bodyCell, cellOf, ruleOf, shownAs}
+use Rattle.show.proofs.Floats.{no-nan}
+
+-- a reading put into a value is shown as the value is
+module _ {A B : Type 0} (to : A → B) (from : B → A) (f : Format A) (s : List ℕ) (at : ℕ) (show : B → Cell) where
+  into-shown : shownAs show (into to from f .read s at) ≡ shownAs (λ a. show (to a)) (f .read s at)
+  unfolding into
+  into-shown = same (f .read s at)
+    where
+      same : (r : Res (A × ℕ)) → shownAs show (bind r (λ p. ok (to (p .0), p .1))) ≡ shownAs (λ a. show (to a)) r
+      same (ok p) = refl
+      same (no g p) = refl
+
+-- the types with no rule, and their widths; of a type that is none, 0 bytes
+abbrev pub Plain : ℕ → ℕ → Type 0
+Plain t k = (widthOf t ≡ k) × (isCounted t ≡ false) × (eqb t 22 ≡ false) × (eqb t 26 ≡ false)
+
+pub plain-key : {t key : ℕ} (k : ℕ) → t ≡ key → Plain key k → Plain t k
+plain-key k e p = rw e p
+
+module _ (s : List ℕ) (at : ℕ) where
+  abbrev Shows : ℕ → Shown → Type 0
+  Shows t x = x ≡ shownAs (cellOf t at) (value 0 0 t .read s at)
+
+  pub decimal-shows : (t : ℕ) → t ≡ 22 → Shows t (shownAs decimalCell (ruled decimalFine Decimal (number 16 0) .read s at))
+  unfolding value
+  decimal-shows t e = rw e (sym (into-shown fixed number-of (ruled decimalFine Decimal (number 16 0)) s at (cellOf 22 at)))
+
+  pub point-shows : (t : ℕ) → t ≡ 26 → Shows t (shownAs pointCell (ruled pointFine Point (number 16 0) .read s at))
+  unfolding value
+  point-shows t e = rw e (sym (into-shown fixed number-of (ruled pointFine Point (number 16 0)) s at (cellOf 26 at)))
+
+  pub counted-shows : (t : ℕ) → (t ≡ 9) ⊎ ((t ≡ 25) ⊎ (t ≡ 27)) → Shows t (shownAs (bodyCell t at) (string true (ruleOf t) 0 0 .read s at))
+  unfolding value
+  counted-shows t is =
+      ⊎-elim (λ e. rw e (go 9)) (λ w. ⊎-elim (λ e. rw e (go 25)) (λ e. rw e (go 27)) w) is
+    where
+      go : (t : ℕ) → shownAs (bodyCell t at) (string true (ruleOf t) 0 0 .read s at) ≡ shownAs (cellOf t at) (into body body-of (string true (ruleOf t) 0 0) .read s at)
+      go t = sym (into-shown body body-of (string true (ruleOf t) 0 0) s at (cellOf t at))
+
+  pub plain-shows : (t k : ℕ) → Plain t k → Shows t (shownAs (plainCell t) (number k 0 .read s at))
+  unfolding value
+  plain-shows t k p =
+      let fault = pick (eqb t 22) Decimal Point in
+      let free = ruled-any (fixedFine t) fault (number k 0) s at (λ n. simp (p .2, p .3)) in
+      let cells : (n : ℕ) → fixedCell t n ≡ plainCell t n = λ n. simp (p .2, p .3) in
+      sym (rw (p .1, p .0) (into-shown fixed number-of (ruled (fixedFine t) fault (number k 0)) s at (cellOf t at) ∙ ap (shownAs (fixedCell t)) free ∙ same-shown cells (number k 0 .read s at)))
+    where
+      same-shown : {f g : ℕ → Cell} → ((n : ℕ) → f n ≡ g n) → (r : Res (ℕ × ℕ)) → shownAs f r ≡ shownAs g r
+      same-shown all (ok p) = ap (λ (c : Cell). Shown.Is c (p .1)) (all (p .0))
+      same-shown all (no f p) = refl
+
+-- a number of 16 bytes by its halves
+module _ (hi lo : ℕ) (small : lo < 2 ^ 64) where
+  pub decimal-halves : decimalCell (hi * 2 ^ 64 + lo) ≡ Cell.Decimal (signed 8 hi) lo
+  decimal-halves = rw (digits-div hi small, digits-mod hi small)
+
+  pub point-halves : pointCell (hi * 2 ^ 64 + lo) ≡ Cell.Point (ofBits binary64 hi) (ofBits binary64 lo)
+  point-halves = rw (digits-div hi small, digits-mod hi small)
+
+-- the halves of a point are numbers
+pub point-numbers : (x y : ℕ) → y < 2 ^ 64 → pointFine (x * 2 ^ 64 + y) ≡ true → (nanBits binary64 x ≡ false) × (nanBits binary64 y ≡ false)
+point-numbers x y small e =
+    let w = and-true-both (within 0x4066800000000000 x) (within 0x4056800000000000 y) (rw (digits-div x small, digits-mod x small) at e) in
+    let a : x % 2 ^ 63 ≤ 0x4066800000000000 = leb-true _ _ (w .0) in
+    let b : y % 2 ^ 63 ≤ 0x4056800000000000 = leb-true _ _ (w .1) in
+    (no-nan x (omega arith), no-nan y (omega arith))

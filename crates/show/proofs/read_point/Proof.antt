@@ -1,0 +1,78 @@
+-- `show::read_point` meets its contract: the halves, then the rule.
+use mathlib.Core.Path.{_≡_, refl, sym, ap, ap₂, _∙_}
+use mathlib.Core.Bool.{true, false}
+use Prim.Native.Nat.{_+_, _*_, _^_, _<_}
+use lib.Arith.{digits-div, digits-mod}
+use borrow.Author.Tests.{not-true, not-false}
+use Rattle.format.specs.declared.Fault.the-variants.{Point}
+use Rattle.format.specs.Format.{number}
+use Rattle.format.specs.Value.{pointFine}
+use Rattle.scan.proofs.Steps.{ruled-go, ruled-bad, ruled-stop}
+use Rattle.scan.proofs.Sixteen.{halves-go, halves-stop}
+use Rattle.show.specs.Cells.{pointCell, shownAs}
+use Rattle.show.proofs.Floats.{numeral}
+use Rattle.show.proofs.Values.{point-numbers, point-halves}
+use Rattle.show.specs.declared.Cell.{Cell}
+use Rattle.show.specs.declared.Shown.{Shown}
+use native.Mathlib.Omega.{arith}
+use borrow.Author.Needs.{needs}
+use Rattle.show.proofs.read_point.Statement.{statement}
+use Rattle.show.proofs.read_point.Tie as tie
+
+read-halves-requires : tie.Need-read-halves-requires
+read-halves-requires c κs = search needs
+
+enum-known-halves : tie.Need-enum-known-halves
+enum-known-halves c = search needs
+
+enum-told : tie.Need-enum-told
+enum-told c = search needs
+
+halves-refusal-requires : tie.Need-halves-refusal-requires
+halves-refusal-requires c κs = search needs
+
+returns : tie.Need-returns
+returns c =
+    let stop = halves-stop _ (c .before .before .before .read-halves .ensures) (c .before .enum-told .given .1) (c .halves-refusal .ensures) in
+    sym (ap (shownAs pointCell) (ruled-stop pointFine Point (number 16 0) _ _ stop))
+
+point-fine-requires : tie.Need-point-fine-requires
+point-fine-requires c κs = search needs
+
+returns-2 : tie.Need-returns-2
+returns-2 c =
+    let go = halves-go _ (c .before .before .before .before .before .read-halves .ensures) (c .before .before .before .halves .given .1) in
+    sym (ap (shownAs pointCell) (ruled-bad pointFine Point (number 16 0) _ _ go (sym (c .before .point-fine .ensures) ∙ not-true _ (c .if1 .taken))))
+
+float-from-bits-t12 : tie.Need-float-from-bits-t12
+float-from-bits-t12 c =
+    let w = c .before .before .before .halves .given .0 in
+    numeral (w .0) (point-numbers (w .0) (w .1 .0) (omega arith) (sym (c .before .point-fine .ensures) ∙ not-false _ (c .if1 .left)) .0)
+
+float-from-bits-t13 : tie.Need-float-from-bits-t13
+float-from-bits-t13 c =
+    let w = c .before .before .before .halves .given .0 in
+    numeral (w .1 .0) (point-numbers (w .0) (w .1 .0) (omega arith) (sym (c .before .point-fine .ensures) ∙ not-false _ (c .if1 .left)) .1)
+
+returns-3 : tie.Need-returns-3
+returns-3 c =
+    let w = c .before .before .before .halves .given in
+    let low : w .0 .1 .0 < 2 ^ 64 = omega arith in
+    let go = halves-go _ (c .before .before .before .before .before .read-halves .ensures) (w .1) in
+    sym (ap (λ (x : Cell). Shown.Is x (w .0 .1 .1 .0)) (point-halves (w .0 .0) (w .0 .1 .0) low))
+    ∙ sym (ap (shownAs pointCell) (ruled-go pointFine Point (number 16 0) _ _ go (sym (c .before .point-fine .ensures) ∙ not-false _ (c .if1 .left))))
+
+pub read-point-spec : {M : Type 1} → statement M
+read-point-spec =
+    tie.close
+    (tie.spec
+    read-halves-requires
+    enum-known-halves
+    enum-told
+    halves-refusal-requires
+    returns
+    point-fine-requires
+    returns-2
+    float-from-bits-t12
+    float-from-bits-t13
+    returns-3)

@@ -1,0 +1,237 @@
+// Values of the wire types, shown: signed numbers, floats, decimals by their halves, text and bytes by their place.
+use format::Fault;
+use format::Refusal;
+use scan::Body;
+use scan::Halves;
+use scan::Number;
+ghost use mathlib.Core.Path.{_≡_};
+ghost use mathlib.Core.Bool.{true};
+ghost use Prim.Native.Nat.{_+_, _*_, _^_, min};
+ghost use Rattle.format.specs.declared.Fault.the-variants.{Decimal, Point};
+ghost use Rattle.format.specs.Format.{number, ruled};
+ghost use Rattle.format.specs.Value.{value, string, decimalFine, pointFine};
+ghost use Rattle.scan.specs.Shown.{shownBody};
+ghost use Rattle.show.specs.Signed.{signed, unsigned};
+ghost use Rattle.show.specs.Cells.{floatCell, plainCell, decimalCell, pointCell, partCell, nullCell, ruleOf, bodyCell, cellOf, shownAs};
+
+// A value of a wire type. Text, varbinary and geography are where their bytes start and how many they are, or null.
+pub enum Cell {
+    Tinyint(i8),
+    Smallint(i16),
+    Integer(i32),
+    Bigint(i64),
+    Timestamp(i64),
+    Float(f64),
+    // the bits of a NaN
+    FloatBits(u64),
+    // the upper and the lower 64 bits
+    Decimal(i64, u64),
+    // longitude and latitude
+    Point(f64, f64),
+    Text(usize, usize),
+    NullText,
+    Binary(usize, usize),
+    NullBinary,
+    Geography(usize, usize),
+    NullGeography,
+}
+
+// A value, and where the next one stands.
+pub enum Shown {
+    Is(Cell, usize),
+    No(Refusal),
+}
+
+// The signed number that the last byte of a number is.
+pub fn signed8(n: u64) -> i8
+    ensures { λ r. ⌜ r ≡ signed 1 n ⌝ }
+{
+    let m = n % 0x100;
+    if m < 0x80 {
+        m as i8
+    } else {
+        -1 - ((0xff - m) as i8)
+    }
+}
+
+// The signed number that the last 2 bytes of a number are.
+pub fn signed16(n: u64) -> i16
+    ensures { λ r. ⌜ r ≡ signed 2 n ⌝ }
+{
+    let m = n % 0x1_0000;
+    if m < 0x8000 {
+        m as i16
+    } else {
+        -1 - ((0xffff - m) as i16)
+    }
+}
+
+// The signed number that the last 4 bytes of a number are.
+pub fn signed32(n: u64) -> i32
+    ensures { λ r. ⌜ r ≡ signed 4 n ⌝ }
+{
+    let m = n % 0x1_0000_0000;
+    if m < 0x8000_0000 {
+        m as i32
+    } else {
+        -1 - ((0xffff_ffff - m) as i32)
+    }
+}
+
+// The signed number that the 8 bytes of a number are.
+pub fn signed64(n: u64) -> i64
+    ensures { λ r. ⌜ r ≡ signed 8 n ⌝ }
+{
+    if n < 0x8000_0000_0000_0000 {
+        n as i64
+    } else {
+        -1 - ((0xffff_ffff_ffff_ffff - n) as i64)
+    }
+}
+
+// A float by its bits.
+fn float_cell(bits: u64) -> Cell
+    ensures { λ r. ⌜ r ≡ floatCell bits ⌝ }
+{
+    if bits % 0x8000_0000_0000_0000 <= 0x7ff0_0000_0000_0000 {
+        Cell::Float(f64::from_bits(bits))
+    } else {
+        Cell::FloatBits(bits)
+    }
+}
+
+// Whether a decimal lies from -(10^38 - 1) to 10^38 - 1, or is null.
+pub fn decimal_fine(upper: i64, lower: u64) -> bool
+    ensures { λ r. ⌜ r ≡ decimalFine (unsigned 8 upper * 2 ^ 64 + lower) ⌝ }
+{
+    if upper == -9223372036854775808 {
+        return lower == 0;
+    }
+    if upper == 5421010862427522170 {
+        return lower < 687399551400673280;
+    }
+    if upper == -5421010862427522171 {
+        return 17759344522308878336 < lower;
+    }
+    -5421010862427522171 < upper && upper < 5421010862427522170
+}
+
+// A value of at most 8 bytes, by its type and its number.
+fn plain_cell(t: u8, n: u64) -> Cell
+    ensures { λ r. ⌜ r ≡ plainCell t n ⌝ }
+{
+    match t {
+        3 => Cell::Tinyint(signed8(n)),
+        4 => Cell::Smallint(signed16(n)),
+        5 => Cell::Integer(signed32(n)),
+        8 => float_cell(n),
+        11 => Cell::Timestamp(signed64(n)),
+        _ => Cell::Bigint(signed64(n)),
+    }
+}
+
+// A value of so many bytes; of 8, if they are more.
+fn read_plain(s: &[u8], at: usize, t: u8, width: usize) -> Shown
+    ensures { λ r. ⌜ r ≡ shownAs (plainCell t) (number (min width 8) 0 .read (now (s .entry)) at) ⌝ }
+{
+    let number = scan::read_number(s, at, width);
+    let Number::Is(n, next) = number else {
+        return Shown::No(scan::number_refusal(number));
+    };
+    Shown::Is(plain_cell(t, n), next)
+}
+
+fn read_decimal(s: &[u8], at: usize) -> Shown
+    ensures { λ r. ⌜ r ≡ shownAs decimalCell (ruled decimalFine Decimal (number 16 0) .read (now (s .entry)) at) ⌝ }
+{
+    let halves = scan::read_halves(s, at);
+    let Halves::Is(high, lower, next) = halves else {
+        return Shown::No(scan::halves_refusal(halves));
+    };
+    let upper = signed64(high);
+    if !decimal_fine(upper, lower) {
+        return Shown::No(Refusal {
+            fault: Fault::Decimal,
+            place: at,
+        });
+    }
+    Shown::Is(Cell::Decimal(upper, lower), next)
+}
+
+fn read_point(s: &[u8], at: usize) -> Shown
+    ensures { λ r. ⌜ r ≡ shownAs pointCell (ruled pointFine Point (number 16 0) .read (now (s .entry)) at) ⌝ }
+{
+    let halves = scan::read_halves(s, at);
+    let Halves::Is(longitude, latitude, next) = halves else {
+        return Shown::No(scan::halves_refusal(halves));
+    };
+    if !scan::point_fine(longitude, latitude) {
+        return Shown::No(Refusal {
+            fault: Fault::Point,
+            place: at,
+        });
+    }
+    Shown::Is(
+        Cell::Point(f64::from_bits(longitude), f64::from_bits(latitude)),
+        next,
+    )
+}
+
+const MOST_BYTES: u64 = 1_048_576;
+
+// The body of a counted value.
+fn read_part(s: &[u8], at: usize, t: u8) -> Body
+    ensures { λ r. ⌜ r ≡ shownBody at (string true (ruleOf t) 0 0 .read (now (s .entry)) at) ⌝ }
+{
+    if t == 27 {
+        return scan::read_geography(s, at);
+    }
+    scan::read_body(s, at, true, MOST_BYTES)
+}
+
+fn part_cell(t: u8, start: usize, size: usize) -> Cell
+    ensures { λ r. ⌜ r ≡ partCell t start size ⌝ }
+{
+    match t {
+        9 => Cell::Text(start, size),
+        25 => Cell::Binary(start, size),
+        _ => Cell::Geography(start, size),
+    }
+}
+
+fn null_cell(t: u8) -> Cell
+    ensures { λ r. ⌜ r ≡ nullCell t ⌝ }
+{
+    match t {
+        9 => Cell::NullText,
+        25 => Cell::NullBinary,
+        _ => Cell::NullGeography,
+    }
+}
+
+fn read_counted(s: &[u8], at: usize, t: u8) -> Shown
+    ensures { λ r. ⌜ r ≡ shownAs (bodyCell t at) (string true (ruleOf t) 0 0 .read (now (s .entry)) at) ⌝ }
+{
+    let part = read_part(s, at, t);
+    match part {
+        Body::Is(start, end) => Shown::Is(part_cell(t, start, end - start), end),
+        Body::Null(next) => Shown::Is(null_cell(t), next),
+        Body::No(r) => Shown::No(r),
+    }
+}
+
+// The value of a wire type that stands at a place; of a type that has no values, no bytes.
+pub fn read_value(s: &[u8], at: usize, t: u8) -> Shown
+    ensures { λ r. ⌜ r ≡ shownAs (cellOf t at) (value 0 0 t .read (now (s .entry)) at) ⌝ }
+{
+    match t {
+        3 => read_plain(s, at, t, 1),
+        4 => read_plain(s, at, t, 2),
+        5 => read_plain(s, at, t, 4),
+        6 | 8 | 11 => read_plain(s, at, t, 8),
+        9 | 25 | 27 => read_counted(s, at, t),
+        22 => read_decimal(s, at),
+        26 => read_point(s, at),
+        _ => read_plain(s, at, t, 0),
+    }
+}
