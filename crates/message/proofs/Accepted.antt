@@ -6,9 +6,7 @@ use lib.ListN.{getD}
 use native.Mathlib.Omega.{arith}
 use Rattle.format.specs.declared.Refusal.{Refusal}
 use Rattle.format.specs.Result.{Res, ok, no}
-use Rattle.format.specs.Number.{Bytes}
 use Rattle.format.specs.Message.{Message, GoodMessage, readMessage, messageBytes}
-use Rattle.format.proofs.Results.{ok-same}
 use Rattle.format.proofs.Demands.{accepted→encodes, encodes→accepted, encodes-once}
 use Rattle.scan.specs.Shown.{refusal}
 use Rattle.message.specs.declared.Verdict.{Verdict}

@@ -1,12 +1,11 @@
 -- A response: what stands before its tables, and then the tables.
-use Prim.Native.Nat.{ℕ, _+_, _%_}
+use Prim.Native.Nat.{ℕ}
 use mathlib.Core.Path.{_≡_, refl, sym, _∙_, ap}
 use mathlib.Core.Bool.{Bool, true, false}
 use mathlib.Core.List.{List}
-use mathlib.Core.Option.{Option, none}
-use lib.Dec.{eqb}
+use mathlib.Core.Option.{none}
 use Rattle.format.specs.declared.Fault.{Fault}
-use Rattle.format.specs.Result.{Res, ok, no, bind, pick}
+use Rattle.format.specs.Result.{Res, ok, no, bind}
 use Rattle.format.specs.Format.{Format, number, block, ruled, nothing, present, into, both, counted}
 use Rattle.format.specs.Value.{string, anything}
 use Rattle.format.specs.Message.{Table, Response, response, list, first, table, mostItems, flagged, text, nullText}

@@ -1,28 +1,28 @@
 -- A table's metadata and contents, field by field; and where its columns' types stand.
-use Prim.Native.Nat.{ℕ, zero, suc, _+_, _-_, _≤_, _<_}
+use Prim.Native.Nat.{ℕ, zero, suc, _+_, _-_, _≤_}
 use mathlib.Core.Path.{_≡_, refl, sym, _∙_, ap, ap₂}
-use mathlib.Core.Bool.{Bool, false}
+use mathlib.Core.Bool.{false}
 use mathlib.Core.List.{List, [], _∷_, _++_}
 use mathlib.Core.Option.{Option}
 use lib.ListN.{length, take, drop, getD, replicate, take-append-drop, length-drop}
-use lib.Seq.{drop-cons, length-take-le, drop-append-le, take-append-le, take-take}
+use lib.Seq.{drop-cons, length-take-le, drop-append-le, take-append-le}
 use lib.Dec.{leb, ltb, eqb}
 use native.Mathlib.Omega.{arith}
 use native.Mathlib.Numerals.{add-one}
 use native.Mathlib.Nat.{add-assoc}
-use borrow.Author.Tests.{ltb-false, eqb-true}
+use borrow.Author.Tests.{ltb-false}
 use Rattle.format.specs.declared.Fault.{Fault}
 use Rattle.format.specs.declared.Refusal.{Refusal}
-use Rattle.format.specs.Result.{Res, ok, no, bind, pick}
+use Rattle.format.specs.Result.{Res, ok, no, bind}
 use Rattle.format.specs.Number.{half}
 use Rattle.format.specs.Format.{Format, number, nothing, ruled, room, into, both, each}
 use Rattle.format.specs.Value.{Value, string, ascii, isColumn}
-use Rattle.format.specs.Message.{Metadata, Table, metadata, table, row, columnType, count, list, second, third, mostColumns, unlimited}
+use Rattle.format.specs.Message.{Metadata, metadata, table, row, columnType, count, list, second, third, mostColumns, unlimited}
 use Rattle.format.proofs.Results.{ok-same, passed, spared, bound}
 use Rattle.scan.specs.declared.Next.{Next}
 use Rattle.scan.specs.Shown.{shownNext, refusal}
 use Rattle.scan.proofs.Answers.{took}
-use Rattle.scan.proofs.Params.{byte-is, number-fields}
+use Rattle.scan.proofs.Params.{byte-is}
 use Rattle.scan.proofs.Steps.{into-ends, both-ends, both-stop}
 use Rattle.message.specs.declared.Columns.{Columns}
 use Rattle.message.specs.Columns.{shownColumns, columnsNo}

@@ -5,16 +5,14 @@ use mathlib.Core.Bool.{Bool, true, false, _||_}
 use mathlib.Core.List.{List}
 use lib.ListN.{length}
 use lib.Dec.{leb, ltb, eqb}
-use native.Mathlib.Omega.{arith}
 use borrow.Author.Tests.{eq-eqb, ne-eqb, lt-ltb, le-ltb, le-leb, lt-leb}
 use Rattle.format.specs.declared.Fault.{Fault}
 use Rattle.format.specs.declared.Fault.the-variants.{Short, Negative, Limit, Extra, WireType}
 use Rattle.format.specs.Result.{Res, ok, no, bind, pick}
 use Rattle.format.specs.Number.{half}
-use Rattle.format.specs.Format.{number, into, both}
+use Rattle.format.specs.Format.{number, both}
 use Rattle.format.specs.Message.{
   Message,
-  Content,
   message,
   contentOf,
   edition,

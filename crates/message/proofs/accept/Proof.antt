@@ -1,5 +1,5 @@
 -- `message::accept` meets its contract: the kind, the length, the message, and that nothing is left over. Assumes nothing.
-use mathlib.Core.Path.{_≡_, sym, ap, _∙_}
+use mathlib.Core.Path.{sym, ap, _∙_}
 use borrow.Author.Tests.{not-true, not-false}
 use Rattle.scan.proofs.Answers.{next-go, next-stop}
 use Rattle.message.specs.Verdict.{verdictOf}
@@ -7,12 +7,6 @@ use Rattle.message.proofs.Whole.{unknown, bad-length, bad-message, left
 use borrow.Author.Needs.{needs}
 use Rattle.message.proofs.accept.Statement.{statement}
 use Rattle.message.proofs.accept.Tie as tie
-use Rattle.message.proofs.accept.Reads as reads
-use Rattle.message.proofs.accept.Lts as lts
-use Rattle.message.proofs.is_kind.Reads as is-kind-reads
-use Rattle.message.proofs.skip_length.Reads as skip-length-reads
-use Rattle.message.proofs.skip_message.Reads as skip-message-reads
-use Rattle.scan.proofs.next_refusal.Reads as next-refusal-reads
 
 is-kind-requires : tie.Need-is-kind-requires
 is-kind-requires c κs = search needs

@@ -4,8 +4,6 @@ use Rattle.message.specs.Columns.{columnsNo}
 use borrow.Author.Needs.{needs}
 use Rattle.message.proofs.columns_refusal.Statement.{statement}
 use Rattle.message.proofs.columns_refusal.Tie as tie
-use Rattle.message.proofs.columns_refusal.Reads as reads
-use Rattle.message.proofs.columns_refusal.Lts as lts
 
 enum-told : tie.Need-enum-told
 enum-told c = search needs

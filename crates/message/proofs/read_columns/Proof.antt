@@ -1,5 +1,5 @@
 -- `message::read_columns` meets its contract: a room, and the columns in it. Assumes nothing.
-use mathlib.Core.Path.{_≡_, sym, ap, _∙_}
+use mathlib.Core.Path.{sym, ap, _∙_}
 use mathlib.Core.Bool.{false}
 use lib.Seq.{length-take-le}
 use Rattle.format.specs.Message.{unlimited}
@@ -10,12 +10,6 @@ use Rattle.message.proofs.Rooms.{columns-go, columns-stop, same-columns
 use borrow.Author.Needs.{needs}
 use Rattle.message.proofs.read_columns.Statement.{statement}
 use Rattle.message.proofs.read_columns.Tie as tie
-use Rattle.message.proofs.read_columns.Reads as reads
-use Rattle.message.proofs.read_columns.Lts as lts
-use Rattle.message.proofs.columns_refusal.Reads as columns-refusal-reads
-use Rattle.message.proofs.read_described.Reads as read-described-reads
-use Rattle.scan.proofs.body_refusal.Reads as body-refusal-reads
-use Rattle.scan.proofs.read_body.Reads as read-body-reads
 
 read-body-requires : tie.Need-read-body-requires
 read-body-requires c κs = search needs

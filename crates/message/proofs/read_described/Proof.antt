@@ -1,19 +1,11 @@
 -- `message::read_described` meets its contract: field after field, and the types stand side by side. Assumes nothing.
-use mathlib.Core.Path.{_≡_, sym, ap}
+use mathlib.Core.Path.{sym, ap}
 use Rattle.scan.proofs.Answers.{number-go, number-stop, next-go, next-stop}
 use Rattle.message.specs.Columns.{shownColumns}
 use Rattle.message.proofs.Rooms.{no-status, no-count, no-types, no-names, described-answer}
 use borrow.Author.Needs.{needs}
 use Rattle.message.proofs.read_described.Statement.{statement}
 use Rattle.message.proofs.read_described.Tie as tie
-use Rattle.message.proofs.read_described.Reads as reads
-use Rattle.message.proofs.read_described.Lts as lts
-use Rattle.message.proofs.skip_types.Reads as skip-types-reads
-use Rattle.scan.proofs.next_refusal.Reads as next-refusal-reads
-use Rattle.scan.proofs.number_refusal.Reads as number-refusal-reads
-use Rattle.scan.proofs.read_count.Reads as read-count-reads
-use Rattle.scan.proofs.skip_fixed.Reads as skip-fixed-reads
-use Rattle.scan.proofs.skip_names.Reads as skip-names-reads
 
 skip-fixed-requires : tie.Need-skip-fixed-requires
 skip-fixed-requires c κs = search needs

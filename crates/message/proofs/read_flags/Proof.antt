@@ -1,7 +1,6 @@
 -- `message::read_flags` meets its contract: the byte, then its rule. Assumes nothing.
-use mathlib.Core.Path.{_≡_, sym, ap}
-use Prim.Native.Nat.{ℕ, _%_}
-use mathlib.Core.Bool.{Bool}
+use mathlib.Core.Path.{sym, ap}
+use Prim.Native.Nat.{_%_}
 use lib.Dec.{eqb}
 use borrow.Author.Tests.{eq-eqb, ne-eqb}
 use Rattle.format.specs.declared.Fault.the-variants.{Flags}
@@ -12,10 +11,6 @@ use Rattle.scan.proofs.Steps.{ruled-go, ruled-bad, ruled-stop}
 use borrow.Author.Needs.{needs}
 use Rattle.message.proofs.read_flags.Statement.{statement}
 use Rattle.message.proofs.read_flags.Tie as tie
-use Rattle.message.proofs.read_flags.Reads as reads
-use Rattle.message.proofs.read_flags.Lts as lts
-use Rattle.scan.proofs.byte_refusal.Reads as byte-refusal-reads
-use Rattle.scan.proofs.read_byte.Reads as read-byte-reads
 
 read-byte-requires : tie.Need-read-byte-requires
 read-byte-requires c κs = search needs

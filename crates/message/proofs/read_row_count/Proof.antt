@@ -1,5 +1,5 @@
 -- `message::read_row_count` meets its contract: a count of 4 bytes that is not negative is within every limit. Assumes nothing.
-use mathlib.Core.Path.{_≡_, sym, ap, _∙_}
+use mathlib.Core.Path.{sym, ap}
 use native.Mathlib.Omega.{arith}
 use Rattle.scan.specs.Shown.{shownNumber}
 use Rattle.scan.proofs.Answers.{number-go, number-stop}
@@ -7,10 +7,6 @@ use Rattle.scan.proofs.Params.{count-stop, count-negative, count-go}
 use borrow.Author.Needs.{needs}
 use Rattle.message.proofs.read_row_count.Statement.{statement}
 use Rattle.message.proofs.read_row_count.Tie as tie
-use Rattle.message.proofs.read_row_count.Reads as reads
-use Rattle.message.proofs.read_row_count.Lts as lts
-use Rattle.scan.proofs.number_refusal.Reads as number-refusal-reads
-use Rattle.scan.proofs.read_number.Reads as read-number-reads
 
 read-number-requires : tie.Need-read-number-requires
 read-number-requires c κs = search needs

@@ -1,15 +1,9 @@
 -- `message::skip_content` meets its contract: the content by its kind. Assumes nothing.
-use mathlib.Core.Path.{_≡_, _∙_}
+use mathlib.Core.Path.{_∙_}
 use Rattle.message.proofs.Whole.{content-1, content-2, content-3, content-4}
 use borrow.Author.Needs.{needs}
 use Rattle.message.proofs.skip_content.Statement.{statement}
 use Rattle.message.proofs.skip_content.Tie as tie
-use Rattle.message.proofs.skip_content.Reads as reads
-use Rattle.message.proofs.skip_content.Lts as lts
-use Rattle.message.proofs.skip_invocation.Reads as skip-invocation-reads
-use Rattle.message.proofs.skip_login_request.Reads as skip-login-request-reads
-use Rattle.message.proofs.skip_login_response.Reads as skip-login-response-reads
-use Rattle.message.proofs.skip_response.Reads as skip-response-reads
 
 skip-login-request-requires : tie.Need-skip-login-request-requires
 skip-login-request-requires c κs = search needs

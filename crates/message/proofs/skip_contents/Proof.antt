@@ -1,5 +1,5 @@
 -- `message::skip_contents` meets its contract: the metadata, the count, and the rows from the part that is theirs. Assumes nothing.
-use mathlib.Core.Path.{_≡_, sym, _∙_}
+use mathlib.Core.Path.{sym, _∙_}
 use native.Mathlib.Nat.{le-trans}
 use lib.ListN.{take}
 use lib.Seq.{length-take-le}
@@ -11,13 +11,6 @@ use Rattle.message.proofs.Rooms.{columns-go, columns-stop, contents-go,
 use borrow.Author.Needs.{needs}
 use Rattle.message.proofs.skip_contents.Statement.{statement}
 use Rattle.message.proofs.skip_contents.Tie as tie
-use Rattle.message.proofs.skip_contents.Reads as reads
-use Rattle.message.proofs.skip_contents.Lts as lts
-use Rattle.message.proofs.columns_refusal.Reads as columns-refusal-reads
-use Rattle.message.proofs.read_columns.Reads as read-columns-reads
-use Rattle.message.proofs.read_row_count.Reads as read-row-count-reads
-use Rattle.message.proofs.skip_part.Reads as skip-part-reads
-use Rattle.scan.proofs.number_refusal.Reads as number-refusal-reads
 
 slice-aggregate-read-columns : tie.Need-slice-aggregate-read-columns
 slice-aggregate-read-columns c =

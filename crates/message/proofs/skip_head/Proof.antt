@@ -1,5 +1,5 @@
 -- `message::skip_head` meets its contract: field after field, the strings by their flags. Assumes nothing.
-use mathlib.Core.Path.{_≡_, sym, ap, _∙_}
+use mathlib.Core.Path.{sym, ap, _∙_}
 use mathlib.Core.Bool.{true, false}
 use Rattle.format.specs.Format.{block}
 use Rattle.scan.specs.Shown.{shownNext}
@@ -10,14 +10,6 @@ use Rattle.message.proofs.Heads.{head-1, head-2, head-3, head-ends, fla
 use borrow.Author.Needs.{needs}
 use Rattle.message.proofs.skip_head.Statement.{statement}
 use Rattle.message.proofs.skip_head.Tie as tie
-use Rattle.message.proofs.skip_head.Reads as reads
-use Rattle.message.proofs.skip_head.Lts as lts
-use Rattle.message.proofs.has_flag.Reads as has-flag-reads
-use Rattle.message.proofs.read_flags.Reads as read-flags-reads
-use Rattle.message.proofs.skip_noted.Reads as skip-noted-reads
-use Rattle.scan.proofs.byte_refusal.Reads as byte-refusal-reads
-use Rattle.scan.proofs.next_refusal.Reads as next-refusal-reads
-use Rattle.scan.proofs.skip_fixed.Reads as skip-fixed-reads
 
 skip-fixed-requires : tie.Need-skip-fixed-requires
 skip-fixed-requires c κs = search needs

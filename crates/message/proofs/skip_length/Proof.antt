@@ -1,5 +1,5 @@
 -- `message::skip_length` meets its contract: each return is a test of the definition. Assumes nothing.
-use mathlib.Core.Path.{_≡_, sym, ap, _∙_}
+use mathlib.Core.Path.{sym, ap, _∙_}
 use native.Mathlib.Omega.{arith}
 use Rattle.scan.specs.Shown.{shownNext}
 use Rattle.scan.proofs.Answers.{number-go, number-stop}
@@ -7,11 +7,6 @@ use Rattle.message.proofs.Whole.{no-length, zero-length, negative-lengt
 use borrow.Author.Needs.{needs}
 use Rattle.message.proofs.skip_length.Statement.{statement}
 use Rattle.message.proofs.skip_length.Tie as tie
-use Rattle.message.proofs.skip_length.Reads as reads
-use Rattle.message.proofs.skip_length.Lts as lts
-use Rattle.message.proofs.refused.Reads as refused-reads
-use Rattle.scan.proofs.number_refusal.Reads as number-refusal-reads
-use Rattle.scan.proofs.read_number.Reads as read-number-reads
 
 read-number-requires : tie.Need-read-number-requires
 read-number-requires c κs = search needs

@@ -1,6 +1,5 @@
 -- `message::skip_message` meets its contract: the version, its rule, and the content. Assumes nothing.
-use mathlib.Core.Path.{_≡_, sym, ap, _∙_}
-use Prim.Native.Nat.{ℕ}
+use mathlib.Core.Path.{sym, ap, _∙_}
 use lib.Dec.{leb}
 use borrow.Author.Tests.{le-leb, lt-leb}
 use Rattle.format.specs.declared.Fault.the-variants.{Version}
@@ -14,11 +13,6 @@ use Rattle.message.proofs.Whole.{message-ends}
 use borrow.Author.Needs.{needs}
 use Rattle.message.proofs.skip_message.Statement.{statement}
 use Rattle.message.proofs.skip_message.Tie as tie
-use Rattle.message.proofs.skip_message.Reads as reads
-use Rattle.message.proofs.skip_message.Lts as lts
-use Rattle.message.proofs.skip_content.Reads as skip-content-reads
-use Rattle.scan.proofs.byte_refusal.Reads as byte-refusal-reads
-use Rattle.scan.proofs.read_byte.Reads as read-byte-reads
 
 read-byte-requires : tie.Need-read-byte-requires
 read-byte-requires c κs = search needs

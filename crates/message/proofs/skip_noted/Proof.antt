@@ -1,5 +1,5 @@
 -- `message::skip_noted` meets its contract: the number, and the string if there is one. Assumes nothing.
-use mathlib.Core.Path.{_≡_, sym, _∙_}
+use mathlib.Core.Path.{sym, _∙_}
 use mathlib.Core.Option.{none}
 use borrow.Author.Tests.{not-true, not-false}
 use Rattle.format.specs.Format.{number, present}
@@ -9,11 +9,6 @@ use Rattle.message.proofs.Runs.{present-ends, absent-ends}
 use borrow.Author.Needs.{needs}
 use Rattle.message.proofs.skip_noted.Statement.{statement}
 use Rattle.message.proofs.skip_noted.Tie as tie
-use Rattle.message.proofs.skip_noted.Reads as reads
-use Rattle.message.proofs.skip_noted.Lts as lts
-use Rattle.scan.proofs.next_refusal.Reads as next-refusal-reads
-use Rattle.scan.proofs.skip_body.Reads as skip-body-reads
-use Rattle.scan.proofs.skip_fixed.Reads as skip-fixed-reads
 
 skip-fixed-requires : tie.Need-skip-fixed-requires
 skip-fixed-requires c κs = search needs

@@ -1,5 +1,5 @@
 -- `message::skip_response` meets its contract: its head, and then its tables. Assumes nothing.
-use mathlib.Core.Path.{_≡_, sym, ap, _∙_}
+use mathlib.Core.Path.{sym, ap, _∙_}
 use Rattle.format.specs.Message.{mostItems, first, table}
 use Rattle.scan.specs.Shown.{shownNext}
 use Rattle.scan.proofs.Answers.{number-go, number-stop, next-go, next-stop}
@@ -8,13 +8,6 @@ use Rattle.message.proofs.Heads.{response-go, response-stop}
 use borrow.Author.Needs.{needs}
 use Rattle.message.proofs.skip_response.Statement.{statement}
 use Rattle.message.proofs.skip_response.Tie as tie
-use Rattle.message.proofs.skip_response.Reads as reads
-use Rattle.message.proofs.skip_response.Lts as lts
-use Rattle.message.proofs.skip_head.Reads as skip-head-reads
-use Rattle.message.proofs.skip_tables.Reads as skip-tables-reads
-use Rattle.scan.proofs.next_refusal.Reads as next-refusal-reads
-use Rattle.scan.proofs.number_refusal.Reads as number-refusal-reads
-use Rattle.scan.proofs.read_count.Reads as read-count-reads
 
 skip-head-requires : tie.Need-skip-head-requires
 skip-head-requires c κs = search needs

@@ -1,5 +1,5 @@
 -- `message::skip_table` meets its contract: a room, and the metadata and rows in it. Assumes nothing.
-use mathlib.Core.Path.{_≡_, sym, ap, _∙_}
+use mathlib.Core.Path.{sym, ap, _∙_}
 use mathlib.Core.Bool.{false}
 use Rattle.format.specs.Message.{unlimited}
 use Rattle.scan.specs.declared.Next.{Next}
@@ -11,12 +11,6 @@ use Rattle.message.proofs.Rooms.{table-room}
 use borrow.Author.Needs.{needs}
 use Rattle.message.proofs.skip_table.Statement.{statement}
 use Rattle.message.proofs.skip_table.Tie as tie
-use Rattle.message.proofs.skip_table.Reads as reads
-use Rattle.message.proofs.skip_table.Lts as lts
-use Rattle.message.proofs.skip_contents.Reads as skip-contents-reads
-use Rattle.scan.proofs.body_refusal.Reads as body-refusal-reads
-use Rattle.scan.proofs.next_refusal.Reads as next-refusal-reads
-use Rattle.scan.proofs.read_body.Reads as read-body-reads
 
 read-body-requires : tie.Need-read-body-requires
 read-body-requires c κs = search needs

@@ -1,17 +1,11 @@
 -- `message::skip_tables` meets its contract: where the readings that are left end is where all end. Assumes nothing.
-use mathlib.Core.Path.{_≡_, refl, sym, ap, _∙_}
-use Prim.Native.Nat.{ℕ, _+_, _-_, _<_, _≤_}
-use lib.ListN.{length, getD}
-use native.Mathlib.Omega.{arith}
+use mathlib.Core.Path.{_≡_, refl, sym, _∙_}
+use Prim.Native.Nat.{_-_, _≤_}
 use borrow.Author.Needs.{needs}
 use Rattle.format.specs.Message.{first, table}
 use Rattle.scan.proofs.Loops.{Rest, loop-same, loop-done, loop-turn, loop-stop}
 use Rattle.message.proofs.skip_tables.Statement.{statement}
 use Rattle.message.proofs.skip_tables.Tie as tie
-use Rattle.message.proofs.skip_tables.Reads as reads
-use Rattle.message.proofs.skip_tables.Lts as lts
-use Rattle.message.proofs.skip_table.Reads as skip-table-reads
-use Rattle.scan.proofs.next_refusal.Reads as next-refusal-reads
 
 abbrev Inv-loop : tie.InvT-loop
 Inv-loop m from n at₀ i₀ at i = (i ≤ n) × (Rest first (λ j. table) m n i at ≡ Rest first (λ j. table) m n 0 from)

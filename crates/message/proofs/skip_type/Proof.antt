@@ -1,15 +1,11 @@
 -- `message::skip_type` meets its contract: the type that was read, and nothing of it. Assumes nothing.
-use mathlib.Core.Path.{_≡_, sym, ap, _∙_}
+use mathlib.Core.Path.{sym, ap, _∙_}
 use Rattle.scan.specs.Shown.{shownNext}
 use Rattle.scan.proofs.Answers.{byte-go, byte-stop}
 use Rattle.scan.proofs.Params.{type-fields}
 use borrow.Author.Needs.{needs}
 use Rattle.message.proofs.skip_type.Statement.{statement}
 use Rattle.message.proofs.skip_type.Tie as tie
-use Rattle.message.proofs.skip_type.Reads as reads
-use Rattle.message.proofs.skip_type.Lts as lts
-use Rattle.scan.proofs.byte_refusal.Reads as byte-refusal-reads
-use Rattle.scan.proofs.read_type.Reads as read-type-reads
 
 read-type-requires : tie.Need-read-type-requires
 read-type-requires c κs = search needs

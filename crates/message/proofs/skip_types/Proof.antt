@@ -1,17 +1,11 @@
 -- `message::skip_types` meets its contract: where the readings that are left end is where all end. Assumes nothing.
-use mathlib.Core.Path.{_≡_, refl, sym, ap, _∙_}
-use Prim.Native.Nat.{ℕ, _+_, _-_, _<_, _≤_}
-use lib.ListN.{length, getD}
-use native.Mathlib.Omega.{arith}
+use mathlib.Core.Path.{_≡_, refl, sym, _∙_}
+use Prim.Native.Nat.{_-_, _≤_}
 use borrow.Author.Needs.{needs}
 use Rattle.format.specs.Message.{third, columnType}
 use Rattle.scan.proofs.Loops.{Rest, loop-same, loop-done, loop-turn, loop-stop}
 use Rattle.message.proofs.skip_types.Statement.{statement}
 use Rattle.message.proofs.skip_types.Tie as tie
-use Rattle.message.proofs.skip_types.Reads as reads
-use Rattle.message.proofs.skip_types.Lts as lts
-use Rattle.message.proofs.skip_type.Reads as skip-type-reads
-use Rattle.scan.proofs.next_refusal.Reads as next-refusal-reads
 
 abbrev Inv-loop : tie.InvT-loop
 Inv-loop s from n at₀ i₀ at i = (i ≤ n) × (Rest third (λ j. columnType 45) s n i at ≡ Rest third (λ j. columnType 45) s n 0 from)
