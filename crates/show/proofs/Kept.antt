@@ -19,9 +19,9 @@ use Rattle.format.proofs.Formats.{lawful-value}
 use Rattle.scan.specs.Shown.{refusal}
 use Rattle.show.specs.declared.Cell.{Cell}
 use Rattle.show.specs.declared.Shown.{Shown}
-use Rattle.show.specs.Signed.{signed, unsigned}
+use Rattle.scan.specs.Signed.{signed, unsigned}
 use Rattle.show.specs.Cells.{plainCell, floatCell, cellOf, typeOf, valueOf, shownAs, toldShown}
-use Rattle.show.proofs.Twos.{signed-back}
+use Rattle.scan.proofs.Twos.{signed-back}
 use Rattle.show.proofs.Floats.{kept}
 use Rattle.show.proofs.Bodies.{stood}
 use Rattle.show.proofs.Values.{point-numbers}

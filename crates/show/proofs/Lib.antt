@@ -1,5 +1,3 @@
-pub mod Twos
-pub mod Decimals
 pub mod Floats
 pub mod Range
 pub mod Bodies

@@ -18,7 +18,7 @@ use Rattle.format.proofs.Results.{and-true-both}
 use Rattle.scan.proofs.Steps.{ruled-any}
 use Rattle.show.specs.declared.Cell.{Cell}
 use Rattle.show.specs.declared.Shown.{Shown}
-use Rattle.show.specs.Signed.{signed}
+use Rattle.scan.specs.Signed.{signed}
 use Rattle.show.specs.Cells.{plainCell, decimalCell, pointCell, fixedCell, bodyCell, cellOf, ruleOf, shownAs}
 use Rattle.show.proofs.Floats.{no-nan}
 

@@ -11,7 +11,7 @@ use Rattle.format.specs.Result.{Res, ok, no, pick}
 use Rattle.format.specs.Format.{Verdict}
 use Rattle.format.specs.Value.{Value, notEmpty, anything, fixed, body, tTinyint, tSmallint, tInteger, tBigint, tFloat, tString, tTimestamp, tDecimal, tVarbinary, tPoint, tGeography}
 use Rattle.scan.specs.Shown.{refusal}
-use Rattle.show.specs.Signed.{signed, unsigned}
+use Rattle.scan.specs.Signed.{signed, unsigned}
 use Rattle.show.specs.declared.Cell.{Cell}
 use Rattle.show.specs.declared.Shown.{Shown}
 

@@ -11,7 +11,6 @@ ghost use Rattle.format.specs.declared.Fault.the-variants.{Decimal, Point};
 ghost use Rattle.format.specs.Format.{number, ruled};
 ghost use Rattle.format.specs.Value.{value, string, decimalFine, pointFine};
 ghost use Rattle.scan.specs.Shown.{shownBody};
-ghost use Rattle.show.specs.Signed.{signed, unsigned};
 ghost use Rattle.show.specs.Cells.{floatCell, plainCell, decimalCell, pointCell, partCell, nullCell, ruleOf, bodyCell, cellOf, shownAs};
 
 // A value of a wire type. Text, varbinary and geography are where their bytes start and how many they are, or null.
@@ -42,53 +41,6 @@ pub enum Shown {
     No(Refusal),
 }
 
-// The signed number that the last byte of a number is.
-pub fn signed8(n: u64) -> i8
-    ensures { λ r. ⌜ r ≡ signed 1 n ⌝ }
-{
-    let m = n % 0x100;
-    if m < 0x80 {
-        m as i8
-    } else {
-        -1 - ((0xff - m) as i8)
-    }
-}
-
-// The signed number that the last 2 bytes of a number are.
-pub fn signed16(n: u64) -> i16
-    ensures { λ r. ⌜ r ≡ signed 2 n ⌝ }
-{
-    let m = n % 0x1_0000;
-    if m < 0x8000 {
-        m as i16
-    } else {
-        -1 - ((0xffff - m) as i16)
-    }
-}
-
-// The signed number that the last 4 bytes of a number are.
-pub fn signed32(n: u64) -> i32
-    ensures { λ r. ⌜ r ≡ signed 4 n ⌝ }
-{
-    let m = n % 0x1_0000_0000;
-    if m < 0x8000_0000 {
-        m as i32
-    } else {
-        -1 - ((0xffff_ffff - m) as i32)
-    }
-}
-
-// The signed number that the 8 bytes of a number are.
-pub fn signed64(n: u64) -> i64
-    ensures { λ r. ⌜ r ≡ signed 8 n ⌝ }
-{
-    if n < 0x8000_0000_0000_0000 {
-        n as i64
-    } else {
-        -1 - ((0xffff_ffff_ffff_ffff - n) as i64)
-    }
-}
-
 // A float by its bits.
 fn float_cell(bits: u64) -> Cell
     ensures { λ r. ⌜ r ≡ floatCell bits ⌝ }
@@ -100,33 +52,17 @@ fn float_cell(bits: u64) -> Cell
     }
 }
 
-// Whether a decimal lies from -(10^38 - 1) to 10^38 - 1, or is null.
-pub fn decimal_fine(upper: i64, lower: u64) -> bool
-    ensures { λ r. ⌜ r ≡ decimalFine (unsigned 8 upper * 2 ^ 64 + lower) ⌝ }
-{
-    if upper == -9223372036854775808 {
-        return lower == 0;
-    }
-    if upper == 5421010862427522170 {
-        return lower < 687399551400673280;
-    }
-    if upper == -5421010862427522171 {
-        return 17759344522308878336 < lower;
-    }
-    -5421010862427522171 < upper && upper < 5421010862427522170
-}
-
 // A value of at most 8 bytes, by its type and its number.
 fn plain_cell(t: u8, n: u64) -> Cell
     ensures { λ r. ⌜ r ≡ plainCell t n ⌝ }
 {
     match t {
-        3 => Cell::Tinyint(signed8(n)),
-        4 => Cell::Smallint(signed16(n)),
-        5 => Cell::Integer(signed32(n)),
+        3 => Cell::Tinyint(scan::signed8(n)),
+        4 => Cell::Smallint(scan::signed16(n)),
+        5 => Cell::Integer(scan::signed32(n)),
         8 => float_cell(n),
-        11 => Cell::Timestamp(signed64(n)),
-        _ => Cell::Bigint(signed64(n)),
+        11 => Cell::Timestamp(scan::signed64(n)),
+        _ => Cell::Bigint(scan::signed64(n)),
     }
 }
 
@@ -148,8 +84,8 @@ fn read_decimal(s: &[u8], at: usize) -> Shown
     let Halves::Is(high, lower, next) = halves else {
         return Shown::No(scan::halves_refusal(halves));
     };
-    let upper = signed64(high);
-    if !decimal_fine(upper, lower) {
+    let upper = scan::signed64(high);
+    if !scan::decimal_fine(upper, lower) {
         return Shown::No(Refusal {
             fault: Fault::Decimal,
             place: at,

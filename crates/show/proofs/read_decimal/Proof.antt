@@ -14,9 +14,9 @@ use Rattle.scan.proofs.Steps.{ruled-go, ruled-bad, ruled-stop}
 use Rattle.scan.proofs.Sixteen.{halves-go, halves-stop}
 use Rattle.show.specs.declared.Cell.{Cell}
 use Rattle.show.specs.declared.Shown.{Shown}
-use Rattle.show.specs.Signed.{signed, unsigned}
+use Rattle.scan.specs.Signed.{signed, unsigned}
 use Rattle.show.specs.Cells.{decimalCell, shownAs}
-use Rattle.show.proofs.Twos.{signed-back}
+use Rattle.scan.proofs.Twos.{signed-back}
 use Rattle.show.proofs.Values.{decimal-halves}
 use native.Mathlib.Omega.{arith}
 use borrow.Author.Needs.{needs}

@@ -11,7 +11,7 @@ use mir.Val.{SFits, hbits, ofZ, toZ}
 use mir.ValLaws.{toZ-pos, toZ-ofZ}
 use Rattle.format.specs.Result.{pick}
 use Rattle.format.specs.Number.{half}
-use Rattle.show.specs.Signed.{signed, unsigned}
+use Rattle.scan.specs.Signed.{signed, unsigned}
 
 minus-one : (m : ℕ) → negsuc 0 -ℤ pos m ≡ negsuc m
 minus-one zero = refl

@@ -1,12 +1,12 @@
--- `show::signed64` meets its contract: below the half it is the number, and above -1 - (the largest - it).
+-- `scan::signed64` meets its contract: below the half it is the number, and above -1 - (the largest - it).
 use Prim.Native.Nat.{_-_, _%_, _^_}
 use native.Mathlib.Omega.{arith}
 use mir.Syntax.{w64}
 use borrow.Author.Needs.{needs}
 use borrow.Author.Tests.{lt-ltb, le-ltb}
-use Rattle.show.proofs.Twos.{down-fits, down-back, whole}
-use Rattle.show.proofs.signed64.Statement.{statement}
-use Rattle.show.proofs.signed64.Tie as tie
+use Rattle.scan.proofs.Twos.{down-fits, down-back, whole}
+use Rattle.scan.proofs.signed64.Statement.{statement}
+use Rattle.scan.proofs.signed64.Tie as tie
 
 cast-result : tie.Need-cast-result
 cast-result c = search needs

@@ -14,8 +14,8 @@ use native.Mathlib.Nat.{le-of-lt}
 use borrow.Author.Tests.{lt-ltb, le-ltb, ltb-true, ltb-false, ne-eqb}
 use Rattle.format.specs.Value.{decimalFine}
 use Rattle.format.proofs.Results.{ltb-add}
 use Rattle.scan.proofs.Sixteen.{upper-less, null-upper, null-lower}
-use Rattle.show.specs.Signed.{unsigned}
+use Rattle.scan.specs.Signed.{unsigned}
 
 abbrev P : ℕ
 P = 2 ^ 64
