@@ -13,7 +13,8 @@ use Rattle.format.specs.declared.Refusal.{Refusal}
 use Rattle.scan.specs.declared.Next.{Next}
 use Rattle.scan.specs.Shown.{shownNext, nextNo}
 use Rattle.scan.proofs.Steps.{goes-on, halts}
-use Rattle.message.specs.Inner.{Noted, noted, flagByte, afterFlags, head}
+use Rattle.format.specs.Message.{flagByte}
+use Rattle.message.specs.Inner.{Noted, noted, afterFlags, head}
 use Rattle.message.proofs.Rooms.{bind-bind}
 
 -- two formats and a third that looks at neither's value: it is the same which two are taken together

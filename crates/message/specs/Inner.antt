@@ -1,36 +1,28 @@
 -- What stands in the rooms of a table, before a response's tables, and before a message's version. proofs/Rooms.antt, Heads.antt and Whole.antt
 -- prove that these are what the wire's definition has there; only the contracts of the functions that read them cite them.
-use Prim.Native.Nat.{ℕ, _+_, _%_}
-use mathlib.Core.Bool.{Bool, false, _||_}
+use Prim.Native.Nat.{ℕ, _+_}
+use mathlib.Core.Bool.{Bool, _||_}
 use mathlib.Core.List.{List}
 use mathlib.Core.Option.{Option, none}
-use lib.ListN.{length, replicate}
+use lib.ListN.{length}
 use lib.Dec.{leb, ltb, eqb}
-use Rattle.format.specs.declared.Fault.the-variants.{Short, Negative, Limit, Extra, Flags}
+use Rattle.format.specs.declared.Fault.the-variants.{Short, Negative, Limit, Extra}
 use Rattle.format.specs.Result.{Res, ok, no, bind, pick}
 use Rattle.format.specs.Number.{half}
-use Rattle.format.specs.Format.{Format, number, block, ruled, present, into, both, each}
-use Rattle.format.specs.Value.{string, anything, ascii}
-use Rattle.format.specs.Message.{Metadata, Table, metadata, row, columnType, count, list, third, second, mostColumns, unlimited, flagged, nullText, text, mostMessage}
+use Rattle.format.specs.Format.{Format, number, block, present, both}
+use Rattle.format.specs.Value.{string, anything}
+use Rattle.format.specs.Message.{Metadata, Table, inMetadata, inTable, flagByte, flagged, nullText, text, mostMessage}
 
--- the metadata, after its length
+-- what stands in the rooms of a table, shut
 unfoldable pub described : Format Metadata
-described =
-    into (λ v. record { status = v .0; types = v .1 .1 .0; names = v .1 .1 .1 }) (λ l. (l .status, (length (l .types), (l .types, l .names))))
-    (both (number 1 43) (λ u. both (count 2 mostColumns 44) (λ n.
-    both (each third 0 (replicate n (columnType 45))) (λ t. each third 0 (replicate n (string false ascii 46 47))))))
+described = inMetadata
 
--- a table, after its length
 unfoldable pub contents : Format Table
-contents = into (λ v. record { metadata = v .0; rows = v .1 }) (λ l. (l .metadata, l .rows)) (both metadata (λ m. list 4 unlimited 48 second (row (m .types))))
+contents = inTable
 
 -- a number, and a string after it if there is one
 abbrev pub noted : ℕ → Bool → Bool → Format (ℕ × Option (Option (List ℕ)))
 noted width there nullable = both (number width 0) (λ n. present there none (string nullable anything 0 0))
-
--- the byte of a response's flags
-abbrev pub flagByte : ℕ → Format ℕ
-flagByte field = ruled (λ n. eqb (n % 32) 0) Flags (number 1 field)
 
 -- a response before its tables: client data and flags; status and its string; application status and its string; round trip and exception
 abbrev pub Noted : Type 0

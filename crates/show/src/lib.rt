@@ -57,11 +57,11 @@ fn plain_cell(t: u8, n: u64) -> Cell
     ensures { λ r. ⌜ r ≡ plainCell t n ⌝ }
 {
     match t {
-        3 => Cell::Tinyint(scan::signed8(n)),
-        4 => Cell::Smallint(scan::signed16(n)),
-        5 => Cell::Integer(scan::signed32(n)),
-        8 => float_cell(n),
-        11 => Cell::Timestamp(scan::signed64(n)),
+        format::TINYINT => Cell::Tinyint(scan::signed8(n)),
+        format::SMALLINT => Cell::Smallint(scan::signed16(n)),
+        format::INTEGER => Cell::Integer(scan::signed32(n)),
+        format::FLOAT => float_cell(n),
+        format::TIMESTAMP => Cell::Timestamp(scan::signed64(n)),
         _ => Cell::Bigint(scan::signed64(n)),
     }
 }
@@ -113,24 +113,22 @@ fn read_point(s: &[u8], at: usize) -> Shown
     )
 }
 
-const MOST_BYTES: u64 = 1_048_576;
-
 // The body of a counted value.
 fn read_part(s: &[u8], at: usize, t: u8) -> Body
     ensures { λ r. ⌜ r ≡ shownBody at (string true (ruleOf t) 0 0 .read (now (s .entry)) at) ⌝ }
 {
-    if t == 27 {
+    if t == format::GEOGRAPHY {
         return scan::read_geography(s, at);
     }
-    scan::read_body(s, at, true, MOST_BYTES)
+    scan::read_body(s, at, true, format::MOST_BYTES)
 }
 
 fn part_cell(t: u8, start: usize, size: usize) -> Cell
     ensures { λ r. ⌜ r ≡ partCell t start size ⌝ }
 {
     match t {
-        9 => Cell::Text(start, size),
-        25 => Cell::Binary(start, size),
+        format::STRING => Cell::Text(start, size),
+        format::VARBINARY => Cell::Binary(start, size),
         _ => Cell::Geography(start, size),
     }
 }
@@ -139,8 +137,8 @@ fn null_cell(t: u8) -> Cell
     ensures { λ r. ⌜ r ≡ nullCell t ⌝ }
 {
     match t {
-        9 => Cell::NullText,
-        25 => Cell::NullBinary,
+        format::STRING => Cell::NullText,
+        format::VARBINARY => Cell::NullBinary,
         _ => Cell::NullGeography,
     }
 }
@@ -161,13 +159,13 @@ pub fn read_value(s: &[u8], at: usize, t: u8) -> Shown
     ensures { λ r. ⌜ r ≡ shownAs (cellOf t at) (value 0 0 t .read (now (s .entry)) at) ⌝ }
 {
     match t {
-        3 => read_plain(s, at, t, 1),
-        4 => read_plain(s, at, t, 2),
-        5 => read_plain(s, at, t, 4),
-        6 | 8 | 11 => read_plain(s, at, t, 8),
-        9 | 25 | 27 => read_counted(s, at, t),
-        22 => read_decimal(s, at),
-        26 => read_point(s, at),
+        format::TINYINT => read_plain(s, at, t, 1),
+        format::SMALLINT => read_plain(s, at, t, 2),
+        format::INTEGER => read_plain(s, at, t, 4),
+        format::BIGINT | format::FLOAT | format::TIMESTAMP => read_plain(s, at, t, 8),
+        format::STRING | format::VARBINARY | format::GEOGRAPHY => read_counted(s, at, t),
+        format::DECIMAL => read_decimal(s, at),
+        format::POINT => read_point(s, at),
         _ => read_plain(s, at, t, 0),
     }
 }

@@ -5,7 +5,8 @@ use Rattle.format.specs.Format.{block}
 use Rattle.scan.specs.Shown.{shownNext}
 use Rattle.scan.proofs.Answers.{byte-go, byte-stop}
 use Rattle.scan.proofs.Steps.{goes-on, halts, both-ends, both-stop, block-ends}
-use Rattle.message.specs.Inner.{flagByte, afterFlags}
+use Rattle.format.specs.Message.{flagByte}
+use Rattle.message.specs.Inner.{afterFlags}
 use Rattle.message.proofs.Heads.{head-1, head-2, head-3, head-ends, flag-fields, after-ends, noted-goes, noted-halts, noted-last}
 use borrow.Author.Needs.{needs}
 use Rattle.message.proofs.skip_head.Statement.{statement}

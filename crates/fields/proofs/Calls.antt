@@ -1,0 +1,113 @@
+-- What the functions' answers are, by what the verdict on a message and the tour over its fields say.
+use Prim.Native.Nat.{ℕ, zero, suc, _+_, _-_, _/_, _^_, _≤_, _<_}
+use mathlib.Core.Path.{_≡_, refl, sym, _∙_, ap, ap₂}
+use mathlib.Core.List.{List, [], _∷_, _++_}
+use lib.ListN.{length, take, drop, drop-of-length-le}
+use lib.Seq.{sets, sets-eq}
+use lib.Dec.{ltb}
+use native.Mathlib.Omega.{arith}
+use borrow.Author.Tests.{lt-ltb, le-ltb}
+use Rattle.format.specs.declared.Fault.{Fault}
+use Rattle.format.specs.declared.Fault.the-variants.{PastEnd}
+use Rattle.format.specs.declared.Refusal.{Refusal}
+use Rattle.format.specs.Result.{Res, ok, no, bind}
+use Rattle.format.specs.Number.{Bytes}
+use Rattle.format.specs.Format.{Entry}
+use Rattle.format.specs.Message.{Message, readMessage, messageFields}
+use Rattle.format.proofs.Took.{Tiles}
+use Rattle.message.specs.declared.Verdict.{Verdict}
+use Rattle.message.specs.Verdict.{toldVerdict, verdictOf, verdictNo}
+use Rattle.message.proofs.Accepted.{verdict-go, verdict-stop}
+use Rattle.tour.specs.declared.Tour.{Tour}
+use Rattle.tour.specs.Tour.{State, stateOf, six, visited, begun, Whole}
+use Rattle.fields.specs.Questions.{fieldsOf, nth, ownerOf, windowOf, windowCount, windowOut, sixes, over, entryAt}
+use Rattle.fields.proofs.Folds.{length-sixes}
+use Rattle.fields.proofs.Seen.{Windowed, windowed, tiles-asked, tiles-few, owned, owns, owner-past}
+use Rattle.fields.proofs.Together.{tiled}
+
+-- a message that is refused has no fields
+pub refuses : (kind : ℕ) (m : List ℕ) {v : Verdict} {given r : Refusal} → toldVerdict v ≡ verdictOf (readMessage kind m) → v ≡ Verdict.No given → r ≡ verdictNo v
+    → fieldsOf kind m ≡ no (r .fault) (r .place)
+refuses kind m told none out = rw (verdict-stop (readMessage kind m) told none out)
+
+-- one that is accepted has fields, side by side, and a tour goes over them
+pub record Fields (kind : ℕ) (m : List ℕ) : Type 0 where
+  pub es : List Entry
+  pub are : fieldsOf kind m ≡ ok es
+  pub tile : Tiles 0 es (length m)
+  pub few : length es < 2 ^ 64
+  pub goes : {first offset : ℕ} {out : List ℕ} {after : Tour} {written : List ℕ} → Whole kind m first offset out after written → stateOf after written ≡ visited (begun first offset out) es
+
+pub fields-of : (kind : ℕ) (m : List ℕ) → Bytes m → length m < 2 ^ 64 → {v : Verdict} → toldVerdict v ≡ verdictOf (readMessage kind m) → v ≡ Verdict.Fine → Fields kind m
+fields-of kind m by small told fine =
+    let go = verdict-go (readMessage kind m) told fine in
+    let r = go .0 in
+    let tile = tiled kind m by r (go .1) in
+    record {
+      es = messageFields kind r;
+      are = ap (λ (x : Res Message). bind x (λ q. ok (messageFields kind q))) (go .1);
+      tile = tile;
+      few = omega (arith, tiles-few 0 (length m) (messageFields kind r) tile);
+      goes = λ w. w .goes r (go .1);
+    }
+
+module _ {kind : ℕ} {m : List ℕ} (f : Fields kind m) {after : Tour} {written : List ℕ} where
+  pub seen-window : (first : ℕ) (out : List ℕ) → Whole kind m first 0 out after written → Windowed (f .es) first out (stateOf after written)
+  seen-window first out w = rw (f .goes w) (windowed (f .es) first out (f .few) (tiles-asked 0 (length m) (f .es) (f .tile) (begun first 0 out) refl))
+
+  pub seen-owner : (offset : ℕ) (out : List ℕ) → length out ≡ 6 → Whole kind m 0 offset out after written → stateOf after written ≡ owned offset out (length (f .es)) (ownerOf (f .es) offset)
+  seen-owner offset out long w =
+      let small = f .few in
+      let none : 0 + length (f .es) ≡ length (f .es) = omega arith in
+      f .goes w ∙ owns offset out long (f .es) 0 (length m) 0 (f .tile) (omega arith) (omega arith) ∙ ap (λ (n : ℕ). owned offset out n (ownerOf (f .es) offset)) none
+
+-- an entry past the end of a list, and one that is in it
+pub nth-past : (es : List Entry) (n : ℕ) → length es ≤ n → nth es n ≡ no PastEnd 0
+nth-past [] n h = refl
+nth-past (e ∷ es) zero h = absurd (omega arith)
+nth-past (e ∷ es) (suc n) h = nth-past es n (omega arith)
+
+nth-there : (es : List Entry) (n : ℕ) → n < length es → (x : Entry) × (nth es n ≡ ok x) × (take 1 (drop n es) ≡ x ∷ [])
+nth-there [] n h = absurd (omega arith)
+nth-there (e ∷ es) zero h = (e, refl, refl)
+nth-there (e ∷ es) (suc n) h = nth-there es n (omega arith)
+
+pub nth-read : (es : List Entry) (n : ℕ) (out : List ℕ) {numbers : List ℕ} → length out ≡ 6 → n < length es → numbers ≡ over (sixes (windowOf es n (length out))) out → nth es n ≡ ok (entryAt numbers)
+unfolding sixes
+nth-read es n out {numbers} long low e =
+    let w = nth-there es n low in
+    let x = w .0 in
+    let one : windowOf es n (length out) ≡ x ∷ [] = rw long (w .2) in
+    let same : entryAt numbers ≡ x = ap entryAt (e ∙ ap (λ (l : List Entry). over (sixes l) out) one) in
+    rw same (w .1)
+
+-- no owner, and one that was found
+module _ (es : List Entry) (offset n : ℕ) (out : List ℕ) (after : Tour) {written : List ℕ} where
+  missed-by : (a : Res (Entry × ℕ)) → ownerOf es offset ≡ a → stateOf after written ≡ owned offset out n a → after .taken ≡ 0 → ownerOf es offset ≡ no PastEnd 0
+  missed-by (ok w) is e untaken = absurd (let z : after .taken ≡ 1 = ap (λ (st : State). st .taken) e in omega arith)
+  missed-by (no f p) is e untaken = is ∙ owner-past es 0 offset f p is
+
+  pub owner-missed : stateOf after written ≡ owned offset out n (ownerOf es offset) → after .taken ≡ 0 → ownerOf es offset ≡ no PastEnd 0
+  owner-missed e untaken = missed-by (ownerOf es offset) refl e untaken
+
+  met-by : (a : Res (Entry × ℕ)) → ownerOf es offset ≡ a → length out ≡ 6 → stateOf after written ≡ owned offset out n a → (after .taken ≡ 0 → ⊥) → ownerOf es offset ≡ ok (entryAt written, after .last)
+  met-by (ok w) is long e some =
+      let front : sets out 0 (six (w .0)) ≡ six (w .0) ++ drop 6 out = sets-eq (six (w .0)) out 0 (omega arith) in
+      let numbers : written ≡ six (w .0) ++ drop 6 out = ap (λ (st : State). st .out) e ∙ front in
+      let last : after .last ≡ w .1 = ap (λ (st : State). st .last) e in
+      is ∙ ap ok (ap₂ (λ (x : Entry) (i : ℕ). (x, i)) (sym (ap entryAt numbers)) (sym last))
+  met-by (no f p) is long e some = absurd (some (ap (λ (st : State). st .taken) e))
+
+  pub owner-met : length out ≡ 6 → stateOf after written ≡ owned offset out n (ownerOf es offset) → (after .taken ≡ 0 → ⊥) → ownerOf es offset ≡ ok (entryAt written, after .last)
+  owner-met long e some = met-by (ownerOf es offset) refl long e some
+
+-- how many entries a window has
+pub window-past : (es : List Entry) (first room : ℕ) → length es ≤ first → windowCount es first room ≡ no PastEnd 0
+window-past es first room h = rw (le-ltb first (length es) h)
+
+pub window-there : (es : List Entry) (first room : ℕ) → first < length es → windowCount es first room ≡ ok (length (windowOf es first room))
+window-there es first room h = rw (lt-ltb first (length es) h)
+
+-- the refusal past the end
+pub past-told : {A : Type 0} {r : Refusal} → (r .fault ≡ PastEnd) × (r .place ≡ 0) → _≡_ {A = Res A} (no (r .fault) (r .place)) (no PastEnd 0)
+past-told e = ap₂ (λ (f : Fault) (p : ℕ). no f p) (e .0) (e .1)

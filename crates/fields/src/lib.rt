@@ -1,0 +1,128 @@
+// The field list of a message: how many fields it has, the n-th, the owner of a byte, and windows of the list.
+use format::Fault;
+use format::Refusal;
+use message::Verdict;
+ghost use mathlib.Core.Path.{_≡_};
+ghost use lib.ListN.{length};
+ghost use Rattle.format.specs.declared.Fault.the-variants.{PastEnd};
+ghost use Rattle.format.specs.Result.{ok, bind};
+ghost use Rattle.fields.specs.Questions.{fieldsOf, nth, ownerOf, windowCount, windowOut, entryAt};
+ghost use Rattle.fields.specs.Told.{toldEntry, toldCounted, toldListed, toldOwned, toldWritten};
+
+// A field: where it stands, how long it is, its number and its three indices.
+pub struct Entry {
+    pub offset: usize,
+    pub size: usize,
+    pub field: u64,
+    pub i: usize,
+    pub j: usize,
+    pub k: usize,
+}
+
+// How many fields there are.
+pub enum Counted {
+    Is(usize),
+    No(Refusal),
+}
+
+// A field of the list.
+pub enum Listed {
+    Is(Entry),
+    No(Refusal),
+}
+
+// The field that owns a byte, and its number in the list.
+pub enum Owned {
+    By(Entry, usize),
+    No(Refusal),
+}
+
+// How many fields were written.
+pub enum Written {
+    Is(usize),
+    No(Refusal),
+}
+
+// How many fields a message of a kind has.
+pub fn count(kind: u8, m: &[u8]) -> Counted
+    ensures { λ r. ⌜ toldCounted r ≡ bind (fieldsOf kind (now (m .entry))) (λ es. ok (length es)) ⌝ }
+{
+    let verdict = message::accept(kind, m);
+    let Verdict::Fine = verdict else {
+        return Counted::No(message::verdict_refusal(verdict));
+    };
+    let mut six: [u64; 6] = [0; 6];
+    let tour = tour::walk_message(kind, m, &mut six, 0, 0);
+    Counted::Is(tour.seen)
+}
+
+// The entry of a number in the list, from 0 on.
+pub fn field(kind: u8, m: &[u8], n: usize) -> Listed
+    ensures { λ r. ⌜ toldListed r ≡ bind (fieldsOf kind (now (m .entry))) (λ es. nth es n) ⌝ }
+{
+    let verdict = message::accept(kind, m);
+    let Verdict::Fine = verdict else {
+        return Listed::No(message::verdict_refusal(verdict));
+    };
+    let mut six: [u64; 6] = [0; 6];
+    let tour = tour::walk_message(kind, m, &mut six, n, 0);
+    if tour.seen <= n {
+        return Listed::No(past_end());
+    }
+    Listed::Is(entry_of(&six))
+}
+
+// The entry that owns a byte, and its number in the list.
+pub fn owner(kind: u8, m: &[u8], offset: usize) -> Owned
+    ensures { λ r. ⌜ toldOwned r ≡ bind (fieldsOf kind (now (m .entry))) (λ es. ownerOf es offset) ⌝ }
+{
+    let verdict = message::accept(kind, m);
+    let Verdict::Fine = verdict else {
+        return Owned::No(message::verdict_refusal(verdict));
+    };
+    let mut six: [u64; 6] = [0; 6];
+    let tour = tour::walk_message(kind, m, &mut six, 0, offset);
+    if tour.taken == 0 {
+        return Owned::No(past_end());
+    }
+    let number = tour.last;
+    Owned::By(entry_of(&six), number)
+}
+
+// The entries from a number on, six numbers for each, as many whole entries as fit a lent list; how many were written.
+pub fn window(kind: u8, m: &[u8], first: usize, out: &mut [u64]) -> Written
+    ensures { λ r. ⌜ (toldWritten r ≡ bind (fieldsOf kind (now (m .entry))) (λ es. windowCount es first (length (now (out .entry))))) × (now (out .exit) ≡ windowOut (fieldsOf kind (now (m .entry))) first (now (out .entry))) ⌝ }
+{
+    let verdict = message::accept(kind, m);
+    let Verdict::Fine = verdict else {
+        return Written::No(message::verdict_refusal(verdict));
+    };
+    let tour = tour::walk_message(kind, m, out, first, 0);
+    if tour.seen <= first {
+        return Written::No(past_end());
+    }
+    Written::Is(tour.taken)
+}
+
+fn past_end() -> Refusal
+    ensures { λ r. ⌜ (r .fault ≡ PastEnd) × (r .place ≡ 0) ⌝ }
+{
+    Refusal {
+        fault: Fault::PastEnd,
+        place: 0,
+    }
+}
+
+// The entry that six numbers are.
+fn entry_of(six: &[u64; 6]) -> Entry
+    ensures { λ r. ⌜ toldEntry r ≡ entryAt (now (six .entry)) ⌝ }
+{
+    Entry {
+        offset: six[0] as usize,
+        size: six[1] as usize,
+        field: six[2],
+        i: six[3] as usize,
+        j: six[4] as usize,
+        k: six[5] as usize,
+    }
+}

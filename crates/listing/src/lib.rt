@@ -1,0 +1,149 @@
+// The field list of a message as text, on standard output: one line for each field, or the refusal.
+// No contract can say what is written; tests/compare holds it against the second reader.
+ghost use Prim.Native.Nat.{_+_, _≤_};
+ghost use mathlib.Core.Path.{_≡_};
+ghost use mathlib.Core.List.{_++_};
+ghost use lib.ListN.{length, take};
+ghost use lib.Seq.{paste};
+ghost use Rattle.io.specs.Counts.{Counts};
+ghost use Rattle.listing.specs.Text.{spelled, lineOf};
+use fields::Written;
+use format::Fault;
+use format::Refusal;
+use libc::STDOUT_FILENO;
+
+// The longest input: one byte of kind and a message of 65,536 bytes.
+const MOST_INPUT: usize = 65537;
+
+// Entries asked for at once, and the numbers of each: offset, size, field number, three indices.
+const WINDOW: usize = 2048;
+
+const NUMBERS: usize = 6;
+
+// Room for a line: its numbers of at most 20 digits, each with a byte after it.
+const LINE: usize = 126;
+
+// Prints what the listing program prints for its input: one byte of kind, then a message.
+pub fn print(input: &[u8]) {
+    if input.len() == 0 {
+        print_refused(Fault::WireType, 0);
+        return;
+    }
+    let kind = input[0];
+    if kind < 1 || kind > 4 {
+        print_refused(Fault::WireType, 0);
+        return;
+    }
+    if input.len() > MOST_INPUT {
+        print_refused(Fault::Limit, 0);
+        return;
+    }
+    print_fields(kind, &input[1..]);
+}
+
+// Prints a refusal: `refused`, its number, its place.
+pub fn print_refusal(refusal: Refusal) {
+    let fault = refusal.fault;
+    print_refused(fault, refusal.place);
+}
+
+fn print_refused(fault: Fault, place: usize) {
+    let number = format::number_of(fault);
+    io::write_all(STDOUT_FILENO, b"refused ");
+    io::print_decimal(STDOUT_FILENO, number as u64);
+    io::write_all(STDOUT_FILENO, b" ");
+    io::print_decimal(STDOUT_FILENO, place as u64);
+    io::write_all(STDOUT_FILENO, b"\n");
+}
+
+// Window after window, until one isn't full. A field has at least one byte, so the list is no longer
+// than the message.
+fn print_fields(kind: u8, m: &[u8]) {
+    let mut first = 0;
+    while first <= m.len() && print_window(kind, m, first) {
+        first += WINDOW;
+    }
+}
+
+// Prints the entries from `first` on, as many as a window takes, and answers whether there may be
+// more. The message's refusal is printed in place of its first window.
+fn print_window(kind: u8, m: &[u8], first: usize) -> bool {
+    let mut numbers = [0u64; WINDOW * NUMBERS];
+    let answer = fields::window(kind, m, first, &mut numbers);
+    match answer {
+        Written::Is(n) => {
+            print_entries(&numbers, n);
+            n == WINDOW
+        }
+        Written::No(refusal) => {
+            if first == 0 {
+                print_refusal(refusal);
+            }
+            false
+        }
+    }
+}
+
+// Prints the first n entries, or as many as there are.
+fn print_entries(numbers: &[u64], n: usize) {
+    let mut i = 0;
+    let mut from = 0;
+    while i < n {
+        if numbers.len() - from < NUMBERS {
+            return;
+        }
+        print_line(numbers, from);
+        from += NUMBERS;
+        i += 1;
+    }
+}
+
+// Prints the six numbers from `from` on as a line.
+fn print_line(numbers: &[u64], from: usize)
+    requires { ⌜ from + 6 ≤ length (now numbers) ⌝ }
+{
+    let mut line = [0u8; LINE];
+    let end = put_line(&mut line, numbers, from);
+    io::write_all(STDOUT_FILENO, &line[..end]);
+}
+
+// Puts the six numbers from `from` on to the start of line, in decimal, one space between and a
+// line feed behind. Answers where the text ends.
+fn put_line(line: &mut [u8], numbers: &[u64], from: usize) -> usize
+    requires { ⌜ from + 6 ≤ length (now numbers) ⌝ }
+    requires { ⌜ 126 ≤ length (now line) ⌝ }
+    ensures { λ r. ⌜ Counts r (now (line .exit)) ⌝ }
+    ensures { λ r. ⌜ take r (now (line .exit)) ≡ lineOf (now (numbers .entry)) from ⌝ }
+{
+    let size = put_number(line, 0, numbers[from], b' ');
+    let field = put_number(line, size, numbers[from + 1], b' ');
+    let first = put_number(line, field, numbers[from + 2], b' ');
+    let second = put_number(line, first, numbers[from + 3], b' ');
+    let third = put_number(line, second, numbers[from + 4], b' ');
+    put_number(line, third, numbers[from + 5], b'\n')
+}
+
+// Puts n in decimal at `at`, and the byte `after` behind it. Answers where that ends.
+fn put_number(line: &mut [u8], at: usize, n: u64, after: u8) -> usize
+    requires { ⌜ at + 21 ≤ length (now line) ⌝ }
+    ensures { λ r. ⌜ r ≤ at + 21 ⌝ }
+    ensures { λ r. ⌜ take r (now (line .exit)) ≡ take at (now (line .entry)) ++ spelled n after ⌝ }
+{
+    let mut digits = [0u8; 20];
+    let count = io::decimal(n, &mut digits);
+    copy(&digits[..count], line, at);
+    line[at + count] = after;
+    at + count + 1
+}
+
+// Copies src into dst from `at` on.
+fn copy(src: &[u8], dst: &mut [u8], at: usize)
+    requires { ⌜ at + length (now src) ≤ length (now dst) ⌝ }
+    ensures { λ _. ⌜ now (dst .exit) ≡ paste (now (dst .entry)) at (now (src .entry)) (length (now (src .entry))) ⌝ }
+{
+    let mut i = 0;
+    while i < src.len() {
+        dst[at + i] = src[i];
+        i += 1;
+    }
+}

@@ -1,0 +1,222 @@
+-- What an acceptance says, and what is known of a table that was found.
+use Prim.Native.Nat.{ℕ, zero, suc, _+_, _≤_, _<_}
+use mathlib.Core.Path.{_≡_, refl, sym, _∙_, ap}
+use mathlib.Core.List.{List, [], _∷_}
+use mathlib.Core.Option.{Option, some, none}
+use lib.ListN.{length, take, replicate, getD}
+use native.Mathlib.Omega.{arith}
+use Rattle.format.specs.declared.Fault.{Fault}
+use Rattle.format.specs.declared.Fault.the-variants.{PastEnd}
+use Rattle.format.specs.declared.Refusal.{Refusal}
+use Rattle.format.specs.Result.{Res, ok, no, bind}
+use Rattle.format.specs.Number.{Bytes}
+use Rattle.format.specs.Format.{number, each}
+use Rattle.format.specs.Message.{first, third, list, mostItems, Table, table, Response, response, Message, response-of, readMessage}
+use Rattle.format.proofs.Results.{ok-same, no-ok, bound}
+use Rattle.format.proofs.Formats.{lawful-list, lawful-table, lawful-response}
+use Rattle.scan.specs.Shown.{shownNext, shownNumber}
+use Rattle.message.specs.declared.Verdict.{Verdict}
+use Rattle.message.specs.Verdict.{toldVerdict, verdictOf}
+use Rattle.message.specs.Inner.{head}
+use Rattle.message.proofs.Heads.{respond, response-is}
+use Rattle.query.specs.Stands.{Stands}
+use Rattle.query.specs.Shown.{pastOf, numberIn}
+use Rattle.query.specs.Answers.{entry, ofTable, layoutOf, columnOf, Here, cellHere, shownHere, shownOf, partOf}
+use Rattle.query.specs.Places.{tablesOf, tableAt, typeAt, nameAt, rowAt}
+use Rattle.query.specs.declared.TableLayout.{TableLayout}
+use Rattle.query.proofs.Stands.{stands-read, stands-fits, stands-at}
+use Rattle.query.proofs.Lists.{total, entry-in, entry-past, entry-below, stands-entry, sized}
+use Rattle.query.proofs.Layouts.{length-list, length-number, sized-table, name, names-stand, metadata-stands, type-place, name-place}
+use Rattle.query.proofs.Replies.{headSize, length-response, table-place, response-stands, table-count-stands, tables-stand}
+use Rattle.query.proofs.Walks.{after-is, over-is, count-is, there}
+use Rattle.query.proofs.Parts.{part-stands}
+
+pub bytes-all : (s : List ℕ) → ((k : ℕ) → getD s k 0 < 256) → Bytes s
+bytes-all [] all = tt
+bytes-all (b ∷ s) all = (all 0, bytes-all s (λ k. all (suc k)))
+
+module _ {A B : Type 0} where
+  -- a refusal of one question is that of another
+  pub retold : {f g : Fault} {p q : ℕ} → _≡_ {A = Res A} (no f p) (no g q) → _≡_ {A = Res B} (no f p) (no g q)
+  retold {f} {g} {p} {q} e = let fault : f ≡ g = cc in let place : p ≡ q = cc in rw (fault, place)
+
+-- an acceptance has a record, and a refusal is the reading's
+pub verdict-fine : (r : Res Message) {v : Verdict} → toldVerdict v ≡ verdictOf r → v ≡ Verdict.Fine → (p : Message) × (r ≡ ok p)
+verdict-fine (ok p) e told = (p, refl)
+verdict-fine (no f p) e told = absurd (no-ok (sym e ∙ ap toldVerdict told))
+
+pub verdict-no : (r : Res Message) {v : Verdict} {x : Refusal} → toldVerdict v ≡ verdictOf r → v ≡ Verdict.No x → r ≡ no (x .fault) (x .place)
+verdict-no (ok p) e told = absurd (no-ok (sym (ap toldVerdict told) ∙ e))
+verdict-no (no f q) e told = retold (sym e ∙ ap toldVerdict told)
+
+module _ {A : Type 0} (m : List ℕ) where
+  -- what a refused message and an accepted one are asked
+  pub refused : (k : Message → Res A) {f : Fault} {p : ℕ} → readMessage 4 m ≡ no f p → no f p ≡ bind (readMessage 4 m) k
+  refused k e = sym (ap (λ (r : Res Message). bind r k) e)
+
+  pub admitted : (k : Message → Res A) {x : Res A} {p : Message} → readMessage 4 m ≡ ok p → x ≡ k p → x ≡ bind (readMessage 4 m) k
+  admitted k e f = f ∙ sym (ap (λ (r : Res Message). bind r k) e)
+
+module _ (m : List ℕ) (b : Bytes m) (p : Message) (accepted : readMessage 4 m ≡ ok p) where
+  -- what comes before the table count ends there
+  head-ends : pastOf (shownNext (head .read m 5)) ≡ 5 + headSize (response-of (p .content))
+  head-ends =
+      let rs = response-stands m b p accepted in
+      let reads = stands-read lawful-response rs in
+      let h = bound (head .read m 5) (sym (response-is m 5) ∙ reads) in
+      let q = bound (list 2 mostItems 40 first table .read m (h .0 .1)) (h .2) in
+      let far = lawful-list 2 mostItems 40 first lawful-table .sound m b (h .0 .1) (q .0 .0) (q .0 .1) (q .1) .1 .far in
+      let same = ok-same (q .2) in
+      let end : q .0 .1 ≡ 5 + length (response .bytes (response-of (p .content))) = ap (λ (z : Response × ℕ). z .1) same in
+      let tables : q .0 .0 ≡ tablesOf p = ap (λ (z : Response × ℕ). z .0 .tables) same in
+      let size : length (list 2 mostItems 40 first table .bytes (q .0 .0)) ≡ 2 + total table (tablesOf p) = rw tables (length-list 2 mostItems 40 first table (tablesOf p)) in
+      rw (h .1) (omega (arith, length-response (response-of (p .content))))
+
+  pub tables-is : (counted : ℕ) {n : ℕ} → counted ≡ pastOf (shownNext (head .read m 5)) → n ≡ numberIn (shownNumber (number 2 0 .read m counted)) → n ≡ length (tablesOf p)
+  tables-is counted e f = count-is m 2 40 counted f (e ∙ head-ends) (table-count-stands m b p accepted)
+
+  -- table t stands at its place
+  pub table-stands : (t : ℕ) {tab : Table} → entry (tablesOf p) t ≡ ok tab → Stands table m (tableAt p t) tab
+  table-stands t e = stands-at (sym (table-place p t)) (stands-entry first 0 (length (tablesOf p)) table (tablesOf p) t (tables-stand m b p accepted) e)
+
+  pub table-at-is : (t counted from : ℕ) {at : ℕ} → t < length (tablesOf p) → counted ≡ pastOf (shownNext (head .read m 5))
+      → from ≡ pastOf (shownNext (number 2 0 .read m counted)) → at ≡ pastOf (shownNext (each first 0 (replicate t sized) .read m from)) → at ≡ tableAt p t
+  table-at-is t counted from h e f g =
+      let fit = stands-fits (table-count-stands m b p accepted) in
+      let from-is : from ≡ 5 + headSize (response-of (p .content)) + 2 = after-is m 2 counted f (e ∙ head-ends) (omega (arith, length-number 2 40 (length (tablesOf p)))) in
+      over-is m sized-table first (length (tablesOf p)) t (tablesOf p) from g from-is (omega arith) (tables-stand m b p accepted) ∙ sym (table-place p t)
+
+  -- a table past the end, and one that is there
+  pub table-past : (t : ℕ) → length (tablesOf p) ≤ t → no PastEnd 0 ≡ bind (entry (tablesOf p) t) (λ tab. ok (layoutOf (tableAt p t) tab))
+  table-past t h = sym (ap (λ (r : Res Table). bind r (λ tab. ok (layoutOf (tableAt p t) tab))) (entry-past (tablesOf p) t h))
+
+  pub table-found : (t at : ℕ) {l : TableLayout} → t < length (tablesOf p) → at ≡ tableAt p t → ((tab : Table) → Stands table m at tab → l ≡ layoutOf at tab)
+      → ok l ≡ bind (entry (tablesOf p) t) (λ tab. ok (layoutOf (tableAt p t) tab))
+  table-found t at {l} h same lays =
+      let w = entry-in (tablesOf p) t h in
+      let is : l ≡ layoutOf (tableAt p t) (w .0) = rw same at (lays (w .0) (rw same (table-stands t (w .1)))) in
+      ap ok is ∙ sym (ap (λ (r : Res Table). bind r (λ tab. ok (layoutOf (tableAt p t) tab))) (w .1))
+
+-- a table that was found
+pub record Opened (m : List ℕ) (t : ℕ) (l : TableLayout) : Type 0 where
+  pub message : Message
+  pub accepted : readMessage 4 m ≡ ok message
+  pub tab : Table
+  pub there : entry (tablesOf message) t ≡ ok tab
+  pub stands : Stands table m (tableAt message t) tab
+  pub is : l ≡ layoutOf (tableAt message t) tab
+
+module _ (m : List ℕ) (b : Bytes m) (t : ℕ) where
+  pub opened : {l : TableLayout} → ok l ≡ ofTable m t (λ at tab. ok (layoutOf at tab)) → Opened m t l
+  opened e =
+      let r = bound (readMessage 4 m) (sym e) in
+      let q = bound (entry (tablesOf (r .0)) t) (r .2) in
+      record { message = r .0; accepted = r .1; tab = q .0; there = q .1; stands = table-stands m b (r .0) (r .1) t (q .1); is = sym (ok-same (q .2)) }
+
+module _ {A : Type 0} (m : List ℕ) (t : ℕ) where
+  -- one that was not is refused, whatever is asked of it
+  pub not-opened : (ask : ℕ → Table → Res A) {f : Fault} {p : ℕ} → no f p ≡ ofTable m t (λ at tab. ok (layoutOf at tab)) → no f p ≡ ofTable m t ask
+  not-opened ask e = by-message (readMessage 4 m) e
+    where
+      by-table : (r : Res Table) (at : ℕ) {f : Fault} {p : ℕ} → no f p ≡ bind r (λ tab. ok (layoutOf at tab)) → no f p ≡ bind r (ask at)
+      by-table (ok tab) at e = absurd (no-ok e)
+      by-table (no g q) at e = retold e
+
+      by-message : (r : Res Message) {f : Fault} {p : ℕ} → no f p ≡ bind r (λ z. bind (entry (tablesOf z) t) (λ tab. ok (layoutOf (tableAt z t) tab)))
+          → no f p ≡ bind r (λ z. bind (entry (tablesOf z) t) (λ tab. ask (tableAt z t) tab))
+      by-message (ok z) e = by-table (entry (tablesOf z) t) (tableAt z t) e
+      by-message (no g q) e = retold e
+
+module _ {m : List ℕ} {t : ℕ} {l : TableLayout} (o : Opened m t l) where
+  abbrev place : ℕ
+  place = tableAt (o .message) t
+
+  -- what is asked of it
+  pub asked : {A : Type 0} (ask : ℕ → Table → Res A) → ofTable m t ask ≡ ask (tableAt (o .message) t) (o .tab)
+  asked {A} ask =
+      ap (λ (r : Res Message). bind r (λ z. bind (entry (tablesOf z) t) (λ tab. ask (tableAt z t) tab))) (o .accepted)
+      ∙ ap (λ (r : Res Table). bind r (λ tab. ask (tableAt (o .message) t) tab)) (o .there)
+
+  pub columns-are : l .columns ≡ length (o .tab .metadata .types)
+  columns-are = ap (λ (z : TableLayout). z .columns) (o .is)
+
+  pub rows-are : l .rows ≡ length (o .tab .rows)
+  rows-are = ap (λ (z : TableLayout). z .rows) (o .is)
+
+  pub types-at : l .types ≡ typeAt (tableAt (o .message) t) (o .tab .metadata) 0
+  types-at = ap (λ (z : TableLayout). z .types) (o .is)
+
+  pub names-at : l .names ≡ nameAt (tableAt (o .message) t) (o .tab .metadata) 0
+  names-at = ap (λ (z : TableLayout). z .names) (o .is)
+
+  pub rows-at : l .«first_row» ≡ rowAt (tableAt (o .message) t) (o .tab) 0
+  rows-at = ap (λ (z : TableLayout). z .«first_row») (o .is)
+
+  -- the names stand where the layout says
+  pub named : Stands (each third 0 (replicate (l .columns) name)) m (l .names) (o .tab .metadata .names)
+  unfolding total
+  named =
+      let at-is : place + 4 + 7 + length (o .tab .metadata .types) ≡ l .names = omega (arith, names-at, name-place place (o .tab .metadata) 0 (omega arith)) in
+      rw columns-are (stands-at at-is (names-stand (metadata-stands (o .stands))))
+
+  -- and there is room for the types
+  pub types-fit : (c : ℕ) → c ≤ l .columns → l .types + c ≤ length m
+  types-fit c h =
+      omega (arith, columns-are, types-at, type-place place (o .tab .metadata) 0 (omega arith), stands-fits (names-stand (metadata-stands (o .stands))))
+
+  -- a column, a row and a cell past the end
+  pub column-past : (c : ℕ) → l .columns ≤ c → no PastEnd 0 ≡ ofTable m t (λ at b. columnOf at b c)
+  column-past c h =
+      let past : entry (o .tab .metadata .types) c ≡ no PastEnd 0 = entry-past (o .tab .metadata .types) c (omega (arith, columns-are)) in
+      sym (asked (λ at b. columnOf at b c) ∙ rw past)
+
+  pub row-past : (k c : ℕ) → l .rows ≤ k → no PastEnd 0 ≡ ofTable m t (λ at b. bind (cellHere at b k c) (λ h. ok (shownOf h)))
+  row-past k c h =
+      let past : entry (o .tab .rows) k ≡ no PastEnd 0 = entry-past (o .tab .rows) k (omega (arith, rows-are)) in
+      sym (asked (λ at b. bind (cellHere at b k c) (λ h. ok (shownOf h))) ∙ rw past)
+
+  pub cell-past : (k c : ℕ) → k < l .rows → l .columns ≤ c → no PastEnd 0 ≡ ofTable m t (λ at b. bind (cellHere at b k c) (λ h. ok (shownOf h)))
+  cell-past k c h n =
+      let w = entry-in (o .tab .rows) k (omega (arith, rows-are)) in
+      let past : entry (o .tab .metadata .types) c ≡ no PastEnd 0 = entry-past (o .tab .metadata .types) c (omega (arith, columns-are)) in
+      sym (asked (λ at b. bind (cellHere at b k c) (λ h. ok (shownOf h))) ∙ rw (w .1, past))
+
+module _ {A B : Type 0} (m : List ℕ) (t : ℕ) (ask : ℕ → Table → Res A) where
+  -- a question after another
+  pub then : (k : A → Res B) → ofTable m t (λ at b. bind (ask at b) k) ≡ bind (ofTable m t ask) k
+  then k = by-message (readMessage 4 m)
+    where
+      by-table : (r : Res Table) (at : ℕ) → bind r (λ b. bind (ask at b) k) ≡ bind (bind r (ask at)) k
+      by-table (ok b) at = refl
+      by-table (no g q) at = refl
+
+      by-message : (r : Res Message) → bind r (λ z. bind (entry (tablesOf z) t) (λ b. bind (ask (tableAt z t) b) k)) ≡ bind (bind r (λ z. bind (entry (tablesOf z) t) (λ b. ask (tableAt z t) b))) k
+      by-message (ok z) = by-table (entry (tablesOf z) t) (tableAt z t)
+      by-message (no g q) = refl
+
+module _ {A B C : Type 0} (m : List ℕ) (t : ℕ) (ask : ℕ → Table → Res A) (g : A → B) (k : A → Res C) where
+  -- an answer that was found by one question serves another
+  pub serves-no : {f : Fault} {p : ℕ} → no f p ≡ ofTable m t (λ at b. bind (ask at b) (λ a. ok (g a))) → no f p ≡ ofTable m t (λ at b. bind (ask at b) k)
+  serves-no e = by-answer (ofTable m t ask) (e ∙ then m t ask (λ a. ok (g a))) ∙ sym (then m t ask k)
+    where
+      by-answer : (r : Res A) {f : Fault} {p : ℕ} → no f p ≡ bind r (λ a. ok (g a)) → no f p ≡ bind r k
+      by-answer (ok a) e = absurd (no-ok e)
+      by-answer (no h q) e = retold e
+
+  pub serves : {b : B} → ok b ≡ ofTable m t (λ at z. bind (ask at z) (λ a. ok (g a))) → (a : A) × (b ≡ g a) × (k a ≡ ofTable m t (λ at z. bind (ask at z) k))
+  serves e =
+      let w = bound (ofTable m t ask) (sym (e ∙ then m t ask (λ a. ok (g a)))) in
+      (w .0, sym (ok-same (w .2)), sym (then m t ask k ∙ ap (λ (r : Res A). bind r k) (w .1)))
+
+-- the part of a cell lies in the message
+pub part-fits : (m : List ℕ) → Bytes m → (t k c : ℕ) {start size : ℕ} → ok (some (start, size)) ≡ ofTable m t (λ at b. bind (cellHere at b k c) (λ h. partOf (h .type-at) (shownHere h))) → start + size ≤ length m
+part-fits m all t k c e =
+    let r = bound (readMessage 4 m) (sym e) in
+    let q = bound (entry (tablesOf (r .0)) t) (r .2) in
+    let at = tableAt (r .0) t in
+    let h = bound (cellHere at (q .0) k c) (q .2) in
+    let v = bound (entry (q .0 .rows) k) (h .1) in
+    let y = bound (entry (q .0 .metadata .types) c) (v .2) in
+    let w = there m (table-stands m all (r .0) (r .1) t (q .1)) k c (entry-below (q .0 .rows) k (v .1)) (entry-below (q .0 .metadata .types) c (y .1)) in
+    let same : h .0 ≡ w .here = ok-same (sym (h .1) ∙ w .is) in
+    part-stands 50 51 (w .here .type) (w .here .type-at) (w .here .value) (w .stands) (rw same at (h .2)) .0

@@ -1,0 +1,60 @@
+-- `query::find_cell` meets its contract: the table's refusal, a row or a column past the end, or the cell.
+use mathlib.Core.Path.{_∙_, sym, ap}
+use native.Mathlib.Omega.{arith}
+use Rattle.format.specs.Result.{ok, bind}
+use Rattle.query.specs.Answers.{toldTable, cellHere, shownOf}
+use Rattle.query.proofs.Opened.{bytes-all, opened, not-opened, asked, row-past, cell-past, types-fit, rows-are, columns-are, types-at, rows-at}
+use borrow.Author.Needs.{needs}
+use Rattle.query.proofs.find_cell.Statement.{statement}
+use Rattle.query.proofs.find_cell.Tie as tie
+
+table-requires : tie.Need-table-requires
+table-requires c κs = search needs
+
+enum-known-answer : tie.Need-enum-known-answer
+enum-known-answer c = search needs
+
+enum-known-answer-2 : tie.Need-enum-known-answer-2
+enum-known-answer-2 c = search needs
+
+shown-at-requires : tie.Need-shown-at-requires
+shown-at-requires c κs =
+    let a = c .before .before .before .before .before .before .before .before .before .args in
+    let o = opened (a .m .now) (bytes-all (a .m .now) (λ k. omega (arith, c .before .before .before .before .before .before .before .before .shared-slice-known .given k))) (a .t) (sym (ap toldTable (c .before .before .before .before .before .answer2 .given .1)) ∙ c .before .before .before .before .before .before .before .table .ensures) in
+    types-fit o (a .c) (omega arith)
+
+returns : tie.Need-returns
+returns c =
+    let a = c .before .before .before .before .before .args in
+    not-opened (a .m .now) (a .t) (λ at b. bind (cellHere at b (a .k) (a .c)) (λ h. ok (shownOf h))) (sym (ap toldTable (c .before .answer .given .1)) ∙ c .before .before .before .table .ensures)
+
+returns-2 : tie.Need-returns-2
+returns-2 c =
+    let a = c .before .before .before .before .before .before .before .args in
+    let o = opened (a .m .now) (bytes-all (a .m .now) (λ k. omega (arith, c .before .before .before .before .before .before .shared-slice-known .given k))) (a .t) (sym (ap toldTable (c .before .before .before .answer2 .given .1)) ∙ c .before .before .before .before .before .table .ensures) in
+    row-past o (a .k) (a .c) (c .if1 .taken)
+
+returns-3 : tie.Need-returns-3
+returns-3 c =
+    let a = c .before .before .before .before .before .before .before .before .before .args in
+    let o = opened (a .m .now) (bytes-all (a .m .now) (λ k. omega (arith, c .before .before .before .before .before .before .before .before .shared-slice-known .given k))) (a .t) (sym (ap toldTable (c .before .before .before .before .before .answer2 .given .1)) ∙ c .before .before .before .before .before .before .before .table .ensures) in
+    cell-past o (a .k) (a .c) (omega arith) (c .if2 .taken)
+
+returns-4 : tie.Need-returns-4
+returns-4 c =
+    let a = c .before .before .before .before .before .before .before .before .before .before .args in
+    let o = opened (a .m .now) (bytes-all (a .m .now) (λ k. omega (arith, c .before .before .before .before .before .before .before .before .before .shared-slice-known .given k))) (a .t) (sym (ap toldTable (c .before .before .before .before .before .before .answer2 .given .1)) ∙ c .before .before .before .before .before .before .before .before .table .ensures) in
+    c .shown-at .ensures _ (o .tab) (o .stands) (types-at o) (rows-at o) (omega (arith, rows-are o)) (omega (arith, columns-are o)) ∙ sym (asked o (λ at b. bind (cellHere at b (a .k) (a .c)) (λ h. ok (shownOf h))))
+
+pub find-cell-spec : {M : Type 1} → statement M
+find-cell-spec =
+    tie.close
+    (tie.spec
+    table-requires
+    enum-known-answer
+    enum-known-answer-2
+    shown-at-requires
+    returns
+    returns-2
+    returns-3
+    returns-4)

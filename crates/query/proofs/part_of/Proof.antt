@@ -1,0 +1,64 @@
+-- `query::part_of` meets its contract, case by case.
+use mathlib.Core.Path.{sym, ap}
+use Rattle.query.specs.Answers.{partOf}
+use Rattle.query.proofs.Parts.{other-cell}
+use borrow.Author.Needs.{needs}
+use Rattle.query.proofs.part_of.Statement.{statement}
+use Rattle.query.proofs.part_of.Tie as tie
+
+enum-known-cell : tie.Need-enum-known-cell
+enum-known-cell c = search needs
+
+enum-known-cell-2 : tie.Need-enum-known-cell-2
+enum-known-cell-2 c = search needs
+
+enum-known-cell-3 : tie.Need-enum-known-cell-3
+enum-known-cell-3 c = search needs
+
+enum-told : tie.Need-enum-told
+enum-told c = search needs
+
+enum-told-2 : tie.Need-enum-told-2
+enum-told-2 c = search needs
+
+enum-told-3 : tie.Need-enum-told-3
+enum-told-3 c = search needs
+
+returns : tie.Need-returns
+returns c = sym (ap (partOf _) (c .before .cell .given .1))
+
+returns-2 : tie.Need-returns-2
+returns-2 c = sym (ap (partOf _) (c .before .cell2 .given .1))
+
+returns-3 : tie.Need-returns-3
+returns-3 c = sym (ap (partOf _) (c .before .cell3 .given .1))
+
+returns-4 : tie.Need-returns-4
+returns-4 c = search needs
+
+returns-5 : tie.Need-returns-5
+returns-5 c = search needs
+
+returns-6 : tie.Need-returns-6
+returns-6 c = search needs
+
+returns-7 : tie.Need-returns-7
+returns-7 c = other-cell (c .before .args .place) (c .before .args .cell) (c .match .keys7)
+
+pub part-of-spec : {M : Type 1} → statement M
+part-of-spec =
+    tie.close
+    (tie.spec
+    enum-known-cell
+    enum-known-cell-2
+    enum-known-cell-3
+    enum-told
+    enum-told-2
+    enum-told-3
+    returns
+    returns-2
+    returns-3
+    returns-4
+    returns-5
+    returns-6
+    returns-7)

@@ -1,0 +1,48 @@
+-- Where things stand in a response. Each stands where the message would end if it were cut there: after the encoding of what comes before it.
+-- Lengths and counts have the same size whatever they say, so nothing else decides a place, and no layout is restated here.
+use Prim.Native.Nat.{ℕ, _+_}
+use mathlib.Core.List.{List, []}
+use lib.ListN.{length, take}
+use Rattle.format.specs.Value.{Value}
+use Rattle.format.specs.Message.{Metadata, metadata, row, Table, table, Response, Message, response-of, aResponse, messageBytes}
+
+-- the tables of a response, and the same response with other tables
+abbrev pub tablesOf : Message → List Table
+tablesOf r = response-of (r .content) .tables
+
+abbrev pub retabled : Response → List Table → Response
+retabled p l = record {
+  client = p .client;
+  flags = p .flags;
+  status = p .status;
+  statusString = p .statusString;
+  appStatus = p .appStatus;
+  appString = p .appString;
+  roundTrip = p .roundTrip;
+  exception = p .exception;
+  tables = l;
+}
+
+-- table t: after the tables before it
+unfoldable pub tableAt : Message → ℕ → ℕ
+tableAt r t = length (messageBytes 4 (record { version = r .version; content = aResponse (retabled (response-of (r .content)) (take t (tablesOf r))) }))
+
+-- in a table at a place, after its length: its metadata
+abbrev pub metadataAt : ℕ → ℕ
+metadataAt at = at + 4
+
+-- the type byte of column c: after the types before it
+unfoldable pub typeAt : ℕ → Metadata → ℕ → ℕ
+typeAt at d c = metadataAt at + length (metadata .bytes (record { status = d .status; types = take c (d .types); names = [] }))
+
+-- the name of column c, from its length on: after all types and the names before it
+unfoldable pub nameAt : ℕ → Metadata → ℕ → ℕ
+nameAt at d c = metadataAt at + length (metadata .bytes (record { status = d .status; types = d .types; names = take c (d .names) }))
+
+-- row k, from its length on: after the metadata, the row count and the rows before it
+unfoldable pub rowAt : ℕ → Table → ℕ → ℕ
+rowAt at b k = at + length (table .bytes (record { metadata = b .metadata; rows = take k (b .rows) }))
+
+-- cell c of a row at a place: after the row's length and the cells before it
+unfoldable pub cellAt : ℕ → List ℕ → List Value → ℕ → ℕ
+cellAt at types cells c = at + length (row types .bytes (take c cells))

@@ -1,0 +1,487 @@
+// Questions about an accepted message.
+use format::Fault;
+use format::Refusal;
+use message::Verdict;
+use scan::Body;
+use scan::Byte;
+use scan::Next;
+use scan::Number;
+use show::Shown;
+ghost use mathlib.Core.Path.{_≡_};
+ghost use mathlib.Core.Bool.{false};
+ghost use lib.ListN.{length, replicate, take, drop};
+ghost use Rattle.format.specs.Format.{each, counted};
+ghost use Rattle.format.specs.Value.{anything};
+ghost use Rattle.format.specs.Message.{first, unlimited};
+ghost use Rattle.scan.specs.Shown.{shownNext, bodyEnd};
+ghost use Prim.Native.Nat.{ℕ, _+_, _<_, _≤_, min};
+ghost use Rattle.format.specs.Format.{number};
+ghost use Rattle.format.specs.Message.{Table, table};
+ghost use Rattle.scan.specs.Shown.{shownNumber, shownByte};
+ghost use Rattle.query.specs.Shown.{pastOf, numberIn, byteIn, cellIn};
+ghost use Rattle.query.specs.Stands.{Stands};
+ghost use mathlib.Core.List.{List, map};
+ghost use mathlib.Core.Option.{Option};
+ghost use Rattle.format.specs.Value.{string, ascii, value};
+ghost use Rattle.format.specs.Result.{ok, bind};
+ghost use Rattle.query.specs.Places.{tablesOf, tableAt, typeAt, nameAt, rowAt};
+ghost use Rattle.format.specs.Message.{third, Message, readMessage};
+ghost use Rattle.message.specs.Inner.{head};
+ghost use Rattle.query.specs.Answers.{layoutOf, firstNamed, toldPosition, cellHere, spotOf, shownOf, columnOf, partOf, toldPart, partIn, toldCount, toldTable, toldColumn, toldCell, toldFound, ofTable, entry, shownHere};
+
+// Where a reading ended that can't fail.
+fn past(a: Next) -> usize
+    ensures { λ r. ⌜ r ≡ pastOf a ⌝ }
+{
+    match a {
+        Next::At(next) => next,
+        Next::No(_) => 0,
+    }
+}
+
+// The number that was read where that can't fail.
+fn number_in(a: Number) -> usize
+    ensures { λ r. ⌜ r ≡ numberIn a ⌝ }
+{
+    match a {
+        Number::Is(n, _) => n as usize,
+        Number::No(_) => 0,
+    }
+}
+
+fn body_end(b: Body) -> Next
+    ensures { λ r. ⌜ r ≡ bodyEnd b ⌝ }
+{
+    match b {
+        Body::Is(_, end) => Next::At(end),
+        Body::Null(next) => Next::At(next),
+        Body::No(r) => Next::No(r),
+    }
+}
+
+// Past a thing that begins with its length, by that alone.
+fn skip_sized(s: &[u8], at: usize) -> Next
+    ensures { λ r. ⌜ r ≡ shownNext (counted false unlimited anything 0 0 .read (now (s .entry)) at) ⌝ }
+{
+    body_end(scan::read_body(s, at, false, format::UNLIMITED))
+}
+
+// Past n things that begin with their length, by their lengths alone.
+fn jump(s: &[u8], from: usize, n: usize) -> Next
+    ensures { λ r. ⌜ r ≡ shownNext (each first 0 (replicate n (counted false unlimited anything 0 0)) .read (now (s .entry)) from) ⌝ }
+{
+    let mut at = from;
+    let mut i = 0;
+    while i < n {
+        let step = skip_sized(s, at);
+        let Next::At(next) = step else {
+            return Next::No(scan::next_refusal(step));
+        };
+        at = next;
+        i += 1;
+    }
+    Next::At(at)
+}
+
+fn byte_in(a: Byte) -> u8
+    ensures { λ r. ⌜ r ≡ byteIn a ⌝ }
+{
+    match a {
+        Byte::Is(b, _) => b,
+        Byte::No(_) => 0,
+    }
+}
+
+// Past n bytes that are there.
+fn after(m: &[u8], at: usize, n: usize) -> usize
+    ensures { λ r. ⌜ r ≡ pastOf (shownNext (number n 0 .read (now (m .entry)) at)) ⌝ }
+{
+    past(scan::skip_fixed(m, at, n))
+}
+
+// Past n things that begin with their length and are there.
+fn over(m: &[u8], at: usize, n: usize) -> usize
+    ensures { λ r. ⌜ r ≡ pastOf (shownNext (each first 0 (replicate n (counted false unlimited anything 0 0)) .read (now (m .entry)) at)) ⌝ }
+{
+    past(jump(m, at, n))
+}
+
+// The count of k bytes that is there.
+fn count_at(m: &[u8], at: usize, k: usize) -> usize
+    ensures { λ r. ⌜ r ≡ numberIn (shownNumber (number (min k 8) 0 .read (now (m .entry)) at)) ⌝ }
+{
+    number_in(scan::read_number(m, at, k))
+}
+
+// The byte that is there.
+fn byte_at(m: &[u8], at: usize) -> u8
+    ensures { λ r. ⌜ r ≡ byteIn (shownByte (number 1 0 .read (now (m .entry)) at)) ⌝ }
+{
+    byte_in(scan::read_byte(m, at))
+}
+
+// What a table says of itself: its status, how many columns and rows it has, and where it and its parts stand.
+pub struct TableLayout {
+    pub status: u8,
+    pub columns: usize,
+    pub rows: usize,
+    // its length field, and the place after its last byte
+    pub at: usize,
+    pub end: usize,
+    // its first column's type, its first column's name (the length field), its first row (the length field)
+    pub types: usize,
+    pub names: usize,
+    pub first_row: usize,
+}
+
+// The table at a place.
+fn layout_at(m: &[u8], at: usize) -> TableLayout
+    ensures { λ r. ⌜ ((b : Table) → Stands table (now (m .entry)) at b → r ≡ layoutOf at b) ⌝ }
+{
+    let end = over(m, at, 1);
+    let inner = after(m, at, 4);
+    let described = after(m, inner, 4);
+    let status = byte_at(m, described);
+    let counted = after(m, described, 1);
+    let columns = count_at(m, counted, 2);
+    let types = after(m, counted, 2);
+    let names = after(m, types, columns);
+    let row_count = over(m, inner, 1);
+    let rows = count_at(m, row_count, 4);
+    let first_row = after(m, row_count, 4);
+    TableLayout {
+        status,
+        columns,
+        rows,
+        at,
+        end,
+        types,
+        names,
+        first_row,
+    }
+}
+
+// The position of a column.
+pub enum Position {
+    At(usize),
+    No(Refusal),
+}
+
+// The first of some names, from a place on, that is equal to a name.
+fn search(m: &[u8], from: usize, count: usize, name: &[u8]) -> Position
+    ensures { λ r. ⌜ ((names : List (Option (List ℕ))) → Stands (each third 0 (replicate count (string false ascii 46 47))) (now (m .entry)) from names
+        → toldPosition r ≡ firstNamed (now (name .entry)) names 0) ⌝ }
+{
+    let mut at = from;
+    let mut i = 0;
+    'columns: while i < count {
+        let body = scan::read_body(m, at, false, format::UNLIMITED);
+        let Body::Is(start, end) = body else {
+            return Position::No(Refusal {
+                fault: Fault::NoColumn,
+                place: 0,
+            });
+        };
+        if end - start != name.len() {
+            at = end;
+            i += 1;
+            continue 'columns;
+        }
+        let mut j = 0;
+        'bytes: loop {
+            if j == name.len() {
+                break 'columns;
+            }
+            if m[start + j] != name[j] {
+                break 'bytes;
+            }
+            j += 1;
+        }
+        at = end;
+        i += 1;
+    }
+    if i < count {
+        Position::At(i)
+    } else {
+        Position::No(Refusal {
+            fault: Fault::NoColumn,
+            place: 0,
+        })
+    }
+}
+
+// Past the first c cells of a row, by the types that stand at a place.
+fn skip_front(m: &[u8], from: usize, types: usize, c: usize) -> Next
+    requires { ⌜ types + c ≤ length (now m) ⌝ }
+    ensures { λ r. ⌜ r ≡ shownNext (each third 0 (map (value 50 51) (take c (drop types (now (m .entry))))) .read (now (m .entry)) from) ⌝ }
+{
+    let end = types + c;
+    scan::skip_cells(m, from, &m[types..end])
+}
+
+// The type of a cell, where that type stands, and where the cell does.
+struct Spot {
+    wire_type: u8,
+    type_at: usize,
+    at: usize,
+}
+
+// The cell at row k and column c of a table, by where its types and rows begin.
+fn spot_at(m: &[u8], types: usize, rows: usize, k: usize, c: usize) -> Spot
+    requires { ⌜ types + c ≤ length (now m) ⌝ }
+    ensures { λ r. ⌜ ((at : ℕ) (b : Table) → Stands table (now (m .entry)) at b → types ≡ typeAt at (b .metadata) 0 → rows ≡ rowAt at b 0
+        → k < length (b .rows) → c < length (b .metadata .types) → ok r ≡ bind (cellHere at b k c) (λ h. ok (spotOf h))) ⌝ }
+{
+    let type_at = after(m, types, c);
+    let wire_type = byte_at(m, type_at);
+    let row = over(m, rows, k);
+    let cells = after(m, row, 4);
+    let at = past(skip_front(m, cells, types, c));
+    Spot {
+        wire_type,
+        type_at,
+        at,
+    }
+}
+
+fn cell_in(a: Shown) -> show::Cell
+    ensures { λ r. ⌜ r ≡ cellIn a ⌝ }
+{
+    match a {
+        Shown::Is(cell, _) => cell,
+        Shown::No(_) => show::Cell::NullText,
+    }
+}
+
+// A cell, and where its column's type stands.
+struct ShownCell {
+    cell: show::Cell,
+    type_at: usize,
+}
+
+// The cell at row k and column c of a table, shown.
+fn shown_at(m: &[u8], types: usize, rows: usize, k: usize, c: usize) -> ShownCell
+    requires { ⌜ types + c ≤ length (now m) ⌝ }
+    ensures { λ r. ⌜ ((at : ℕ) (b : Table) → Stands table (now (m .entry)) at b → types ≡ typeAt at (b .metadata) 0 → rows ≡ rowAt at b 0
+        → k < length (b .rows) → c < length (b .metadata .types) → ok r ≡ bind (cellHere at b k c) (λ h. ok (shownOf h))) ⌝ }
+{
+    let spot = spot_at(m, types, rows, k, c);
+    let cell = cell_in(show::read_value(m, spot.at, spot.wire_type));
+    ShownCell {
+        cell,
+        type_at: spot.type_at,
+    }
+}
+
+// What a column says of itself: its type and where that stands, where its name starts and how long it is.
+pub struct ColumnLayout {
+    pub wire_type: u8,
+    pub type_at: usize,
+    pub name: usize,
+    pub name_length: usize,
+}
+
+// The column at a position, by where types and names begin.
+fn column_at(m: &[u8], types: usize, names: usize, c: usize) -> ColumnLayout
+    ensures { λ r. ⌜ ((at : ℕ) (b : Table) → Stands table (now (m .entry)) at b → types ≡ typeAt at (b .metadata) 0 → names ≡ nameAt at (b .metadata) 0
+        → c < length (b .metadata .types) → ok r ≡ columnOf at b c) ⌝ }
+{
+    let type_at = after(m, types, c);
+    let wire_type = byte_at(m, type_at);
+    let named = over(m, names, c);
+    let name_length = count_at(m, named, 4);
+    let name = after(m, named, 4);
+    ColumnLayout {
+        wire_type,
+        type_at,
+        name,
+        name_length,
+    }
+}
+
+// A part of the message: where it starts and how long it is; or null.
+pub enum Part {
+    Is(usize, usize),
+    Null,
+    No(Refusal),
+}
+
+// The part of the message that a cell is, if it is text, bytes or a geography.
+fn part_of(cell: show::Cell, place: usize) -> Part
+    ensures { λ r. ⌜ toldPart r ≡ partOf place cell ⌝ }
+{
+    match cell {
+        show::Cell::Text(start, size) => Part::Is(start, size),
+        show::Cell::Binary(start, size) => Part::Is(start, size),
+        show::Cell::Geography(start, size) => Part::Is(start, size),
+        show::Cell::NullText => Part::Null,
+        show::Cell::NullBinary => Part::Null,
+        show::Cell::NullGeography => Part::Null,
+        _ => Part::No(Refusal {
+            fault: Fault::WireType,
+            place,
+        }),
+    }
+}
+
+const PAST_END: Refusal = Refusal {
+    fault: Fault::PastEnd,
+    place: 0,
+};
+
+// Where the count of a response's tables stands.
+fn tables_counted(m: &[u8]) -> usize
+    ensures { λ r. ⌜ r ≡ pastOf (shownNext (head .read (now (m .entry)) 5)) ⌝ }
+{
+    past(message::skip_head(m, 5))
+}
+
+// How many there are.
+pub enum Count {
+    Is(usize),
+    No(Refusal),
+}
+
+// How many tables a response has.
+pub fn tables(m: &[u8]) -> Count
+    ensures { λ r. ⌜ toldCount r ≡ bind (readMessage 4 (now (m .entry))) (λ p. ok (length (tablesOf p))) ⌝ }
+{
+    let verdict = message::accept(4, m);
+    match verdict {
+        Verdict::No(r) => Count::No(r),
+        Verdict::Fine => Count::Is(count_at(m, tables_counted(m), 2)),
+    }
+}
+
+// A table's layout.
+pub enum TableAnswer {
+    Is(TableLayout),
+    No(Refusal),
+}
+
+// Table t of an accepted response.
+fn table_in(m: &[u8], t: usize) -> TableAnswer
+    ensures { λ r. ⌜ ((p : Message) → readMessage 4 (now (m .entry)) ≡ ok p → toldTable r ≡ bind (entry (tablesOf p) t) (λ b. ok (layoutOf (tableAt p t) b))) ⌝ }
+{
+    let counted = tables_counted(m);
+    if count_at(m, counted, 2) <= t {
+        return TableAnswer::No(PAST_END);
+    }
+    let first = after(m, counted, 2);
+    TableAnswer::Is(layout_at(m, over(m, first, t)))
+}
+
+// What table t of a response says of itself, and where it and its parts stand.
+pub fn table(m: &[u8], t: usize) -> TableAnswer
+    ensures { λ r. ⌜ toldTable r ≡ ofTable (now (m .entry)) t (λ at b. ok (layoutOf at b)) ⌝ }
+{
+    let verdict = message::accept(4, m);
+    match verdict {
+        Verdict::No(r) => TableAnswer::No(r),
+        Verdict::Fine => table_in(m, t),
+    }
+}
+
+// A column's layout.
+pub enum ColumnAnswer {
+    Is(ColumnLayout),
+    No(Refusal),
+}
+
+// What column c of table t says of itself.
+pub fn column(m: &[u8], t: usize, c: usize) -> ColumnAnswer
+    ensures { λ r. ⌜ toldColumn r ≡ ofTable (now (m .entry)) t (λ at b. columnOf at b c) ⌝ }
+{
+    let answer = table(m, t);
+    match answer {
+        TableAnswer::No(r) => ColumnAnswer::No(r),
+        TableAnswer::Is(layout) => {
+            if layout.columns <= c {
+                ColumnAnswer::No(PAST_END)
+            } else {
+                ColumnAnswer::Is(column_at(m, layout.types, layout.names, c))
+            }
+        }
+    }
+}
+
+// The position of the first column of table t whose name is equal, bytes compared exactly.
+pub fn find_column(m: &[u8], t: usize, name: &[u8]) -> Position
+    ensures { λ r. ⌜ toldPosition r ≡ ofTable (now (m .entry)) t (λ at b. firstNamed (now (name .entry)) (b .metadata .names) 0) ⌝ }
+{
+    let answer = table(m, t);
+    match answer {
+        TableAnswer::No(r) => Position::No(r),
+        TableAnswer::Is(layout) => search(m, layout.names, layout.columns, name),
+    }
+}
+
+// A cell and its column's type, or a refusal.
+enum FoundCell {
+    Is(ShownCell),
+    No(Refusal),
+}
+
+fn find_cell(m: &[u8], t: usize, k: usize, c: usize) -> FoundCell
+    ensures { λ r. ⌜ toldFound r ≡ ofTable (now (m .entry)) t (λ at b. bind (cellHere at b k c) (λ h. ok (shownOf h))) ⌝ }
+{
+    let answer = table(m, t);
+    match answer {
+        TableAnswer::No(r) => FoundCell::No(r),
+        TableAnswer::Is(layout) => {
+            if layout.rows <= k {
+                FoundCell::No(PAST_END)
+            } else if layout.columns <= c {
+                FoundCell::No(PAST_END)
+            } else {
+                FoundCell::Is(shown_at(m, layout.types, layout.first_row, k, c))
+            }
+        }
+    }
+}
+
+// A cell, shown by its column's type.
+pub enum CellAnswer {
+    Is(show::Cell),
+    No(Refusal),
+}
+
+// The cell at row k and column c of table t.
+pub fn cell(m: &[u8], t: usize, k: usize, c: usize) -> CellAnswer
+    ensures { λ r. ⌜ toldCell r ≡ ofTable (now (m .entry)) t (λ at b. bind (cellHere at b k c) (λ h. ok (shownHere h))) ⌝ }
+{
+    let found = find_cell(m, t, k, c);
+    match found {
+        FoundCell::No(r) => CellAnswer::No(r),
+        FoundCell::Is(shown) => {
+            let cell = shown.cell;
+            CellAnswer::Is(cell)
+        }
+    }
+}
+
+// Where the bytes of a text or binary cell stand, or that it is null.
+pub fn cell_span(m: &[u8], t: usize, k: usize, c: usize) -> Part
+    ensures { λ r. ⌜ toldPart r ≡ ofTable (now (m .entry)) t (λ at b. bind (cellHere at b k c) (λ h. partOf (h .type-at) (shownHere h))) ⌝ }
+{
+    let found = find_cell(m, t, k, c);
+    match found {
+        FoundCell::No(r) => Part::No(r),
+        FoundCell::Is(shown) => {
+            let cell = shown.cell;
+            part_of(cell, shown.type_at)
+        }
+    }
+}
+
+// The bytes of a text or binary cell, as that part of the message; the empty part for any other answer of `cell_span`.
+pub fn cell_part(m: &[u8], t: usize, k: usize, c: usize) -> &[u8]
+    ensures { λ r. ⌜ now r ≡ partIn (now (m .entry)) (ofTable (now (m .entry)) t (λ at b. bind (cellHere at b k c) (λ h. partOf (h .type-at) (shownHere h)))) ⌝ }
+{
+    let span = cell_span(m, t, k, c);
+    let Part::Is(start, size) = span else {
+        return &m[0..0];
+    };
+    let end = start + size;
+    &m[start..end]
+}

@@ -1,0 +1,214 @@
+-- What a walk over a value lists, by how its format is made: each law here makes the walk over a format from walks over its parts.
+use Prim.Native.Nat.{ℕ, zero, suc, _+_, _-_, min, _≤_, _<_}
+use mathlib.Core.Path.{_≡_, refl, sym, _∙_, ap, subst}
+use mathlib.Core.Bool.{Bool, true, false, _&&_}
+use mathlib.Core.List.{List, [], _∷_, _++_}
+use mathlib.Core.Option.{Option, some, none, Option·getD}
+use lib.ListN.{length, take, drop, getD, length-drop}
+use lib.Seq.{length-take-le}
+use lib.Dec.{leb, ltb, eqb}
+use mir.Val.{Fits}
+use mir.Syntax.{w8}
+use native.Mathlib.Omega.{arith}
+use borrow.Author.Tests.{leb-true, leb-false, ltb-false, eqb-true, le-leb}
+use Rattle.format.specs.declared.Fault.{Fault}
+use Rattle.format.specs.declared.Fault.the-variants.{Short, Negative, Limit}
+use Rattle.format.specs.Result.{Res, ok, no, bind, pick}
+use Rattle.format.specs.Number.{numAt, Bytes, half, null4}
+use Rattle.format.specs.Format.{Format, Index, Entry, piece, number, block, nothing, ruled, room, into, both, present, counted, Verdict, fine, bad, judged}
+use Rattle.format.proofs.Results.{ok-same, no-ok, passed, spared, bound, and-true-both}
+use Rattle.format.proofs.Numbers.{Bytes-take}
+use Rattle.format.proofs.Took.{took-fits}
+use Rattle.format.proofs.Laws.{Lawful}
+use Rattle.format.proofs.Looks.{looks-longer}
+use Rattle.format.specs.declared.Refusal.{Refusal}
+use Rattle.scan.specs.declared.Number.{Number}
+use Rattle.scan.specs.declared.Byte.{Byte}
+use Rattle.scan.specs.declared.Next.{Next}
+use Rattle.scan.specs.Shown.{shownNumber, shownNext, shownByte}
+use Rattle.scan.proofs.Answers.{took}
+use Rattle.tour.specs.declared.Tour.{Tour}
+use Rattle.tour.specs.declared.Indices.{Indices}
+use Rattle.tour.specs.Tour.{State, stateOf, indexOf, visited, Listed, Toured}
+use Rattle.tour.proofs.Visits.{visited-both}
+
+module _ {A : Type 0} (f : Format A) (s : List ℕ) (ix : Index) (tour : Tour) (out : List ℕ) (after : Tour) (written : List ℕ) where
+  -- what a walk does for the value and the end that a reading gave
+  abbrev pub Shows : A × ℕ → Type 0
+  Shows w = (after .at ≡ w .1) × (stateOf after written ≡ visited (stateOf tour out) (f .fields ix (tour .at) (w .0)))
+
+  pub shows : {v w : A × ℕ} → ok v ≡ ok w → Shows v → Shows w
+  shows e h = subst Shows (ok-same e) h
+
+module _ (s : List ℕ) {ix : Index} {tour : Tour} {out : List ℕ} {after : Tour} {written : List ℕ} where
+  -- bytes as they are, and a number
+  pub toured-block : (n field : ℕ) → Toured (number n field) s ix tour out after written → Toured (block n field) s ix tour out after written
+  unfolding number block
+  toured-block n field t = record {
+    goes = λ a next e.
+        let h = passed (leb (tour .at + n) (length s)) _ _ e in
+        let w = t .goes (numAt n s (tour .at)) (tour .at + n) (rw (h .0)) in
+        shows (block n field) s ix tour out after written (h .1) w;
+  }
+
+  pub toured-ruled : {A : Type 0} (test : A → Bool) (fault : Fault) {f : Format A} → Toured f s ix tour out after written → Toured (ruled test fault f) s ix tour out after written
+  unfolding ruled
+  toured-ruled test fault {f} t = record {
+    goes = λ a next e.
+        let r = bound (f .read s (tour .at)) e in
+        let h = passed (test (r .0 .0)) _ _ (r .2) in
+        shows (ruled test fault f) s ix tour out after written (h .1) (t .goes (r .0 .0) (r .0 .1) (r .1));
+  }
+
+  pub toured-into : {A B : Type 0} (to : A → B) (from : B → A) {f : Format A} → Bytes s → Lawful f → ((a : A) → f .Good a → from (to a) ≡ a)
+      → Toured f s ix tour out after written → Toured (into to from f) s ix tour out after written
+  unfolding into
+  toured-into {A} {B} to from {f} b l back t = record {
+    goes = λ a next e.
+        let r = bound (f .read s (tour .at)) e in
+        let w = t .goes (r .0 .0) (r .0 .1) (r .1) in
+        let same : from (to (r .0 .0)) ≡ r .0 .0 = back (r .0 .0) (l .sound s b (tour .at) (r .0 .0) (r .0 .1) (r .1) .0) in
+        let known : (z : A) → z ≡ r .0 .0 → stateOf after written ≡ visited (stateOf tour out) (f .fields ix (tour .at) z) = λ z i. rw i (w .1) in
+        shows (into to from f) s ix tour out after written (r .2) (w .0, known _ same);
+  }
+
+-- a number, to the place past its bytes
+module _ (s : List ℕ) {tour : Tour} {out : List ℕ} {after : Tour} {written : List ℕ} where
+  pub toured-number : (k field : ℕ) {ix : Indices} {end : ℕ} → (tour .at + k ≤ length s → end ≡ tour .at + k) → Listed field ix tour out end after written
+      → Toured (number k field) s (indexOf ix) tour out after written
+  unfolding number
+  toured-number k field {ix} {end} far l = record {
+    goes = λ a next e.
+        let h = passed (leb (tour .at + k) (length s)) _ _ e in
+        let there : end ≡ tour .at + k = far (leb-true _ _ (h .0)) in
+        let size : end - tour .at ≡ k = omega arith in
+        shows (number k field) s (indexOf ix) tour out after written (h .1) (l .place ∙ there, rw (← size) (l .state));
+  }
+
+-- nothing, which leaves the tour as it is
+module _ (s : List ℕ) {ix : Index} (tour : Tour) (out : List ℕ) where
+  pub toured-nothing : {A : Type 0} (a : A) → Toured (nothing a) s ix tour out tour out
+  unfolding nothing visited
+  toured-nothing a = record { goes = λ v next e. shows (nothing a) s ix tour out tour out e (refl, refl) }
+
+-- one value and then another
+module _ {s : List ℕ} (b : Bytes s) {ix : Index} {tour : Tour} {out : List ℕ} {mid : Tour} {half : List ℕ} {after : Tour} {written : List ℕ} where
+  pub toured-both : {A B : Type 0} {f : Format A} {g : A → Format B} → Lawful f → Toured f s ix tour out mid half
+      → ((a : A) (n : ℕ) → f .read s (tour .at) ≡ ok (a, n) → Toured (g a) s ix mid half after written) → Toured (both f g) s ix tour out after written
+  unfolding both
+  toured-both {A} {B} {f} {g} l t u = record {
+    goes = λ v next e.
+        let r = bound (f .read s (tour .at)) e in
+        let a = r .0 .0 in
+        let q = bound (g a .read s (r .0 .1)) (r .2) in
+        let x = t .goes a (r .0 .1) (r .1) in
+        let y = u a (r .0 .1) (r .1) .goes (q .0 .0) (q .0 .1) (rw (x .0) (q .1)) in
+        let far : mid .at ≡ tour .at + length (f .bytes a) = x .0 ∙ l .sound s b (tour .at) a (r .0 .1) (r .1) .1 .far in
+        shows (both f g) s ix tour out after written (q .2) (y .0, rw (visited-both, ← far, ← x .1) (y .1));
+  }
+
+-- a length and a body, read: null, or n bytes after the length
+pub record Null (s : List ℕ) (at : ℕ) (v : Option (List ℕ)) (next : ℕ) : Type 0 where
+  pub none-there : v ≡ none
+  pub end : next ≡ at + 4
+
+pub record Some (s : List ℕ) (at n : ℕ) (v : Option (List ℕ)) (next : ℕ) : Type 0 where
+  pub body : List ℕ
+  pub there : v ≡ some body
+  pub size : length body ≡ n
+  pub fit : at + 4 + n ≤ length s
+  pub end : next ≡ at + 4 + n
+
+fair : (v : Verdict) (bs : List ℕ) (end at : ℕ) (w : Option (List ℕ) × ℕ) → judged v (bs, end) at ≡ ok w → ok (some bs, end) ≡ ok w
+fair fine bs end at w e = e
+fair (bad f n) bs end at w e = absurd (no-ok e)
+
+module _ (most : ℕ) (rule : List ℕ → Verdict) (s : List ℕ) (at n next : ℕ) (v : Option (List ℕ)) where
+  abbrev tests : Bool → Res (Option (List ℕ) × ℕ)
+  tests t =
+      pick t (ok (none, at + 4))
+      (pick (leb (half 4) n) (no Negative at)
+      (pick (ltb most n) (no Limit at)
+      (pick (ltb (length s) (at + 4 + n)) (no Short at)
+      (judged (rule (take n (drop (at + 4) s))) (take n (drop (at + 4) s), at + 4 + n) at))))
+
+  is-null : (t : Bool) → n ≡ null4 → tests t ≡ ok (v, next) → Null s at v next
+  is-null true z e = record { none-there = sym (ap (λ (w : Option (List ℕ) × ℕ). w .0) (ok-same e)); end = sym (ap (λ (w : Option (List ℕ) × ℕ). w .1) (ok-same e)) }
+  is-null false z e =
+      let h = spared (leb (half 4) n) _ _ e in
+      absurd (omega (arith, leb-false (half 4) n (h .0)))
+
+  is-some : (nullable t : Bool) → nullable && eqb n null4 ≡ t → (n ≡ null4 → ⊥) → tests t ≡ ok (v, next) → Some s at n v next
+  is-some nullable true i z e = absurd (z (eqb-true n null4 (and-true-both nullable (eqb n null4) i .1)))
+  is-some nullable false i z e =
+      let t₁ = spared (leb (half 4) n) _ _ e in
+      let t₂ = spared (ltb most n) _ _ (t₁ .1) in
+      let t₃ = spared (ltb (length s) (at + 4 + n)) _ _ (t₂ .1) in
+      let fit : at + 4 + n ≤ length s = ltb-false (length s) (at + 4 + n) (t₃ .0) in
+      let bs = take n (drop (at + 4) s) in
+      let same = ok-same (fair (rule bs) bs (at + 4 + n) at (v, next) (t₃ .1)) in
+      record {
+        body = bs;
+        there = sym (ap (λ (w : Option (List ℕ) × ℕ). w .0) same);
+        size = length-take-le n (drop (at + 4) s) (simp length-drop (omega arith));
+        fit = fit;
+        end = sym (ap (λ (w : Option (List ℕ) × ℕ). w .1) same);
+      }
+
+-- a counted body, whether it may be null or not and whatever its rule: n is what stands for its length
+module _ (s : List ℕ) {ix : Index} {tour : Tour} {out : List ℕ} {mid : Tour} {written : List ℕ} (nullable : Bool) (most : ℕ) (rule : List ℕ → Verdict) (l b n : ℕ)
+    (told : (m next : ℕ) → number 4 0 .read s (tour .at) ≡ ok (m, next) → n ≡ m) (t : Toured (number 4 l) s ix tour out mid written) where
+  pub toured-null : n ≡ null4 → Toured (counted nullable most rule l b) s ix tour out mid written
+  unfolding counted number
+  toured-null z = record {
+    goes = λ v next e.
+        let r = bound (number 4 l .read s (tour .at)) e in
+        let same : n ≡ r .0 .0 = told (r .0 .0) (r .0 .1) (r .1) in
+        let w = is-null most rule s (tour .at) (r .0 .0) next v (nullable && eqb (r .0 .0) null4) (sym same ∙ z) (r .2) in
+        let x = t .goes (r .0 .0) (r .0 .1) (r .1) in
+        let place = took 4 l s (tour .at) (r .0 .0) (r .0 .1) (r .1) .place in
+        (x .0 ∙ place ∙ sym (w .end), rw (w .none-there) (x .1));
+  }
+
+  pub toured-some : {after : Tour} {more : List ℕ} → (n ≡ null4 → ⊥) → Toured (number n b) s ix mid written after more → Toured (counted nullable most rule l b) s ix tour out after more
+  unfolding counted number
+  toured-some {after} {more} z u = record {
+    goes = λ v next e.
+        let r = bound (number 4 l .read s (tour .at)) e in
+        let same : n ≡ r .0 .0 = told (r .0 .0) (r .0 .1) (r .1) in
+        let w = is-some most rule s (tour .at) (r .0 .0) next v nullable (nullable && eqb (r .0 .0) null4) refl (λ i. z (same ∙ i)) (r .2) in
+        let x = t .goes (r .0 .0) (r .0 .1) (r .1) in
+        let place : mid .at ≡ tour .at + 4 = x .0 ∙ took 4 l s (tour .at) (r .0 .0) (r .0 .1) (r .1) .place in
+        let fit : mid .at + n ≤ length s = omega (arith, w .fit) in
+        let y = u .goes (numAt n s (mid .at)) (mid .at + n) (rw (le-leb _ _ fit)) in
+        let size : length (w .body) ≡ n = w .size ∙ sym same in
+        (omega (arith, y .0, w .end), rw (w .there, visited-both, size, ← place, ← x .1) (y .1));
+  }
+
+-- an answer that is a refusal shows no reading that gave a number
+pub number-none : (r : Res (ℕ × ℕ)) {a : Number} {x : Refusal} → a ≡ shownNumber r → a ≡ Number.No x → {n next : ℕ} → r ≡ ok (n, next) → ⊥
+number-none r {a} {x} e told i = let z : _≡_ {A = ℕ} 0 1 = ap kind (sym told ∙ e ∙ ap shownNumber i) in omega arith
+  where
+    kind : Number → ℕ
+    kind (Number.Is n next) = 1
+    kind (Number.No y) = 0
+
+module _ {A : Type 0} where
+  pub next-none : (r : Res (A × ℕ)) {a : Next} {x : Refusal} → a ≡ shownNext r → a ≡ Next.No x → {v : A} {next : ℕ} → r ≡ ok (v, next) → ⊥
+  next-none r {a} {x} e told i = let z : _≡_ {A = ℕ} 0 1 = ap kind (sym told ∙ e ∙ ap shownNext i) in omega arith
+    where
+      kind : Next → ℕ
+      kind (Next.At next) = 1
+      kind (Next.No y) = 0
+
+-- a slice's bytes
+pub bytes-all : (s : List ℕ) → ((k : ℕ) → Fits w8 (getD s k 0)) → Bytes s
+bytes-all [] every = tt
+bytes-all (b ∷ s) every = (every 0 .fits, bytes-all s (λ k. every (suc k)))
+
+pub byte-none : (r : Res (ℕ × ℕ)) {a : Byte} {x : Refusal} → a ≡ shownByte r → a ≡ Byte.No x → {n next : ℕ} → r ≡ ok (n, next) → ⊥
+byte-none r {a} {x} e told i = let z : _≡_ {A = ℕ} 0 1 = ap kind (sym told ∙ e ∙ ap shownByte i) in omega arith
+  where
+    kind : Byte → ℕ
+    kind (Byte.Is n next) = 1
+    kind (Byte.No y) = 0

@@ -1,0 +1,156 @@
+-- The walks over values, arrays and parameters, each made from the walks over its parts.
+use Prim.Native.Nat.{ℕ, _+_, _-_, _/_, _^_, _≤_, _<_}
+use mathlib.Core.Path.{_≡_, refl, sym, _∙_, ap}
+use mathlib.Core.Bool.{Bool, true, false, _||_}
+use mathlib.Core.List.{List}
+use mathlib.Core.Logic.{_⊎_, inl, inr, ⊎-elim}
+use mathlib.Core.Option.{Option}
+use lib.ListN.{length, replicate, length-replicate}
+use lib.Dec.{leb, ltb, eqb, lit<}
+use native.Mathlib.Omega.{arith}
+use borrow.Author.Tests.{leb-true, ne-eqb}
+use Rattle.format.specs.declared.Fault.{Fault}
+use Rattle.format.specs.declared.Fault.the-variants.{Decimal, Point, Limit, Negative, WireType}
+use Rattle.format.specs.Result.{Res, ok, no, bind, pick}
+use Rattle.format.specs.Number.{numAt, Bytes, half}
+use Rattle.format.specs.Format.{Format, Index, Verdict, number, nothing, ruled, into, both, each, counted}
+use Rattle.format.specs.Value.{Value, fixed, body, number-of, body-of, value, string, anything, notEmpty, isCounted, isColumn, widthOf, fixedFine, mostBytes, tNull, tArray}
+use Rattle.format.specs.Message.{count, list, items, bytes, bytes-of, values, values-of, text, mostItems, second, columnType, argument, null, one, one-of, array, array-of, Items, Argument, Param, param}
+use Rattle.format.proofs.Results.{ok-same, no-ok, passed, spared, bound}
+use Rattle.format.proofs.Laws.{Lawful, lawful-number, lawful-ruled, lawful-both, lawful-each, all-replicate, length-each}
+use Rattle.format.proofs.Lengths.{lawful-counted}
+use Rattle.format.proofs.Formats.{lawful-value, lawful-list, lawful-items, lawful-argument}
+use Rattle.scan.proofs.Values.{value-fields}
+use Rattle.tour.specs.declared.Tour.{Tour}
+use Rattle.tour.specs.declared.Indices.{Indices}
+use Rattle.tour.specs.Tour.{stateOf, indexOf, visited, Listed, Toured}
+use Rattle.tour.proofs.Tours.{Shows, shows, toured-ruled, toured-into, toured-both, toured-nothing}
+
+pub lawful-string : (nullable : Bool) (rule : List ℕ → Verdict) (l b : ℕ) → Lawful (string nullable rule l b)
+lawful-string nullable rule l b = lawful-counted nullable mostBytes rule l b (lit< tt)
+
+pub lawful-count : (k most field : ℕ) → Lawful (count k most field)
+lawful-count k most field = lawful-ruled (λ n. leb n most) Limit (lawful-ruled (λ n. ltb n (half k)) Negative (lawful-number k field))
+
+pub lawful-element : Lawful (columnType 25)
+lawful-element = lawful-ruled isColumn WireType (lawful-number 1 25)
+
+-- a body's types, and the others
+pub counted-type : (t : ℕ) → (t ≡ 9) ⊎ ((t ≡ 25) ⊎ (t ≡ 27)) → isCounted t ≡ true
+counted-type t is = ⊎-elim (λ e. rw e) (λ more. ⊎-elim (λ e. rw e) (λ e. rw e) more) is
+
+pub fixed-type : (t : ℕ) → ((t ≡ 9) ⊎ ((t ≡ 25) ⊎ (t ≡ 27)) → ⊥) → isCounted t ≡ false
+fixed-type t other = simp (ne-eqb t 9 (λ e. other (inl e)), ne-eqb t 25 (λ e. other (inr (inl e))), ne-eqb t 27 (λ e. other (inr (inr e))))
+
+-- what was read by a rule was read
+pub ruled-read : {A : Type 0} (test : A → Bool) (fault : Fault) (f : Format A) (s : List ℕ) (at : ℕ) {w : A × ℕ} → ruled test fault f .read s at ≡ ok w → f .read s at ≡ ok w
+unfolding ruled
+ruled-read test fault f s at e = let r = bound (f .read s at) e in r .1 ∙ passed (test (r .0 .0)) _ _ (r .2) .1
+
+pub count-read : (k most field : ℕ) (s : List ℕ) (at n next : ℕ) → count k most field .read s at ≡ ok (n, next) → number k 0 .read s at ≡ ok (n, next)
+unfolding number
+count-read k most field s at n next e = ruled-read (λ m. ltb m (half k)) Negative (number k field) s at (ruled-read (λ m. leb m most) Limit _ s at e)
+
+module _ (s : List ℕ) (by : Bytes s) {tour : Tour} {out : List ℕ} {after : Tour} {written : List ℕ} where
+  module _ {ix : Index} where
+    pub toured-body : (l b t : ℕ) → isCounted t ≡ true → ((nullable : Bool) (rule : List ℕ → Verdict) → Toured (string nullable rule l b) s ix tour out after written)
+        → Toured (value l b t) s ix tour out after written
+    unfolding value
+    toured-body l b t is w =
+        let rule = pick (eqb t 27) notEmpty anything in
+        rw is (toured-into s body body-of by (lawful-string true rule l b) (λ a g. refl) (w true rule))
+
+  pub toured-plain : (l b t : ℕ) {ix : Indices} {end : ℕ} → isCounted t ≡ false → ((v : Value) (next : ℕ) → value 0 0 t .read s (tour .at) ≡ ok (v, next) → end ≡ next)
+      → Listed b ix tour out end after written → Toured (value l b t) s (indexOf ix) tour out after written
+  unfolding value into ruled number
+  toured-plain l b t {ix} {end} is told w = record {
+    goes = λ v next e.
+        let there : end ≡ next = told v next (sym (value-fields s (tour .at) l b t) ∙ e) in
+        let size : end - tour .at ≡ widthOf t = ends v next e there in
+        (w .place ∙ there, fields v (rw (← size) (w .state)));
+  }
+    where
+      ends : (v : Value) (next : ℕ) → value l b t .read s (tour .at) ≡ ok (v, next) → end ≡ next → end - tour .at ≡ widthOf t
+      ends v next e there =
+          let r = bound _ (rw is at e) in
+          let q = bound _ (r .1) in
+          let h = passed (leb (tour .at + widthOf t) (length s)) _ _ (q .1) in
+          let k = passed (fixedFine t (q .0 .0)) _ _ (q .2) in
+          let a = ap (λ (p : ℕ × ℕ). p .1) (ok-same (h .1)) in
+          let b = ap (λ (p : ℕ × ℕ). p .1) (ok-same (k .1)) in
+          let c = ap (λ (p : Value × ℕ). p .1) (ok-same (r .2)) in
+          omega arith
+
+      fields : (v : Value) → stateOf after written ≡ visited (stateOf tour out) (number (widthOf t) b .fields (indexOf ix) (tour .at) 0)
+          → stateOf after written ≡ visited (stateOf tour out) (value l b t .fields (indexOf ix) (tour .at) v)
+      fields v h = rw is h
+
+module _ {A : Type 0} where
+  list-back : (c : Format ℕ) (at-index : ℕ → Index → Index) (f : Format A) (v : ℕ × List A)
+      → both c (λ n. each at-index 0 (replicate n f)) .Good v → _≡_ {A = ℕ × List A} (length (v .1), v .1) v
+  unfolding both
+  list-back c at-index f v g = ap (λ (n : ℕ). (n, v .1)) (length-each at-index 0 (replicate (v .0) f) (v .1) (g .1) ∙ length-replicate (v .0) f)
+
+-- a count, and as many values of one format
+module _ {A : Type 0} (k most field : ℕ) (at-index : ℕ → Index → Index) {f : Format A} (l : Lawful f) (s : List ℕ) (by : Bytes s)
+    {ix : Index} {tour : Tour} {out : List ℕ} {mid : Tour} {half : List ℕ} {after : Tour} {written : List ℕ} {n : ℕ} where
+  pub toured-list : ((m next : ℕ) → number k 0 .read s (tour .at) ≡ ok (m, next) → n ≡ m) → Toured (number k field) s ix tour out mid half
+      → Toured (each at-index 0 (replicate n f)) s ix mid half after written → Toured (list k most field at-index f) s ix tour out after written
+  unfolding list
+  toured-list told t u =
+      let c = count k most field in
+      let g : ℕ → Format (List A) = λ m. each at-index 0 (replicate m f) in
+      toured-into s (λ v. v .1) (λ l. (length l, l)) by (lawful-both (lawful-count k most field) (λ m. lawful-each at-index 0 (replicate m f) (all-replicate m l))) (list-back c at-index f)
+      (toured-both by {g = g} (lawful-count k most field) (toured-ruled s (λ m. leb m most) Limit (toured-ruled s (λ m. ltb m (256 ^ k / 2)) Negative t))
+      (λ m next e.
+      let same : n ≡ m = told m next (count-read k most field s (tour .at) m next e) in
+      rw same at u))
+
+module _ (s : List ℕ) (by : Bytes s) {ix : Index} {tour : Tour} {out : List ℕ} {after : Tour} {written : List ℕ} (t : ℕ) where
+  -- an array's elements
+  pub toured-bytes : t ≡ 3 → Toured (text 26 28) s ix tour out after written → Toured (items t) s ix tour out after written
+  unfolding items
+  toured-bytes is w = rw is (toured-into s bytes bytes-of by (lawful-string false anything 26 28) (λ a g. refl) w)
+
+  pub toured-values : (t ≡ 3 → ⊥) → Toured (list 2 mostItems 26 second (value 27 28 t)) s ix tour out after written → Toured (items t) s ix tour out after written
+  unfolding items
+  toured-values other w = rw (ne-eqb t 3 other) (toured-into s values values-of by (lawful-list 2 mostItems 26 second (lawful-value 27 28 t)) (λ a g. refl) w)
+
+  -- what stands after a parameter's type
+  pub toured-one : (t ≡ 1 → ⊥) → (t ≡ 157 → ⊥) → Toured (value 27 28 t) s ix tour out after written → Toured (argument t) s ix tour out after written
+  unfolding argument
+  toured-one a b w = rw (ne-eqb t 1 a, ne-eqb t 157 b) (toured-into s one one-of by (lawful-value 27 28 t) (λ v g. refl) w)
+
+  pub toured-array : t ≡ 157 → Toured (both (columnType 25) items) s ix tour out after written → Toured (argument t) s ix tour out after written
+  unfolding argument
+  toured-array is w = rw is (toured-into s (λ v. array (v .0) (v .1)) array-of by (lawful-both lawful-element lawful-items) (λ v g. refl) w)
+
+pub toured-null-argument : (s : List ℕ) {ix : Index} (tour : Tour) (out : List ℕ) (t : ℕ) → t ≡ 1 → Toured (argument t) s ix tour out tour out
+unfolding argument
+toured-null-argument s tour out t is = rw is (toured-nothing s tour out null)
+
+-- a type byte, and what it decides
+module _ {B : Type 0} (test : ℕ → Bool) (fault : Fault) (field : ℕ) (g : ℕ → Format B) (s : List ℕ) (by : Bytes s)
+    {ix : Index} {tour : Tour} {out : List ℕ} {mid : Tour} {half : List ℕ} {after : Tour} {written : List ℕ} {t : ℕ} where
+  pub toured-typed : ((m next : ℕ) → number 1 0 .read s (tour .at) ≡ ok (m, next) → t ≡ m) → Toured (number 1 field) s ix tour out mid half
+      → Toured (g t) s ix mid half after written → Toured (both (ruled test fault (number 1 field)) g) s ix tour out after written
+  unfolding number
+  toured-typed told w u =
+      toured-both by {g = g} (lawful-ruled test fault (lawful-number 1 field)) (toured-ruled s test fault w) (λ m next e.
+      let same : t ≡ m = told m next (ruled-read test fault (number 1 field) s (tour .at) e) in
+      rw same at u)
+
+-- a type that a parameter has
+abbrev pub isParam : ℕ → Bool
+isParam t = isColumn t || (eqb t tNull || eqb t tArray)
+
+pub toured-param : (s : List ℕ) (by : Bytes s) {ix : Index} {tour : Tour} {out : List ℕ} {after : Tour} {written : List ℕ}
+    → Toured (both (ruled isParam WireType (number 1 24)) argument) s ix tour out after written → Toured param s ix tour out after written
+unfolding param
+toured-param s by w =
+    toured-into s (λ v. record { type = v .0; argument = v .1 }) (λ l. (l .type, l .argument)) by
+    (lawful-both (lawful-ruled isParam WireType (lawful-number 1 24)) lawful-argument) (λ v g. refl) w
+
+-- what stands for a count, where its reading gives one
+pub count-told : (s : List ℕ) (k most field at : ℕ) {n : ℕ} → ((m next : ℕ) → number k 0 .read s at ≡ ok (m, next) → n ≡ m) → (m next : ℕ) → count k most field .read s at ≡ ok (m, next) → n ≡ m
+count-told s k most field at told m next e = told m next (count-read k most field s at m next e)

@@ -1,0 +1,20 @@
+-- `tour::walk_fixed` meets its contract: a field from the tour's place to the place past its bytes. Assumes nothing.
+use Rattle.tour.proofs.Tours.{toured-number}
+use borrow.Author.Needs.{needs}
+use Rattle.tour.proofs.walk_fixed.Statement.{statement}
+use Rattle.tour.proofs.walk_fixed.Tie as tie
+
+past-requires : tie.Need-past-requires
+past-requires c κs = search needs
+
+visit-requires : tie.Need-visit-requires
+visit-requires c κs = search needs
+
+same-length : tie.Need-same-length
+same-length c = search needs
+
+returns : tie.Need-returns
+returns c = let a = (c .before .before .before .before .before .before .before .args) in toured-number (a .s .now) (a .width) (a .field) (c .before .before .before .before .past .ensures) (c .before .before .visit .ensures)
+
+pub walk-fixed-spec : {M : Type 1} → statement M
+walk-fixed-spec = tie.close (tie.spec past-requires visit-requires same-length returns)

@@ -1,0 +1,53 @@
+-- `tour::walk_table` meets its contract: a room, the metadata in it, and the rows by its types. Assumes nothing.
+use mathlib.Core.Path.{_≡_, _∙_}
+use Rattle.format.specs.Message.{second, unlimited, row}
+use Rattle.format.proofs.Formats.{lawful-metadata, lawful-row}
+use Rattle.tour.proofs.Tours.{bytes-all, toured-both}
+use Rattle.tour.proofs.Values.{toured-list}
+use Rattle.tour.proofs.Tables.{rows, toured-table}
+use borrow.Author.Needs.{needs}
+use Rattle.tour.proofs.walk_table.Statement.{statement}
+use Rattle.tour.proofs.walk_table.Tie as tie
+
+walk-fixed-requires : tie.Need-walk-fixed-requires
+walk-fixed-requires c κs = search needs
+
+types-of-requires : tie.Need-types-of-requires
+types-of-requires c κs = search needs
+
+walk-metadata-requires : tie.Need-walk-metadata-requires
+walk-metadata-requires c κs = search needs
+
+number-at-requires : tie.Need-number-at-requires
+number-at-requires c κs = search needs
+
+walk-fixed-requires-2 : tie.Need-walk-fixed-requires-2
+walk-fixed-requires-2 c κs = search needs
+
+walk-rows-requires : tie.Need-walk-rows-requires
+walk-rows-requires c κs = search needs
+
+same-length : tie.Need-same-length
+same-length c = (c .before .before .walk-rows .kept .1 .0) ∙ ((c .before .before .before .before .before .before .walk-fixed2 .kept .1 .0) ∙ ((c .before .before .before .before .before .before .before .before .before .before .before .walk-metadata .kept .1 .0) ∙ (c .before .before .before .before .before .before .before .before .before .before .before .before .before .before .before .before .walk-fixed .kept .1 .0)))
+
+returns : tie.Need-returns
+returns c =
+    let a = (c .before .before .before .before .before .before .before .before .before .before .before .before .before .before .before .before .before .before .before .before .args) in
+    let s = a .s .now in
+    let b = bytes-all (a .s .now) (c .before .before .before .before .before .before .before .before .before .before .before .before .before .before .before .before .before .before .before .shared-slice-known .given) in
+    toured-table s b (c .before .before .before .before .before .before .before .before .before .before .before .before .before .before .before .before .walk-fixed .ensures) (toured-both b {g = rows} lawful-metadata (c .before .before .before .before .before .before .before .before .before .before .before .walk-metadata .ensures) (λ m next e.
+    let same = (c .before .before .before .before .before .before .before .before .before .before .before .before .before .types-of .ensures) m next e in
+    rw (← same) (toured-list 4 unlimited 48 second (lawful-row _) s b (c .before .before .before .before .before .before .before .before .number-at .ensures) (c .before .before .before .before .before .before .walk-fixed2 .ensures) (c .before .before .walk-rows .ensures))))
+
+pub walk-table-spec : {M : Type 1} → statement M
+walk-table-spec =
+    tie.close
+    (tie.spec
+    walk-fixed-requires
+    types-of-requires
+    walk-metadata-requires
+    number-at-requires
+    walk-fixed-requires-2
+    walk-rows-requires
+    same-length
+    returns)

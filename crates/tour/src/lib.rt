@@ -1,0 +1,549 @@
+// One descent over an accepted message, which meets its fields in wire order.
+use scan::Byte;
+use scan::Next;
+use scan::Number;
+ghost use mathlib.Core.Path.{_≡_};
+ghost use mathlib.Core.Bool.{Bool, false};
+ghost use mathlib.Core.List.{List, map};
+ghost use mathlib.Core.Option.{none};
+ghost use Prim.Native.Nat.{ℕ, _+_, _*_, _/_, _≤_, _<_, min};
+ghost use lib.ListN.{length, replicate};
+ghost use lib.Seq.{sets};
+ghost use Rattle.format.specs.Format.{number, each, present, Verdict};
+ghost use Rattle.format.specs.Result.{ok};
+ghost use Rattle.format.specs.Value.{string, anything, ascii, value, Value};
+ghost use Rattle.format.specs.Message.{first, second, third, items, argument, param, invocation, loginRequest, server, loginResponse, columnType, Metadata, metadata, row, table, flagged, response, contentOf};
+ghost use Rattle.tour.specs.Parts.{login, statuses, results};
+ghost use Rattle.tour.specs.Tour.{stateOf, indexOf, wanted, six, Listed, Toured, Whole};
+
+// Where the descent is, which fields it writes down (those from the first-th on that end past an offset, while they fit),
+// and what it has seen: how many fields, how many of them were written, and the number of the last of these.
+pub struct Tour {
+    pub at: usize,
+    pub first: usize,
+    pub offset: usize,
+    pub seen: usize,
+    pub taken: usize,
+    pub last: usize,
+}
+
+// The three numbers that follow a field's number.
+pub struct Indices {
+    pub i: usize,
+    pub j: usize,
+    pub k: usize,
+}
+
+// Six numbers, after those of so many fields.
+fn put(out: &mut [u64], taken: usize, at: usize, size: usize, field: u64, ix: Indices)
+    requires { ⌜ taken < length (now out) / 6 ⌝ }
+    ensures { λ _. ⌜ now (out .exit) ≡ sets (now (out .entry)) (6 * taken) (six (record { at = at; size = size; field = field; index = indexOf ix })) ⌝ }
+{
+    let p = 6 * taken;
+    out[p] = at as u64;
+    out[p + 1] = size as u64;
+    out[p + 2] = field;
+    out[p + 3] = ix.i as u64;
+    out[p + 4] = ix.j as u64;
+    out[p + 5] = ix.k as u64;
+}
+
+fn is_wanted(tour: Tour, end: usize, room: usize) -> bool
+    ensures { λ r. ⌜ r ≡ wanted tour end room ⌝ }
+{
+    if tour.seen < tour.first {
+        return false;
+    }
+    if end <= tour.offset {
+        return false;
+    }
+    tour.taken < room / 6
+}
+
+// The field from the tour's place to end, if it has a byte.
+fn visit(out: &mut [u64], tour: Tour, end: usize, field: u64, ix: Indices) -> Tour
+    ensures { λ r. ⌜ Listed field ix tour (now (out .entry)) end r (now (out .exit)) ⌝ }
+{
+    let at = tour.at;
+    let first = tour.first;
+    let offset = tour.offset;
+    let taken = tour.taken;
+    let number = tour.seen;
+    if end <= at {
+        return Tour {
+            at: end,
+            first,
+            offset,
+            seen: number,
+            taken,
+            last: tour.last,
+        };
+    }
+    let seen = std::num::wrapping_add_usize(number, 1);
+    if !is_wanted(tour, end, out.len()) {
+        return Tour {
+            at: end,
+            first,
+            offset,
+            seen,
+            taken,
+            last: tour.last,
+        };
+    }
+    put(out, taken, at, end - at, field, ix);
+    Tour {
+        at: end,
+        first,
+        offset,
+        seen,
+        taken: taken + 1,
+        last: number,
+    }
+}
+
+// The place n bytes on, where so many bytes stand.
+fn past(s: &[u8], at: usize, n: usize) -> usize
+    ensures { λ r. ⌜ (at + n ≤ length (now (s .entry)) → r ≡ at + n) ⌝ }
+{
+    if !scan::fits(s, at, n) {
+        return at;
+    }
+    at + n
+}
+
+// The number of k bytes that stands at a place, where one does.
+fn number_at(s: &[u8], at: usize, k: usize) -> u64
+    ensures { λ r. ⌜ ((n next : ℕ) → number (min k 8) 0 .read (now (s .entry)) at ≡ ok (n, next) → r ≡ n) ⌝ }
+{
+    let read = scan::read_number(s, at, k);
+    match read {
+        Number::Is(n, _) => n,
+        Number::No(_) => 0,
+    }
+}
+
+// The byte at a place, where one stands.
+fn byte_at(s: &[u8], at: usize) -> u8
+    ensures { λ r. ⌜ ((n next : ℕ) → number 1 0 .read (now (s .entry)) at ≡ ok (n, next) → r ≡ n) ⌝ }
+{
+    let read = scan::read_byte(s, at);
+    match read {
+        Byte::Is(b, _) => b,
+        Byte::No(_) => 0,
+    }
+}
+
+// A field of so many bytes.
+fn walk_fixed(s: &[u8], out: &mut [u64], tour: Tour, width: usize, field: u64, ix: Indices) -> Tour
+    ensures { λ r. ⌜ Toured (number width field) (now (s .entry)) (indexOf ix) tour (now (out .entry)) r (now (out .exit)) ⌝ }
+{
+    let end = past(s, tour.at, width);
+    visit(out, tour, end, field, ix)
+}
+
+const NULL: u64 = 0xffff_ffff;
+
+// A length, and as many bytes as it says.
+fn walk_body(s: &[u8], out: &mut [u64], tour: Tour, prefix: u64, body: u64, ix: Indices) -> Tour
+    ensures { λ r. ⌜ ((nullable : Bool) (rule : List ℕ → Verdict) → Toured (string nullable rule prefix body) (now (s .entry)) (indexOf ix) tour (now (out .entry)) r (now (out .exit))) ⌝ }
+{
+    let n = number_at(s, tour.at, 4);
+    let start = walk_fixed(s, out, tour, 4, prefix, ix);
+    if n == NULL {
+        return start;
+    }
+    walk_fixed(s, out, start, n as usize, body, ix)
+}
+
+// Where a value of a wire type ends that stands at a place.
+fn value_end(s: &[u8], at: usize, t: u8) -> usize
+    ensures { λ r. ⌜ ((v : Value) (next : ℕ) → value 0 0 t .read (now (s .entry)) at ≡ ok (v, next) → r ≡ next) ⌝ }
+{
+    let read = scan::skip_value(s, at, t);
+    match read {
+        Next::At(next) => next,
+        Next::No(_) => at,
+    }
+}
+
+// A value of a wire type.
+fn walk_value(
+    s: &[u8],
+    out: &mut [u64],
+    tour: Tour,
+    t: u8,
+    prefix: u64,
+    body: u64,
+    ix: Indices,
+) -> Tour
+    ensures { λ r. ⌜ Toured (value prefix body t) (now (s .entry)) (indexOf ix) tour (now (out .entry)) r (now (out .exit)) ⌝ }
+{
+    match t {
+        format::STRING | format::VARBINARY | format::GEOGRAPHY => walk_body(
+            s,
+            out,
+            tour,
+            prefix,
+            body,
+            ix,
+        ),
+        _ => {
+            let end = value_end(s, tour.at, t);
+            visit(out, tour, end, body, ix)
+        }
+    }
+}
+
+// The elements of an array: n values of one type.
+fn walk_values(s: &[u8], out: &mut [u64], from: Tour, t: u8, n: usize, ix: Indices) -> Tour
+    ensures { λ r. ⌜ Toured (each second 0 (replicate n (value 27 28 t))) (now (s .entry)) (indexOf ix) from (now (out .entry)) r (now (out .exit)) ⌝ }
+{
+    let mut tour = from;
+    let mut j = 0;
+    while j < n {
+        let element = Indices {
+            i: ix.i,
+            j,
+            k: ix.k,
+        };
+        tour = walk_value(s, out, tour, t, 27, 28, element);
+        j += 1;
+    }
+    tour
+}
+
+// An array's count and elements.
+fn walk_items(s: &[u8], out: &mut [u64], tour: Tour, t: u8, ix: Indices) -> Tour
+    ensures { λ r. ⌜ Toured (items t) (now (s .entry)) (indexOf ix) tour (now (out .entry)) r (now (out .exit)) ⌝ }
+{
+    if t == format::TINYINT {
+        return walk_body(s, out, tour, 26, 28, ix);
+    }
+    let n = number_at(s, tour.at, 2);
+    let elements = walk_fixed(s, out, tour, 2, 26, ix);
+    walk_values(s, out, elements, t, n as usize, ix)
+}
+
+// What stands after a parameter's type.
+fn walk_argument(s: &[u8], out: &mut [u64], tour: Tour, t: u8, ix: Indices) -> Tour
+    ensures { λ r. ⌜ Toured (argument t) (now (s .entry)) (indexOf ix) tour (now (out .entry)) r (now (out .exit)) ⌝ }
+{
+    if t == format::NULL {
+        return tour;
+    }
+    if t == format::ARRAY {
+        let element = byte_at(s, tour.at);
+        let array = walk_fixed(s, out, tour, 1, 25, ix);
+        return walk_items(s, out, array, element, ix);
+    }
+    walk_value(s, out, tour, t, 27, 28, ix)
+}
+
+// A parameter.
+fn walk_param(s: &[u8], out: &mut [u64], tour: Tour, ix: Indices) -> Tour
+    ensures { λ r. ⌜ Toured param (now (s .entry)) (indexOf ix) tour (now (out .entry)) r (now (out .exit)) ⌝ }
+{
+    let t = byte_at(s, tour.at);
+    let value = walk_fixed(s, out, tour, 1, 24, ix);
+    walk_argument(s, out, value, t, ix)
+}
+
+// N parameters.
+fn walk_params(s: &[u8], out: &mut [u64], from: Tour, n: usize, ix: Indices) -> Tour
+    ensures { λ r. ⌜ Toured (each first 0 (replicate n param)) (now (s .entry)) (indexOf ix) from (now (out .entry)) r (now (out .exit)) ⌝ }
+{
+    let mut tour = from;
+    let mut i = 0;
+    while i < n {
+        let param = Indices {
+            i,
+            j: ix.j,
+            k: ix.k,
+        };
+        tour = walk_param(s, out, tour, param);
+        i += 1;
+    }
+    tour
+}
+
+// An invocation, from its procedure's name on.
+fn walk_invocation(s: &[u8], out: &mut [u64], tour: Tour, ix: Indices) -> Tour
+    ensures { λ r. ⌜ Toured invocation (now (s .entry)) (indexOf ix) tour (now (out .entry)) r (now (out .exit)) ⌝ }
+{
+    let client = walk_body(s, out, tour, 20, 21, ix);
+    let count = walk_fixed(s, out, client, 8, 22, ix);
+    let n = number_at(s, count.at, 2);
+    let params = walk_fixed(s, out, count, 2, 23, ix);
+    walk_params(s, out, params, n as usize, ix)
+}
+
+// A login request's service, user and hash.
+fn walk_login(s: &[u8], out: &mut [u64], tour: Tour, size: usize, ix: Indices) -> Tour
+    ensures { λ r. ⌜ Toured (login size) (now (s .entry)) (indexOf ix) tour (now (out .entry)) r (now (out .exit)) ⌝ }
+{
+    let user = walk_body(s, out, tour, 4, 5, ix);
+    let hash = walk_body(s, out, user, 6, 7, ix);
+    walk_fixed(s, out, hash, size, 8, ix)
+}
+
+// A login request, from its hash version on, if it has one.
+fn walk_login_request(s: &[u8], out: &mut [u64], tour: Tour, version: u8, ix: Indices) -> Tour
+    ensures { λ r. ⌜ Toured (loginRequest version) (now (s .entry)) (indexOf ix) tour (now (out .entry)) r (now (out .exit)) ⌝ }
+{
+    if version != 1 {
+        return walk_login(s, out, tour, 20, ix);
+    }
+    let h = byte_at(s, tour.at);
+    let login = walk_fixed(s, out, tour, 1, 3, ix);
+    if h == 1 {
+        return walk_login(s, out, login, 32, ix);
+    }
+    walk_login(s, out, login, 20, ix)
+}
+
+// What follows a login's result of 0.
+fn walk_server(s: &[u8], out: &mut [u64], tour: Tour, ix: Indices) -> Tour
+    ensures { λ r. ⌜ Toured server (now (s .entry)) (indexOf ix) tour (now (out .entry)) r (now (out .exit)) ⌝ }
+{
+    let connection = walk_fixed(s, out, tour, 4, 11, ix);
+    let start = walk_fixed(s, out, connection, 8, 12, ix);
+    let leader = walk_fixed(s, out, start, 8, 13, ix);
+    let build = walk_fixed(s, out, leader, 4, 14, ix);
+    walk_body(s, out, build, 15, 16, ix)
+}
+
+// A login response, from its result on.
+fn walk_login_response(s: &[u8], out: &mut [u64], tour: Tour, ix: Indices) -> Tour
+    ensures { λ r. ⌜ Toured loginResponse (now (s .entry)) (indexOf ix) tour (now (out .entry)) r (now (out .exit)) ⌝ }
+{
+    let result = byte_at(s, tour.at);
+    let server = walk_fixed(s, out, tour, 1, 10, ix);
+    if result != 0 {
+        return server;
+    }
+    walk_server(s, out, server, ix)
+}
+
+// The types of n columns.
+fn walk_types(s: &[u8], out: &mut [u64], from: Tour, n: usize, ix: Indices) -> Tour
+    ensures { λ r. ⌜ Toured (each third 0 (replicate n (columnType 45))) (now (s .entry)) (indexOf ix) from (now (out .entry)) r (now (out .exit)) ⌝ }
+{
+    let mut tour = from;
+    let mut k = 0;
+    while k < n {
+        let at = Indices {
+            i: ix.i,
+            j: ix.j,
+            k,
+        };
+        tour = walk_fixed(s, out, tour, 1, 45, at);
+        k += 1;
+    }
+    tour
+}
+
+// The names of n columns.
+fn walk_names(s: &[u8], out: &mut [u64], from: Tour, n: usize, ix: Indices) -> Tour
+    ensures { λ r. ⌜ Toured (each third 0 (replicate n (string false ascii 46 47))) (now (s .entry)) (indexOf ix) from (now (out .entry)) r (now (out .exit)) ⌝ }
+{
+    let mut tour = from;
+    let mut k = 0;
+    while k < n {
+        let at = Indices {
+            i: ix.i,
+            j: ix.j,
+            k,
+        };
+        tour = walk_body(s, out, tour, 46, 47, at);
+        k += 1;
+    }
+    tour
+}
+
+// A table's metadata.
+fn walk_metadata(s: &[u8], out: &mut [u64], tour: Tour, ix: Indices) -> Tour
+    ensures { λ r. ⌜ Toured metadata (now (s .entry)) (indexOf ix) tour (now (out .entry)) r (now (out .exit)) ⌝ }
+{
+    let status = walk_fixed(s, out, tour, 4, 42, ix);
+    let count = walk_fixed(s, out, status, 1, 43, ix);
+    let n = number_at(s, count.at, 2) as usize;
+    let types = walk_fixed(s, out, count, 2, 44, ix);
+    let names = walk_types(s, out, types, n, ix);
+    walk_names(s, out, names, n, ix)
+}
+
+// The types of the columns whose metadata stands at a place.
+fn types_of(s: &[u8], at: usize) -> &[u8]
+    ensures { λ r. ⌜ ((m : Metadata) (next : ℕ) → metadata .read (now (s .entry)) at ≡ ok (m, next) → now r ≡ m .types) ⌝ }
+{
+    let count = past(s, at, 5);
+    let first = past(s, at, 7);
+    let n = number_at(s, count, 2) as usize;
+    if !scan::fits(s, first, n) {
+        return &s[0..0];
+    }
+    let end = first + n;
+    &s[first..end]
+}
+
+// A row's cells, one for each column's type.
+fn walk_cells(s: &[u8], out: &mut [u64], from: Tour, types: &[u8], ix: Indices) -> Tour
+    ensures { λ r. ⌜ Toured (each third 0 (map (value 50 51) (now (types .entry)))) (now (s .entry)) (indexOf ix) from (now (out .entry)) r (now (out .exit)) ⌝ }
+{
+    let mut tour = from;
+    let mut k = 0;
+    while k < types.len() {
+        let at = Indices {
+            i: ix.i,
+            j: ix.j,
+            k,
+        };
+        tour = walk_value(s, out, tour, types[k], 50, 51, at);
+        k += 1;
+    }
+    tour
+}
+
+// A row.
+fn walk_row(s: &[u8], out: &mut [u64], tour: Tour, types: &[u8], ix: Indices) -> Tour
+    ensures { λ r. ⌜ Toured (row (now (types .entry))) (now (s .entry)) (indexOf ix) tour (now (out .entry)) r (now (out .exit)) ⌝ }
+{
+    let cells = walk_fixed(s, out, tour, 4, 49, ix);
+    walk_cells(s, out, cells, types, ix)
+}
+
+// N rows.
+fn walk_rows(s: &[u8], out: &mut [u64], from: Tour, types: &[u8], n: usize, ix: Indices) -> Tour
+    ensures { λ r. ⌜ Toured (each second 0 (replicate n (row (now (types .entry))))) (now (s .entry)) (indexOf ix) from (now (out .entry)) r (now (out .exit)) ⌝ }
+{
+    let mut tour = from;
+    let mut j = 0;
+    while j < n {
+        let at = Indices {
+            i: ix.i,
+            j,
+            k: ix.k,
+        };
+        tour = walk_row(s, out, tour, types, at);
+        j += 1;
+    }
+    tour
+}
+
+// A table.
+fn walk_table(s: &[u8], out: &mut [u64], tour: Tour, ix: Indices) -> Tour
+    ensures { λ r. ⌜ Toured table (now (s .entry)) (indexOf ix) tour (now (out .entry)) r (now (out .exit)) ⌝ }
+{
+    let metadata = walk_fixed(s, out, tour, 4, 41, ix);
+    let types = types_of(s, metadata.at);
+    let count = walk_metadata(s, out, metadata, ix);
+    let n = number_at(s, count.at, 4) as usize;
+    let rows = walk_fixed(s, out, count, 4, 48, ix);
+    walk_rows(s, out, rows, types, n, ix)
+}
+
+// N tables.
+fn walk_tables(s: &[u8], out: &mut [u64], from: Tour, n: usize, ix: Indices) -> Tour
+    ensures { λ r. ⌜ Toured (each first 0 (replicate n table)) (now (s .entry)) (indexOf ix) from (now (out .entry)) r (now (out .exit)) ⌝ }
+{
+    let mut tour = from;
+    let mut i = 0;
+    while i < n {
+        let at = Indices {
+            i,
+            j: ix.j,
+            k: ix.k,
+        };
+        tour = walk_table(s, out, tour, at);
+        i += 1;
+    }
+    tour
+}
+
+// A body that is there or not.
+fn walk_optional(
+    s: &[u8],
+    out: &mut [u64],
+    tour: Tour,
+    there: bool,
+    prefix: u64,
+    body: u64,
+    ix: Indices,
+) -> Tour
+    ensures { λ r. ⌜ ((nullable : Bool) → Toured (present there none (string nullable anything prefix body)) (now (s .entry)) (indexOf ix) tour (now (out .entry)) r (now (out .exit))) ⌝ }
+{
+    if !there {
+        return tour;
+    }
+    walk_body(s, out, tour, prefix, body, ix)
+}
+
+fn is_flagged(flags: u8, bit: u8) -> bool
+    requires { ⌜ 0 < bit ⌝ }
+    ensures { λ r. ⌜ r ≡ flagged bit flags ⌝ }
+{
+    flags / bit % 2 == 1
+}
+
+// A response from its round trip on.
+fn walk_results(s: &[u8], out: &mut [u64], tour: Tour, flags: u8, ix: Indices) -> Tour
+    ensures { λ r. ⌜ Toured (results flags) (now (s .entry)) (indexOf ix) tour (now (out .entry)) r (now (out .exit)) ⌝ }
+{
+    let exception = walk_fixed(s, out, tour, 4, 37, ix);
+    let count = walk_optional(s, out, exception, is_flagged(flags, 64), 38, 39, ix);
+    let n = number_at(s, count.at, 2) as usize;
+    let tables = walk_fixed(s, out, count, 2, 40, ix);
+    walk_tables(s, out, tables, n, ix)
+}
+
+// A response from its status on.
+fn walk_statuses(s: &[u8], out: &mut [u64], tour: Tour, flags: u8, ix: Indices) -> Tour
+    ensures { λ r. ⌜ Toured (statuses flags) (now (s .entry)) (indexOf ix) tour (now (out .entry)) r (now (out .exit)) ⌝ }
+{
+    let string = walk_fixed(s, out, tour, 1, 31, ix);
+    let application = walk_optional(s, out, string, is_flagged(flags, 32), 32, 33, ix);
+    let words = walk_fixed(s, out, application, 1, 34, ix);
+    let results = walk_optional(s, out, words, is_flagged(flags, 128), 35, 36, ix);
+    walk_results(s, out, results, flags, ix)
+}
+
+// An invocation's response, from its client data on.
+fn walk_response(s: &[u8], out: &mut [u64], tour: Tour, ix: Indices) -> Tour
+    ensures { λ r. ⌜ Toured response (now (s .entry)) (indexOf ix) tour (now (out .entry)) r (now (out .exit)) ⌝ }
+{
+    let client = walk_fixed(s, out, tour, 8, 22, ix);
+    let flags = byte_at(s, client.at);
+    let status = walk_fixed(s, out, client, 1, 30, ix);
+    walk_statuses(s, out, status, flags, ix)
+}
+
+// What stands after a message's version.
+fn walk_content(kind: u8, s: &[u8], out: &mut [u64], tour: Tour, version: u8, ix: Indices) -> Tour
+    ensures { λ r. ⌜ Toured (contentOf kind version) (now (s .entry)) (indexOf ix) tour (now (out .entry)) r (now (out .exit)) ⌝ }
+{
+    match kind {
+        1 => walk_login_request(s, out, tour, version, ix),
+        2 => walk_login_response(s, out, tour, ix),
+        3 => walk_invocation(s, out, tour, ix),
+        _ => walk_response(s, out, tour, ix),
+    }
+}
+
+// A tour over the fields of a message of a kind. It writes down those from the first-th on that end past an offset, while they fit.
+pub fn walk_message(kind: u8, m: &[u8], out: &mut [u64], first: usize, offset: usize) -> Tour
+    ensures { λ r. ⌜ Whole kind (now (m .entry)) first offset (now (out .entry)) r (now (out .exit)) ⌝ }
+{
+    let ix = Indices { i: 0, j: 0, k: 0 };
+    let start = Tour {
+        at: 0,
+        first,
+        offset,
+        seen: 0,
+        taken: 0,
+        last: 0,
+    };
+    let length = walk_fixed(m, out, start, 4, 1, ix);
+    let version = byte_at(m, length.at);
+    let content = walk_fixed(m, out, length, 1, 2, ix);
+    walk_content(kind, m, out, content, version, ix)
+}

@@ -1,0 +1,74 @@
+#!/usr/bin/env python3
+"""Runs `sweep` and the second reader over the same frames: compare.py N SEED"""
+
+import pathlib
+import subprocess
+import sys
+from collections import Counter
+
+from encoder import encode
+from frames import frame, split
+from generate import messages
+from listing import listing
+from wire import *
+
+RUN = pathlib.Path(__file__).resolve().parent.parent / "run"
+
+
+def main():
+    count, seed = int(sys.argv[1]), int(sys.argv[2])
+    print("compare: %d messages, seed %d" % (count, seed), flush=True)
+    data = edges() + b"".join(frame(kind, message) for kind, message in messages(count, seed)) + broken(seed)
+    found = subprocess.run([RUN, "sweep"], input=data, stdout=subprocess.PIPE, check=True).stdout.decode()
+    frames, _ = split(data)
+    verdicts = Counter()
+    at = 0
+    for number, one in enumerate(frames):
+        expected = listing(one) + ".\n"
+        if not found.startswith(expected, at):
+            return report(number, one, expected, found[at:at + len(expected) + 200])
+        verdicts[expected.split()[1] if expected.startswith("refused") else "accepted"] += 1
+        at += len(expected)
+    if found[at:] != "broken\n":
+        return report(len(frames), b"", "broken\n", found[at:at + 200])
+    print("compare: no difference. %s" % ", ".join("%s %d" % pair for pair in sorted(verdicts.items(), reverse=True)))
+    return 0
+
+
+def edges():
+    """Frames at the ends of their size: empty, a kind alone, and messages of 65,536 bytes, with few fields and with as many as can be."""
+    def call(size):
+        return encode(INVOCATION, {"version": 0, "procedure": b"", "client_data": bytes(8), "parameters": [(ARRAY, (TINYINT, bytes(size)))]})
+
+    def reply(rows, last):
+        rows = [[1] * 64 for _ in range(rows)] + [[1] * 64]
+        table = {"status": 0, "types": [TINYINT] * 64, "names": [b""] * 64, "rows": rows}
+        text = {"status": 0, "types": [STRING], "names": [b""], "rows": [[bytes(last)]]}
+        return encode(REPLY, {"version": 0, "client_data": bytes(8), "flags": 0, "status": 1, "application": 0, "round_trip": 0,
+                              "tables": [table, text]})
+
+    whole_call = call(MOST_LISTED - len(call(0)))
+    whole_reply = reply(900, MOST_LISTED - len(reply(900, 0)))
+    assert len(whole_call) == len(whole_reply) == MOST_LISTED
+    cut = bytes(3) + b"\4" + whole_reply[4:]
+    return bytes(4) + b"".join(frame(kind, b"") for kind in range(6)) + b"".join(
+        frame(kind, message) for kind, message in ((INVOCATION, whole_call), (REPLY, whole_reply), (9, whole_call), (REPLY, cut)))
+
+
+def broken(seed):
+    """A last frame that is cut short, or one byte too long, or as long as its size can say."""
+    return (frame(2, bytes(9))[:seed % 13 + 1], frame(2, bytes(MOST_FRAME)), b"\xff" * 4 + bytes(100))[seed % 3]
+
+
+def report(number, one, expected, found):
+    print("compare: DIFFERENCE at message %d, kind %s" % (number, one[:1].hex() or "none"))
+    print("message: %s" % one[1:].hex())
+    for i, (a, b) in enumerate(zip(expected.splitlines() + ["(end)"], found.splitlines() + ["(end)"])):
+        if a != b:
+            print("line %d: second reader: %s; sweep: %s" % (i + 1, a, b))
+            break
+    return 1
+
+
+if __name__ == "__main__":
+    sys.exit(main())

@@ -1,0 +1,66 @@
+#!/usr/bin/env python3
+"""Runs the program `script` and the second writer over the same scripts of steps: compare_writer.py N SEED
+
+Half of the scripts spell a made-up record, into a buffer that is long enough or a little too short; the others take wild steps, with
+wrong arguments, out of order and on forged states. What `script` answers must be what the second writer does, line by line.
+"""
+
+import pathlib
+import random
+import subprocess
+import sys
+from collections import Counter
+
+import steps
+from encoder import encode
+from generate import Maker
+from wire import *
+from writer_test import wild
+
+RUN = pathlib.Path(__file__).resolve().parent.parent / "run"
+MOST_BUFFER = 8192
+
+
+def main():
+    count, seed = int(sys.argv[1]), int(sys.argv[2])
+    print("compare_writer: %d scripts, seed %d" % (count, seed), flush=True)
+    maker = Maker(random.Random(seed))
+    scripts = [spelling(maker) if i % 2 else wild(maker) for i in range(count)]
+    data = b"".join(steps.packed(script) for script in scripts)
+    found = subprocess.run([RUN, "script"], input=data, stdout=subprocess.PIPE, check=True).stdout.decode().splitlines()
+    counts, at = Counter(), 0
+    for number, script in enumerate(scripts):
+        expected = steps.run(script)[0]
+        if found[at:at + len(expected)] != expected:
+            return report(number, script, expected, found[at:at + len(expected)])
+        counts.update(a.split()[1] if a.startswith("refused") else "fine" for a in expected[:-1])
+        at += len(expected)
+    if found[at:]:
+        print("compare_writer: DIFFERENCE: %d lines too many" % len(found[at:]))
+        return 1
+    print("compare_writer: no difference. %s" % ", ".join("%s %d" % pair for pair in sorted(counts.items())))
+    return 0
+
+
+def spelling(maker):
+    while True:
+        kind = maker.rng.choice(KINDS)
+        record = maker.record(kind)
+        size = len(encode(kind, record))
+        if size < MOST_BUFFER - 50:
+            room = max(0, size + maker.rng.choice((-9, -1, 0, 0, 0, 1, 50)))
+            return [("buffer", (room,)), *steps.spelled(kind, record), ("show", ())]
+
+
+def report(number, script, expected, found):
+    print("compare_writer: DIFFERENCE in script %d:" % number)
+    print(steps.text(script), end="")
+    for i, line in enumerate(expected):
+        if i >= len(found) or found[i] != line:
+            print("answer %d: second writer: %s; script: %s" % (i + 1, line[:200], found[i][:200] if i < len(found) else "(end)"))
+            break
+    return 1
+
+
+if __name__ == "__main__":
+    sys.exit(main())

@@ -1,0 +1,292 @@
+"""Messages made up from a seed: valid ones of every kind, and damaged ones whose damage is aimed at a chosen field.
+
+    messages(count, seed)  ->  (kind, message) pairs, the same ones for the same seed
+
+Fields are chosen by their number first, so that rare fields are damaged as often as frequent ones.
+"""
+
+import math
+import random
+import struct
+
+from encoder import encode
+from reader import Refused, read
+from wire import *
+
+
+def messages(count, seed):
+    maker = Maker(random.Random(seed))
+    return [maker.message() for _ in range(count)]
+
+
+class Maker:
+    def __init__(self, rng):
+        self.rng = rng
+
+    def message(self):
+        """One message: a third as it should be, the rest damaged once, or twice."""
+        while True:
+            kind = self.rng.choice((1, 2, 3, 3, 3, 4, 4, 4, 4, 4))
+            message = encode(kind, self.record(kind))
+            turn = self.rng.random()
+            if turn > 0.33:
+                kind, message = self.damaged(kind, message)
+            if turn > 0.90:
+                kind, message = self.damaged(kind, message)
+            if len(message) <= MOST_LISTED:
+                return kind, message
+
+    # -- Valid records.
+
+    def record(self, kind):
+        rng = self.rng
+        record = {"version": rng.choice((0, 1))}
+        if kind == LOGIN:
+            if record["version"] == 1:
+                record["hash_version"] = rng.choice((0, 1))
+            record["service"], record["user"] = self.text(), self.text()
+            record["hash"] = rng.randbytes(32 if record.get("hash_version") == 1 else 20)
+        elif kind == LOGIN_REPLY:
+            record["result"] = rng.choice((0, 0, 0, 1, 2, 3, -1, -128, 127))
+            record["host"], record["connection"], record["start"] = self.integer(4), self.integer(8), self.integer(8)
+            record["leader"], record["build"] = rng.randbytes(4), self.text()
+        elif kind == INVOCATION:
+            record["procedure"], record["client_data"] = self.text(), rng.randbytes(8)
+            record["parameters"] = [self.parameter() for _ in range(self.size(40))]
+        else:
+            record["client_data"] = rng.randbytes(8)
+            record["flags"] = rng.choice((0, 32, 64, 96, 128, 160, 192, 224))
+            record["status"], record["application"], record["round_trip"] = self.integer(1), self.integer(1), self.integer(4)
+            record["status_string"], record["application_string"] = self.body(), self.body()
+            record["exception"] = self.text()
+            record["tables"] = [self.table() for _ in range(self.size(6))]
+        return record
+
+    def parameter(self):
+        wire_type = self.rng.choice(PARAMETER_TYPES + (ARRAY, ARRAY, ARRAY))
+        if wire_type == NULL:
+            return NULL, None
+        if wire_type != ARRAY:
+            return wire_type, self.value(wire_type)
+        element_type = self.rng.choice(COLUMN_TYPES + (TINYINT, TINYINT))
+        if element_type == TINYINT:
+            return ARRAY, (TINYINT, self.text())
+        return ARRAY, (element_type, [self.value(element_type) for _ in range(self.size(60))])
+
+    def table(self):
+        rng = self.rng
+        columns = rng.choice((0, 1, 1, 2, 2, 3, 3, 4, 5, 8, rng.randint(0, 64), rng.randint(0, 64), 64))
+        types = [rng.choice(COLUMN_TYPES) for _ in range(columns)]
+        names = [bytes(rng.randrange(128) for _ in range(self.size(40))) for _ in range(columns)]
+        rows = self.size(400 if columns < 3 else 20 if columns < 12 else 4)
+        return {"status": self.integer(1), "types": types, "names": names,
+                "rows": [[self.value(wire_type) for wire_type in types] for _ in range(rows)]}
+
+    def size(self, most):
+        """A count: mostly small, now and then up to `most`."""
+        return self.rng.choice((0, 1, 1, 2, 2, 3, 4)) if self.rng.random() < 0.93 else self.rng.randint(0, most)
+
+    def text(self):
+        """A body that isn't null: mostly short, some empty, now and then long."""
+        size = self.size(300) if self.rng.random() < 0.995 else self.rng.randint(0, 9000)
+        return self.rng.randbytes(size)
+
+    def body(self):
+        """A body that may be null."""
+        return None if self.rng.random() < 0.2 else self.text()
+
+    def integer(self, size):
+        most = 2 ** (8 * size - 1)
+        near = self.rng.choice((-most, -1, 0, 1, most - 1))
+        return near if self.rng.random() < 0.5 else self.rng.randrange(-most, most)
+
+    def value(self, wire_type):
+        rng = self.rng
+        if wire_type in INTEGER_SIZES:
+            return self.integer(INTEGER_SIZES[wire_type])
+        if wire_type == FLOAT:
+            return rng.choice((rng.getrandbits(64), *FLOAT_PATTERNS))
+        if wire_type == DECIMAL:
+            wide = rng.randint(-MOST_DECIMAL, MOST_DECIMAL)
+            return rng.choice((0, -1, MOST_DECIMAL, -MOST_DECIMAL, NULL_DECIMAL, rng.randint(-10**15, 10**15), wide))
+        if wire_type == POINT:
+            return self.degrees(180.0), self.degrees(90.0)
+        body = self.body()
+        return b"\0" if wire_type == GEOGRAPHY and body == b"" else body
+
+    def degrees(self, most):
+        rng = self.rng
+        edge = rng.choice((most, -most, math.nextafter(most, 0), 0.0, -0.0, 5e-324))
+        return edge if rng.random() < 0.4 else rng.uniform(-most, most)
+
+    # -- Damage.
+
+    def damaged(self, kind, message):
+        """The message with one fault put in, tried up to three times if it turns out to be none."""
+        for _ in range(3):
+            out = self.damaged_once(kind, message)
+            if not accepted(*out):
+                break
+        return out
+
+    def damaged_once(self, kind, message):
+        """An already refused message is damaged blindly."""
+        rng = self.rng
+        try:
+            _, fields = read(kind, message)
+        except Refused:
+            return self.blindly(kind, message)
+        way = rng.random()
+        if way < 0.62:
+            return kind, self.field_changed(message, self.chosen(fields))
+        if way < 0.90:
+            return kind, self.resized(message, fields)
+        return self.blindly(kind, message)
+
+    def chosen(self, fields):
+        number = self.rng.choice(sorted({field[2] for field in fields}))
+        return self.rng.choice([field for field in fields if field[2] == number])
+
+    def field_changed(self, message, field):
+        """The bytes of one field replaced by others of the same size, such as its rule may refuse."""
+        at, size, number = field[:3]
+        old = message[at:at + size]
+        if number in LENGTHS_AND_COUNTS:
+            new = self.other_length(int.from_bytes(old, "big", signed=True), size)
+        elif number in (F_VERSION, F_HASH_VERSION):
+            new = bytes([self.rng.choice((0, 1, 2, 3, 127, 128, 129, 255))])
+        elif number in (F_TYPE, F_ELEMENT_TYPE, F_COLUMN_TYPE):
+            new = bytes([self.rng.choice([t % 256 for t in PARAMETER_TYPES] + [0, 2, 7, 10, 12, 21, 23, 24, 28, 99, 128, 255])])
+        elif number == F_FLAGS:
+            new = bytes([old[0] ^ (1 << self.rng.randrange(8))])
+        elif number == F_COLUMN_NAME + 1:
+            new = self.with_high_bytes(old)
+        elif number in (F_VALUE + 1, F_CELL + 1) and size == 16:
+            new = self.rng.choice((self.beyond_decimal, self.beyond_point))()
+        else:
+            new = self.rng.randbytes(size)
+        return message[:at] + new + message[at + size:]
+
+    def other_length(self, old, size):
+        """Off by one or a few, negative, at a limit and just beyond it, huge, or anything."""
+        rng = self.rng
+        limits = (MOST_MESSAGE, MOST_BODY, MOST_ROW, MOST_COLUMNS, MOST_ITEMS, MOST_LISTED)
+        new = rng.choice((
+            old + 1, old - 1, old + 4, old - 4, old + rng.randint(-9, 9), 0, -1, -2,
+            rng.choice(limits), rng.choice(limits) + 1, 2 ** (8 * size - 1) - 1, -(2 ** (8 * size - 1)),
+            rng.getrandbits(8 * size), rng.randint(0, 300),
+        ))
+        return (new % 2 ** (8 * size)).to_bytes(size, "big")
+
+    def with_high_bytes(self, name):
+        name = bytearray(name)
+        for _ in range(self.rng.choice((1, 1, 2, 3))):
+            name[self.rng.randrange(len(name))] = self.rng.choice((128, 255, self.rng.randint(128, 255), 127))
+        return bytes(name)
+
+    def beyond_decimal(self):
+        edge = self.rng.choice((10**38, -(10**38), NULL_DECIMAL, NULL_DECIMAL + 1, 2**127 - 1, MOST_DECIMAL, -MOST_DECIMAL))
+        return edge.to_bytes(16, "big", signed=True)
+
+    def beyond_point(self):
+        rng = self.rng
+        longitude, latitude = self.degrees(180.0), self.degrees(90.0)
+        which = rng.randrange(4)
+        bad = rng.choice((math.inf, -math.inf, math.nan, -math.nan, 360.0, 1e300))
+        if which == 0:
+            longitude = rng.choice((bad, math.nextafter(180.0, 999), math.nextafter(-180.0, -999)))
+        elif which == 1:
+            latitude = rng.choice((bad, math.nextafter(90.0, 999), math.nextafter(-90.0, -999), 180.0))
+        elif which == 2:
+            longitude, latitude = 360.0, 360.0
+        else:
+            patterns = [p for p in FLOAT_PATTERNS if p & (2**63 - 1) > 0x7FF0000000000000]
+            return rng.choice(patterns).to_bytes(8, "big") + struct.pack(">d", latitude)
+        return struct.pack(">dd", longitude, latitude)
+
+    def resized(self, message, fields):
+        """Bytes put in or taken out at a field, or at the end of a room, with the lengths of the rooms around it mended: mostly of
+        all of them, else of the outer ones."""
+        rng = self.rng
+        rooms = rooms_of(message, fields)
+        at, size, *_ = self.chosen(fields[2:])
+        at = rng.choice((at, at, at + size, rng.choice(rooms)[1]))
+        around = [(start, end) for start, end in rooms if start <= at <= end]
+        taken, put = self.change(size, around[-1][1] - at)
+        taken = min(taken, len(message) - at)
+        mending = rng.choice((len(around), len(around), len(around) - 1, rng.randint(0, len(around))))
+        out = bytearray(message)
+        for start, end in around[:mending]:
+            length = end - start + len(put) - min(taken, end - at)
+            out[start - 4:start] = length.to_bytes(4, "big")
+        out[at:at + taken] = put
+        return bytes(out)
+
+    def change(self, size, rest):
+        """How many bytes are taken out, and what is put in: all to the end of the room; a few, or the field; or some bytes more."""
+        rng = self.rng
+        way = rng.randrange(10)
+        if way < 3:
+            return rest, b""
+        if way < 6:
+            return rng.choice((1, 1, 2, 3, 4, size)), b""
+        if way < 8:
+            return 0, bytes(rng.choice((1, 4, 8)))
+        return 0, rng.randbytes(rng.choice((1, 1, 2, 4, 8)))
+
+    def blindly(self, kind, message):
+        """Cut, extended, flipped, noise, or taken for another kind."""
+        rng = self.rng
+        way = rng.randrange(9)
+        if way == 0:
+            return kind, message[:rng.randrange(len(message) + 1)]
+        if way == 1:
+            return kind, message + rng.randbytes(rng.choice((1, 2, 8, 40)))
+        if way == 2:
+            return kind, mended(message[:rng.randrange(len(message) + 1)])
+        if way == 3:
+            return kind, mended(message + rng.randbytes(rng.choice((1, 2, 8, 40))))
+        if way == 4:
+            return kind, mended(bytes(4) + bytes([rng.choice((0, 1))]) + rng.randbytes(rng.randint(0, 60)))
+        if way == 5:
+            return kind, rng.randbytes(rng.randint(0, 12))
+        if way == 6 and rng.random() < 0.3:
+            return rng.choice((0, 5, 6, 127, 128, 255)), message
+        if way == 6:
+            return rng.choice(KINDS), message
+        out = bytearray(message)
+        for _ in range(rng.choice((1, 1, 2, 4)) if out else 0):
+            out[rng.randrange(len(out))] = rng.randrange(256)
+        return kind, bytes(out)
+
+
+def accepted(kind, message):
+    try:
+        read(kind, message)
+        return True
+    except Refused:
+        return False
+
+
+def mended(message):
+    """The message with its length field made right, if it has one."""
+    return (len(message) - 4).to_bytes(4, "big") + message[4:] if len(message) >= 4 else message
+
+
+def rooms_of(message, fields):
+    """(start, end) of the message's room and of each table, metadata and row, the outer before the inner."""
+    starts = [at + 4 for at, _, number, *_ in fields if number in (F_LENGTH, F_TABLE, F_METADATA, F_ROW)]
+    return [(start, start + int.from_bytes(message[start - 4:start], "big")) for start in starts]
+
+
+LENGTHS_AND_COUNTS = (
+    F_LENGTH, F_SERVICE, F_USER, F_BUILD, F_PROCEDURE, F_PARAMETERS, F_ELEMENTS, F_VALUE, F_STATUS_STRING,
+    F_APPLICATION_STRING, F_EXCEPTION, F_TABLES, F_TABLE, F_METADATA, F_COLUMNS, F_COLUMN_NAME, F_ROWS, F_ROW, F_CELL,
+)
+
+# Zeros, infinities, quiet and signalling NaNs with and without payload, the smallest and the largest numbers, one.
+FLOAT_PATTERNS = (
+    0x0000000000000000, 0x8000000000000000, 0x7FF0000000000000, 0xFFF0000000000000,
+    0x7FF8000000000000, 0xFFF8000000000000, 0x7FF0000000000001, 0xFFFFFFFFFFFFFFFF,
+    0x0000000000000001, 0x7FEFFFFFFFFFFFFF, 0x3FF0000000000000,
+)

@@ -1,0 +1,176 @@
+"""Scripts of writer steps: as Python lists, as lines of text, and run on the second writer.
+
+A script is a list of steps, each (name, arguments). Its text has one step a line: the name and its arguments, one space between.
+Numbers are decimal; bytes are hexadecimal, `-` if empty and `null` if null; a value is its wire type, `:` and the value (a float
+its 64 bits in hexadecimal, a point two such with a comma between); a list has commas between its entries, `-` if empty.
+
+    buffer SIZE                                         a new buffer, byte i holding i mod 251; no state
+    login VERSION HASHVERSION SERVICE USER HASH         the two logins are whole messages from 0
+    login_reply VERSION RESULT HOST CONNECTION START LEADER BUILD
+    begin_invocation VERSION PROCEDURE CLIENT
+    begin_reply VERSION CLIENT FLAGS STATUS STATUSSTRING APPLICATION APPLICATIONSTRING ROUNDTRIP EXCEPTION
+    add_null | add_value VALUE | add_byte_array BYTES | open_array TYPE | add_element VALUE | close_array
+    open_table STATUS COLUMNS NAMES                     a column is TYPE/START/SIZE
+    finish_invocation | open_row | add_cell VALUE | close_row | close_table | finish_reply
+    forge STAGE POSITION COUNTAT COUNT INNERAT INNERTYPE INNERCOUNT TABLEAT ROWSAT ROWS COLUMNS TYPES
+                                                        sets the whole state, whatever it is; TYPES are 64 bytes
+    show                                                the position, and the buffer's bytes
+
+What is answered, a line a step: `fine`, or `refused NUMBER PLACE`; for `buffer` and `forge` nothing; for `show` the position, a space
+and the buffer in hexadecimal.
+
+For a program, `packed` makes each step a frame (frames.py): a byte that names the step (its place in NAMES), then its arguments: a
+number as 8 bytes; bytes as a length of 4 bytes (-1 null) and the bytes; a value as its wire type and its bytes on the wire; columns as
+their number in 4 bytes, then for each its type and two numbers.
+"""
+
+import struct
+
+import encoder
+import writer
+from wire import *
+from writer import No, State
+
+WHOLE = {"login": writer.write_login, "login_reply": writer.write_login_reply}
+BEGINNINGS = {"begin_invocation": writer.begin_invocation, "begin_reply": writer.begin_reply}
+STEPS = {step.__name__: step for step in (
+    writer.add_null, writer.add_value, writer.add_byte_array, writer.open_array, writer.add_element, writer.close_array,
+    writer.finish_invocation, writer.open_table, writer.open_row, writer.add_cell, writer.close_row, writer.close_table,
+    writer.finish_reply)}
+NAMES = ("buffer", "forge", "show", *WHOLE, *BEGINNINGS, *STEPS)
+NO_STATE = State(writer.CLOSED, 0)
+
+
+def fresh(size):
+    return bytes(i % 251 for i in range(size))
+
+
+def run(script):
+    """The answers of the second writer, and the state and the buffer that it leaves."""
+    state, buffer, answers = NO_STATE, b"", []
+    for name, arguments in script:
+        if name == "buffer":
+            state, buffer = NO_STATE, fresh(*arguments)
+        elif name == "forge":
+            state = forged(*arguments)
+        elif name == "show":
+            answers.append("%d %s" % (state.position, buffer.hex() or "-"))
+        else:
+            try:
+                if name in WHOLE:
+                    buffer = WHOLE[name](buffer, *arguments)
+                elif name in BEGINNINGS:
+                    state, buffer = BEGINNINGS[name](buffer, *arguments)
+                else:
+                    state, buffer = STEPS[name](state, buffer, *arguments)
+                answers.append("fine")
+            except No as no:
+                answers.append("refused %d %d" % no.answer)
+    return answers, state, buffer
+
+
+def forged(*fields):
+    """A whole state. More than 64 columns are too many, whatever their types are."""
+    *numbers, columns, types = fields
+    known = tuple(t - 256 if t > 127 else t for t in types[:columns])
+    return State(*numbers, known if columns <= MOST_COLUMNS else known + (TINYINT,))
+
+
+def forging(state, **changes):
+    """The step that sets `state`, with some fields changed; `columns` and `types` (64 bytes) are fields of their own."""
+    fields = dict(state.__dict__, columns=len(state.types))
+    fields["types"] = bytes(t % 256 for t in state.types).ljust(MOST_COLUMNS, b"\0")
+    fields.update(changes)
+    order = ("stage", "position", "count_at", "count", "inner_at", "inner_type", "inner_count", "table_at", "rows_at", "rows",
+             "columns", "types")
+    return "forge", tuple(fields[name] for name in order)
+
+
+def spelled(kind, record):
+    """The steps that write a record."""
+    if kind == LOGIN:
+        return [("login", (record["version"], record.get("hash_version", 0), record["service"], record["user"], record["hash"]))]
+    if kind == LOGIN_REPLY:
+        return [("login_reply", (record["version"], record["result"], record.get("host", 0), record.get("connection", 0),
+                                 record.get("start", 0), record.get("leader", bytes(4)), record.get("build", b"")))]
+    script = []
+    if kind == INVOCATION:
+        script.append(("begin_invocation", (record["version"], record["procedure"], record["client_data"])))
+        for wire_type, it in record["parameters"]:
+            script += spelled_parameter(wire_type, it)
+    else:
+        script.append(("begin_reply", (
+            record["version"], record["client_data"], record["flags"], record["status"], record.get("status_string"),
+            record["application"], record.get("application_string"), record["round_trip"], record.get("exception", b""))))
+        for table in record["tables"]:
+            script += spelled_table(table)
+    return script + [("finish_invocation" if kind == INVOCATION else "finish_reply", ())]
+
+
+def spelled_parameter(wire_type, it):
+    if wire_type == NULL:
+        return [("add_null", ())]
+    if wire_type != ARRAY:
+        return [("add_value", ((wire_type, it),))]
+    element_type, elements = it
+    if element_type == TINYINT:
+        return [("add_byte_array", (elements,))]
+    return [("open_array", (element_type,)), *[("add_element", ((element_type, e),)) for e in elements], ("close_array", ())]
+
+
+def spelled_table(table):
+    names, columns = b"", []
+    for wire_type, name in zip(table["types"], table["names"]):
+        columns.append((wire_type, len(names), len(name)))
+        names += name
+    script = [("open_table", (table["status"], tuple(columns), names))]
+    for row in table["rows"]:
+        script += [("open_row", ()), *[("add_cell", (value,)) for value in zip(table["types"], row)], ("close_row", ())]
+    return script + [("close_table", ())]
+
+
+# -- Text.
+
+def text(script):
+    return "".join(" ".join([name, *map(word, arguments)]) + "\n" for name, arguments in script)
+
+
+def word(argument):
+    if argument is None:
+        return "null"
+    if isinstance(argument, bytes):
+        return argument.hex() or "-"
+    if isinstance(argument, tuple) and len(argument) == 2 and not isinstance(argument[0], tuple):
+        return "%d:%s" % (argument[0], value_word(*argument))
+    if isinstance(argument, tuple):
+        return ",".join("%d/%d/%d" % column for column in argument) or "-"
+    return str(argument)
+
+
+def value_word(wire_type, it):
+    if wire_type == FLOAT:
+        return "%016x" % it
+    if wire_type == POINT:
+        return "%s,%s" % tuple(struct.pack(">d", degrees).hex() for degrees in it)
+    return word(it)
+
+
+# -- Frames.
+
+def packed(script):
+    out = b""
+    for name, arguments in script:
+        body = bytes([NAMES.index(name)]) + b"".join(map(packed_argument, arguments))
+        out += len(body).to_bytes(4, "big") + body
+    return out
+
+
+def packed_argument(argument):
+    if argument is None or isinstance(argument, bytes):
+        return encoder.counted(argument)
+    if isinstance(argument, tuple) and len(argument) == 2 and not isinstance(argument[0], tuple):
+        return encoder.number(argument[0], 1) + encoder.value(*argument)
+    if isinstance(argument, tuple):
+        columns = [encoder.number(t, 1) + start.to_bytes(8, "big") + size.to_bytes(8, "big") for t, start, size in argument]
+        return len(columns).to_bytes(4, "big") + b"".join(columns)
+    return (argument % 2**64).to_bytes(8, "big")

@@ -1,0 +1,292 @@
+"""The second writer: paper 01's "Writing", step by step, in plain Python.
+
+A step takes the state and the buffer and gives (answer, state, buffer): the answer is None, or (number, place), and then state and
+buffer are the same as before. A value is (wire type, value), with values as in reader.py. Nothing here reads the buffer back.
+"""
+
+from dataclasses import dataclass, replace
+
+import encoder
+from wire import *
+
+OUTPUT_SHORT, PAST_END, WRONG_STAGE = 8, 11, 13
+
+# What is open: nothing; a call, an array in it; a reply, a table in it, a row in that. The numbers are those that scripts use.
+CLOSED, CALL, ARRAY_OPEN, REPLY_OPEN, TABLE_OPEN, ROW_OPEN = range(6)
+
+
+@dataclass(frozen=True)
+class State:
+    stage: int
+    position: int
+    count_at: int = 0           # the place of the parameter count or the table count, and that count
+    count: int = 0
+    inner_at: int = 0           # of the open array's count, or of the open row's length
+    inner_type: int = 0         # of the open array's elements
+    inner_count: int = 0        # its elements, or the open row's cells
+    table_at: int = 0           # of the open table's length
+    rows_at: int = 0            # of its row count
+    rows: int = 0
+    types: tuple = ()
+
+
+class No(Exception):
+    def __init__(self, number, place):
+        super().__init__(number, place)
+        self.answer = (number, place)
+
+
+# -- Logins and beginnings: no state before them, so every place is 0.
+
+def write_login(buffer, version, hash_version, service, user, hash_):
+    check_version(version, 0)
+    if version == 1:
+        check_version(hash_version, 0)
+    check_body(service, 0)
+    check_body(user, 0)
+    size = 32 if version == 1 and hash_version == 1 else 20
+    if len(hash_) < size:
+        raise No(NO_ROOM, 0)
+    if len(hash_) > size:
+        raise No(LEFT_OVER, 0)
+    record = {"version": version, "hash_version": hash_version, "service": service, "user": user, "hash": hash_}
+    return put(buffer, 0, encoder.encode(LOGIN, record))
+
+
+def write_login_reply(buffer, version, result, host, connection, start, leader, build):
+    check_version(version, 0)
+    if result == 0:
+        check_body(build, 0)
+    record = {"version": version, "result": result, "host": host, "connection": connection, "start": start,
+              "leader": leader, "build": build}
+    return put(buffer, 0, encoder.encode(LOGIN_REPLY, record))
+
+
+def begin_invocation(buffer, version, procedure, client_data):
+    check_version(version, 0)
+    check_body(procedure, 0)
+    out = bytes(4) + encoder.number(version, 1) + encoder.counted(procedure) + client_data + bytes(2)
+    return begin(buffer, out, CALL)
+
+
+def begin_reply(buffer, version, client_data, flags, status, status_string, application, application_string, round_trip, exception):
+    check_version(version, 0)
+    if flags & ~FLAGS:
+        raise No(BAD_VALUE, 0)
+    out = bytes(4) + encoder.number(version, 1) + client_data + bytes([flags]) + encoder.number(status, 1)
+    if flags & FLAG_STATUS_STRING:
+        check_body(status_string, 0)
+        out += encoder.counted(status_string)
+    out += encoder.number(application, 1)
+    if flags & FLAG_APPLICATION_STRING:
+        check_body(application_string, 0)
+        out += encoder.counted(application_string)
+    out += encoder.number(round_trip, 4)
+    if flags & FLAG_EXCEPTION:
+        check_body(exception, 0)
+        out += encoder.counted(exception)
+    return begin(buffer, out + bytes(2), REPLY_OPEN)
+
+
+def begin(buffer, out, stage):
+    buffer = put(buffer, 0, out)
+    return State(stage, len(out), len(out) - 2, 0), buffer
+
+
+# -- Steps of an invocation.
+
+def add_null(state, buffer):
+    check_state(state, buffer, CALL)
+    return add_parameter(state, buffer, encoder.number(NULL, 1))
+
+
+def add_value(state, buffer, value):
+    check_state(state, buffer, CALL)
+    check_value(value, state.position)
+    return add_parameter(state, buffer, encoder.number(value[0], 1) + encoder.value(*value))
+
+
+def add_byte_array(state, buffer, body):
+    check_state(state, buffer, CALL)
+    check_body(body, state.position)
+    return add_parameter(state, buffer, encoder.number(ARRAY, 1) + encoder.number(TINYINT, 1) + encoder.counted(body))
+
+
+def open_array(state, buffer, element_type):
+    check_state(state, buffer, CALL)
+    if element_type not in COLUMN_TYPES or element_type == TINYINT:
+        raise No(BAD_TYPE, state.position)
+    opened, buffer = add_parameter(state, buffer, encoder.number(ARRAY, 1) + encoder.number(element_type, 1) + bytes(2))
+    return replace(opened, stage=ARRAY_OPEN, inner_at=opened.position - 2, inner_type=element_type, inner_count=0), buffer
+
+
+def add_parameter(state, buffer, out):
+    check_limit(state.count + 1, MOST_ITEMS, state)
+    return append(replace(state, count=state.count + 1), buffer, out)
+
+
+def add_element(state, buffer, value):
+    check_state(state, buffer, ARRAY_OPEN)
+    if value[0] != state.inner_type:
+        raise No(BAD_TYPE, state.position)
+    check_value(value, state.position)
+    check_limit(state.inner_count + 1, MOST_ITEMS, state)
+    return append(replace(state, inner_count=state.inner_count + 1), buffer, encoder.value(*value))
+
+
+def close_array(state, buffer):
+    check_state(state, buffer, ARRAY_OPEN)
+    state, buffer = append(state, buffer, b"")
+    return replace(state, stage=CALL), fill(buffer, state.inner_at, state.inner_count, 2)
+
+
+def finish_invocation(state, buffer):
+    check_state(state, buffer, CALL)
+    return finish(state, buffer)
+
+
+# -- Steps of a reply.
+
+def open_table(state, buffer, status, columns, names):
+    """Columns are (type, start, size) with the name at `start` of `names`."""
+    check_state(state, buffer, REPLY_OPEN)
+    if len(columns) > MOST_COLUMNS:
+        raise No(LIMIT, state.position)
+    for wire_type, _, _ in columns:
+        if wire_type not in COLUMN_TYPES:
+            raise No(BAD_TYPE, state.position)
+    metadata = encoder.number(status, 1) + encoder.number(len(columns), 2)
+    metadata += b"".join(encoder.number(wire_type, 1) for wire_type, _, _ in columns)
+    for _, start, size in columns:
+        if start + size > len(names):
+            raise No(PAST_END, 0)
+        name = names[start:start + size]
+        check_body(name, state.position)
+        if any(byte > 127 for byte in name):
+            raise No(BAD_VALUE, state.position)
+        metadata += encoder.counted(name)
+    check_limit(state.count + 1, MOST_ITEMS, state)
+    before = state.position
+    state, buffer = append(replace(state, count=state.count + 1), buffer, bytes(4) + encoder.counted(metadata) + bytes(4))
+    types = tuple(wire_type for wire_type, _, _ in columns)
+    return replace(state, stage=TABLE_OPEN, table_at=before, rows_at=state.position - 4, rows=0, types=types), buffer
+
+
+def open_row(state, buffer):
+    check_state(state, buffer, TABLE_OPEN)
+    check_limit(state.rows + 1, MOST_ROWS, state)
+    before = state.position
+    state, buffer = append(replace(state, rows=state.rows + 1), buffer, bytes(4))
+    return replace(state, stage=ROW_OPEN, inner_at=before, inner_count=0), buffer
+
+
+def add_cell(state, buffer, value):
+    check_state(state, buffer, ROW_OPEN)
+    if state.inner_count == len(state.types):
+        raise No(WRONG_STAGE, state.position)
+    if value[0] != state.types[state.inner_count]:
+        raise No(BAD_TYPE, state.position)
+    check_value(value, state.position)
+    return append(replace(state, inner_count=state.inner_count + 1), buffer, encoder.value(*value))
+
+
+def close_row(state, buffer):
+    check_state(state, buffer, ROW_OPEN)
+    if state.inner_count < len(state.types):
+        raise No(WRONG_STAGE, state.position)
+    state, buffer = append(state, buffer, b"")
+    return replace(state, stage=TABLE_OPEN), fill(buffer, state.inner_at, state.position - state.inner_at - 4, 4)
+
+
+def close_table(state, buffer):
+    check_state(state, buffer, TABLE_OPEN)
+    state, buffer = append(state, buffer, b"")
+    buffer = fill(buffer, state.table_at, state.position - state.table_at - 4, 4)
+    return replace(state, stage=REPLY_OPEN), fill(buffer, state.rows_at, state.rows, 4)
+
+
+def finish_reply(state, buffer):
+    check_state(state, buffer, REPLY_OPEN)
+    return finish(state, buffer)
+
+
+def finish(state, buffer):
+    state, buffer = append(state, buffer, b"")
+    buffer = fill(buffer, 0, state.position - 4, 4)
+    return State(CLOSED, state.position), fill(buffer, state.count_at, state.count, 2)
+
+
+# -- What every step tests.
+
+def check_state(state, buffer, stage):
+    """13 unless the stage permits the step and what is open at it is in order."""
+    if state.stage != stage or not sound(state, len(buffer)):
+        raise No(WRONG_STAGE, state.position)
+
+
+def sound(state, room):
+    """Open places follow each other, the last field ends by the position, and open counts and types keep their rules."""
+    places = [(0, 4), (state.count_at, 2)]
+    counts = [(state.count, MOST_ITEMS)]
+    types_in_order = True
+    if state.stage == ARRAY_OPEN:
+        places.append((state.inner_at, 2))
+        counts.append((state.inner_count, MOST_ITEMS))
+        types_in_order = state.inner_type in COLUMN_TYPES and state.inner_type != TINYINT
+    if state.stage in (TABLE_OPEN, ROW_OPEN):
+        places += [(state.table_at, 4), (state.rows_at, 4)]
+        counts += [(state.rows, MOST_ROWS), (len(state.types), MOST_COLUMNS)]
+        types_in_order = all(wire_type in COLUMN_TYPES for wire_type in state.types)
+    if state.stage == ROW_OPEN:
+        places.append((state.inner_at, 4))
+        counts.append((state.inner_count, len(state.types)))
+    nexts = [place for place, _ in places[1:]] + [state.position]
+    return (state.position <= room and types_in_order
+            and all(place + size <= after for (place, size), after in zip(places, nexts))
+            and all(0 <= count <= most for count, most in counts))
+
+
+def check_version(version, place):
+    if version not in (0, 1):
+        raise No(BAD_VERSION, place)
+
+
+def check_body(body, place):
+    if body is not None and len(body) > MOST_BODY:
+        raise No(LIMIT, place)
+
+
+def check_value(value, place):
+    """A value's own rule: a body's limit; 7 for a decimal, a point or an empty geography."""
+    wire_type, it = value
+    if wire_type in COUNTED_TYPES:
+        check_body(it, place)
+    bad = (wire_type == DECIMAL and not (-MOST_DECIMAL <= it <= MOST_DECIMAL or it == NULL_DECIMAL)
+           or wire_type == POINT and not (-180.0 <= it[0] <= 180.0 and -90.0 <= it[1] <= 90.0)
+           or wire_type == GEOGRAPHY and it == b"")
+    if bad:
+        raise No(BAD_VALUE, place)
+
+
+def check_limit(count, most, state):
+    if count > most:
+        raise No(LIMIT, state.position)
+
+
+def append(state, buffer, out):
+    """The message's limit and the open row's, then the output's room; then the bytes."""
+    after = state.position + len(out)
+    check_limit(after - 4, MOST_MESSAGE, state)
+    if state.stage == ROW_OPEN:
+        check_limit(after - state.inner_at - 4, MOST_ROW, state)
+    return replace(state, position=after), put(buffer, state.position, out)
+
+
+def put(buffer, at, out):
+    if at + len(out) > len(buffer):
+        raise No(OUTPUT_SHORT, at + len(out))
+    return buffer[:at] + out + buffer[at + len(out):]
+
+
+def fill(buffer, at, n, size):
+    return buffer[:at] + n.to_bytes(size, "big") + buffer[at + size:]

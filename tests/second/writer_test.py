@@ -1,0 +1,178 @@
+#!/usr/bin/env python3
+"""Checks the second writer against the second reader and encoder: writer_test.py [N] [SEED]
+
+The steps that a record spells write its encoding and nothing past it; in a buffer that is too short by k bytes some step answers 8
+at the place that it would reach, and changes nothing; a run of wild steps that reaches its end has written an accepted message.
+"""
+
+import random
+import sys
+from collections import Counter
+
+import steps
+import writer
+from encoder import encode
+from generate import Maker
+from reader import read
+from wire import *
+
+
+def main():
+    count = int(sys.argv[1]) if len(sys.argv) > 1 else 2000
+    seed = int(sys.argv[2]) if len(sys.argv) > 2 else 1
+    maker = Maker(random.Random(seed))
+    answers = Counter()
+    for _ in range(count):
+        spelled_once(maker)
+        wild_once(maker, answers)
+    print("writer_test passed: seed %d, %d records; wild answers: %s" % (
+        seed, count, ", ".join("%s %d" % pair for pair in sorted(answers.items()))))
+
+
+def spelled_once(maker):
+    kind = maker.rng.choice(KINDS)
+    record = maker.record(kind)
+    message = encode(kind, record)
+    if len(message) > 3000:
+        return
+    script = steps.spelled(kind, record)
+    spare = maker.rng.choice((0, 1, 50))
+    answers, _, buffer = steps.run([("buffer", (len(message) + spare,)), *script])
+    assert set(answers) == {"fine"}, (kind, record, answers)
+    assert buffer == message + steps.fresh(len(message) + spare)[len(message):]
+    short = maker.rng.randrange(len(message))
+    answers, _, buffer = steps.run([("buffer", (short,)), *script])
+    refused = [a for a in answers if a.startswith("refused 8")]
+    assert refused and int(refused[0].split()[2]) > short, (answers, short)
+
+
+def wild_once(maker, counts):
+    script = wild(maker)
+    answers, state, buffer = steps.run(script)
+    counts.update(a.split()[1] if a.startswith("refused") else a for a in answers[:-1])
+    forged = any(name == "forge" for name, _ in script)
+    if not forged and state.stage == writer.CLOSED and state.position:
+        kind = INVOCATION if any(n == "begin_invocation" for n, _ in script[1:2]) else REPLY
+        read(kind, buffer[:state.position])
+
+
+def wild(maker, forging=0.5):
+    """A script that begins well and then takes likely and unlikely steps, some with wrong arguments, some on forged states."""
+    rng = maker.rng
+    script = [("buffer", (rng.choice((0, 30, 100, 400, 1000, 1000, 4000)),))]
+    if rng.random() < 0.15:
+        return script + [wild_login(maker), ("show", ())]
+    kind = rng.choice((INVOCATION, REPLY))
+    first = steps.spelled(kind, maker.record(kind))[0]
+    script.append(first if rng.random() < 0.9 else wrong_beginning(maker, first))
+    forging = rng.random() < forging
+    stage, types = (writer.CALL if kind == INVOCATION else writer.REPLY_OPEN), ()
+    _, state, _ = steps.run(script)
+    for _ in range(rng.randint(1, 25)):
+        if forging and rng.random() < 0.15:
+            script.append(forgery(rng, state))
+        if stage == writer.CLOSED and rng.random() < 0.6:
+            break
+        name, arguments = likely(maker, stage, types) if rng.random() < 0.85 else anything(maker)
+        script.append((name, arguments))
+        _, state, _ = steps.run(script)
+        stage, types = state.stage, (state.types[state.inner_count:] if state.stage == writer.ROW_OPEN else (state.inner_type,))
+    return script + [("show", ())]
+
+
+def wild_login(maker):
+    rng = maker.rng
+    version = rng.choice((0, 1, 1, 2, -1))
+    if rng.random() < 0.5:
+        hash_ = rng.randbytes(rng.choice((0, 19, 20, 20, 21, 31, 32, 32, 33)))
+        return "login", (version, rng.choice((0, 1, 1, 2, -128)), maker.text()[:40], maker.text()[:40], hash_)
+    return "login_reply", (version, rng.choice((0, 0, 1, -1)), maker.integer(4), maker.integer(8), maker.integer(8), rng.randbytes(4),
+                           maker.text()[:40])
+
+
+def likely(maker, stage, types):
+    rng = maker.rng
+    if stage == writer.CALL:
+        return rng.choice((("add_null", ()), ("add_value", (some_value(maker),)), ("add_byte_array", (maker.text()[:40],)),
+                           ("open_array", (rng.choice(COLUMN_TYPES),)), ("finish_invocation", ())))
+    if stage == writer.ARRAY_OPEN:
+        return rng.choice((("add_element", (some_value(maker, types),)), ("add_element", (some_value(maker, types),)), ("close_array", ())))
+    if stage == writer.REPLY_OPEN:
+        return rng.choice((table(maker), table(maker), ("finish_reply", ())))
+    if stage == writer.TABLE_OPEN:
+        return rng.choice((("open_row", ()), ("open_row", ()), ("close_table", ())))
+    if stage == writer.ROW_OPEN:
+        return ("add_cell", (some_value(maker, types),)) if types else ("close_row", ())
+    return anything(maker)
+
+
+def anything(maker):
+    rng = maker.rng
+    return rng.choice((("add_null", ()), ("add_value", (some_value(maker),)), ("add_byte_array", (maker.text()[:40],)),
+                       ("open_array", (rng.choice((*COLUMN_TYPES, ARRAY, NULL, 0, 2, 127, -128)),)), ("add_element", (some_value(maker),)),
+                       ("close_array", ()), table(maker), ("open_row", ()), ("add_cell", (some_value(maker),)), ("close_row", ()),
+                       ("close_table", ()), ("finish_invocation", ()), ("finish_reply", ())))
+
+
+def some_value(maker, types=()):
+    """A value, mostly of the type that is due, now and then one that its own rule refuses."""
+    rng = maker.rng
+    wire_type = types[0] if types and types[0] in COLUMN_TYPES and rng.random() < 0.9 else rng.choice(COLUMN_TYPES)
+    if rng.random() < 0.1 and wire_type in (DECIMAL, POINT, GEOGRAPHY):
+        return wire_type, {DECIMAL: rng.choice((10**38, -10**38, 2**127 - 1)), POINT: (rng.choice((180.5, float("nan"), 0.0)), 90.5),
+                           GEOGRAPHY: b""}[wire_type]
+    value = maker.value(wire_type)
+    return wire_type, value[:40] if isinstance(value, bytes) else value
+
+
+def table(maker):
+    rng = maker.rng
+    columns = rng.choice((0, 1, 2, 3, 3, 64, 65))
+    names = bytes(rng.choice((65, 66, 127)) for _ in range(rng.randint(0, 12)))
+    if rng.random() < 0.15 and names:
+        names = names[:-1] + b"\x80"
+    entries = []
+    for _ in range(columns):
+        start = rng.randint(0, len(names))
+        size = rng.randint(0, len(names) - start) if rng.random() < 0.97 else rng.choice((len(names) + 1, 2**32, 2**63))
+        wire_type = rng.choice(COLUMN_TYPES) if rng.random() < 0.98 else rng.choice((ARRAY, NULL, 0))
+        entries.append((wire_type, start, size))
+    return "open_table", (maker.integer(1), tuple(entries), names)
+
+
+def wrong_beginning(maker, first):
+    name, arguments = first
+    arguments = list(arguments)
+    arguments[0] = maker.rng.choice((0, 1, 2, -1))
+    if name == "begin_reply":
+        arguments[2] = maker.rng.randrange(256)
+    return name, tuple(arguments)
+
+
+def forgery(rng, state):
+    """The state with one field, or two, forged."""
+    changes = {}
+    for _ in range(rng.choice((1, 1, 2))):
+        field = rng.choice(("stage", "position", "count_at", "count", "inner_at", "inner_type", "inner_count", "table_at", "rows_at",
+                            "rows", "columns", "types"))
+        near = rng.choice((0, 1, 3, 4, 6, 10, 17, 19, 21, 22, 26, 30, 40, 50, 100, 200, 2**31 - 1, 2**63, 2**64 - 1))
+        if field == "stage":
+            changes[field] = rng.randrange(6)
+        elif field == "inner_type":
+            changes[field] = rng.choice((*COLUMN_TYPES, ARRAY, NULL, 0))
+        elif field in ("count", "inner_count", "rows"):
+            changes[field] = rng.choice((0, 1, 2, 32766, 32767, 32768, 2**31 - 2, 2**31 - 1, 2**31, 2**63))
+        elif field == "columns":
+            changes[field] = rng.choice((0, 1, 2, 64, 65, 2**63))
+        elif field == "types":
+            changes[field] = bytes(rng.choice((*COLUMN_TYPES, *COLUMN_TYPES, *COLUMN_TYPES, 157, 1, 0)) for _ in range(64))
+        elif field == "position":
+            changes[field] = rng.choice((near, state.position + 1, state.position - 1 if state.position else 0))
+        else:
+            value = getattr(state, field)
+            changes[field] = rng.choice((near, value + 1, value - 1 if value else 0))
+    return steps.forging(state, **changes)
+
+
+if __name__ == "__main__":
+    main()
