@@ -13,53 +13,60 @@ use Rattle.format.specs.declared.Refusal.{Refusal}
 use Rattle.format.specs.Result.{Res, ok, no, bind}
 use Rattle.format.specs.Number.{Bytes}
 use Rattle.format.specs.Format.{Entry}
-use Rattle.format.specs.Message.{Message, readMessage, messageFields}
+use Rattle.format.specs.Message.{readMessage}
+use Rattle.format.proofs.Results.{ok-same, no-ok, bound}
 use Rattle.format.proofs.Took.{Tiles}
-use Rattle.message.specs.declared.Verdict.{Verdict}
-use Rattle.message.specs.Verdict.{toldVerdict, verdictOf, verdictNo}
-use Rattle.message.proofs.Accepted.{verdict-go, verdict-stop}
 use Rattle.tour.specs.declared.Tour.{Tour}
-use Rattle.tour.specs.Tour.{State, stateOf, six, visited, begun, Whole}
-use Rattle.fields.specs.Questions.{fieldsOf, nth, ownerOf, windowOf, windowCount, windowOut, sixes, over, entryAt}
+use Rattle.tour.specs.declared.Toured.{Toured}
+use Rattle.tour.specs.Tour.{State, stateOf, six, visited, begun, fieldsOf, tourOf, outOf}
+use Rattle.tour.specs.Told.{toldToured, touredNo}
+use Rattle.fields.specs.Questions.{nth, ownerOf, windowOf, windowCount, windowOut, sixes, over, entryAt}
 use Rattle.fields.proofs.Folds.{length-sixes}
 use Rattle.fields.proofs.Seen.{Windowed, windowed, tiles-asked, tiles-few, owned, owns, owner-past}
 use Rattle.fields.proofs.Together.{tiled}
 
--- a message that is refused has no fields
-pub refuses : (kind : ℕ) (m : List ℕ) {v : Verdict} {given r : Refusal} → toldVerdict v ≡ verdictOf (readMessage kind m) → v ≡ Verdict.No given → r ≡ verdictNo v
-    → fieldsOf kind m ≡ no (r .fault) (r .place)
-refuses kind m told none out = rw (verdict-stop (readMessage kind m) told none out)
+-- a tour that is refused, and one that goes over the fields
+pub refuses : (x : Res (List Entry)) (n : ℕ) (st : State) {a : Toured} {given r : Refusal} → toldToured a ≡ tourOf x n st → a ≡ Toured.No given → r ≡ touredNo a → x ≡ no (r .fault) (r .place)
+refuses (ok es) n st e told out = absurd (no-ok (sym (ap toldToured told) ∙ e))
+refuses (no f p) n st {given = g} e told out =
+    let same : _≡_ {A = Res Tour} (no (g .fault) (g .place)) (no f p) = sym (ap toldToured told) ∙ e in
+    rw (out ∙ ap touredNo told) (ap₂ (λ (h : Fault) (q : ℕ). no h q) (cc) (cc))
 
--- one that is accepted has fields, side by side, and a tour goes over them
-pub record Fields (kind : ℕ) (m : List ℕ) : Type 0 where
+goes : (x : Res (List Entry)) (n : ℕ) (st : State) {a : Toured} {t : Tour} {written : List ℕ} → toldToured a ≡ tourOf x n st → a ≡ Toured.Over t → written ≡ outOf x st
+    → (es : List Entry) × (x ≡ ok es) × (stateOf t written ≡ visited st es)
+goes (ok es) n st e told out =
+    (es, refl, ap₂ stateOf (ok-same (sym (ap toldToured told) ∙ e)) out)
+goes (no f p) n st e told out = absurd (no-ok (sym (sym (ap toldToured told) ∙ e)))
+
+-- a refusal leaves the lent list as it is
+pub stays : {x : Res (List Entry)} {f : Fault} {p : ℕ} (st : State) {written : List ℕ} → x ≡ no f p → written ≡ outOf x st → written ≡ st .out
+stays st e w = rw e at w
+
+-- what the tour over a message's fields says: they stand side by side, and it has seen them
+pub record Seen (kind : ℕ) (m : List ℕ) (st : State) (t : Tour) (written : List ℕ) : Type 0 where
   pub es : List Entry
   pub are : fieldsOf kind m ≡ ok es
   pub tile : Tiles 0 es (length m)
   pub few : length es < 2 ^ 64
-  pub goes : {first offset : ℕ} {out : List ℕ} {after : Tour} {written : List ℕ} → Whole kind m first offset out after written → stateOf after written ≡ visited (begun first offset out) es
+  pub state : stateOf t written ≡ visited st es
 
-pub fields-of : (kind : ℕ) (m : List ℕ) → Bytes m → length m < 2 ^ 64 → {v : Verdict} → toldVerdict v ≡ verdictOf (readMessage kind m) → v ≡ Verdict.Fine → Fields kind m
-fields-of kind m by small told fine =
-    let go = verdict-go (readMessage kind m) told fine in
-    let r = go .0 in
-    let tile = tiled kind m by r (go .1) in
-    record {
-      es = messageFields kind r;
-      are = ap (λ (x : Res Message). bind x (λ q. ok (messageFields kind q))) (go .1);
-      tile = tile;
-      few = omega (arith, tiles-few 0 (length m) (messageFields kind r) tile);
-      goes = λ w. w .goes r (go .1);
-    }
+pub seen : (kind : ℕ) (m : List ℕ) → Bytes m → length m < 2 ^ 64 → (n : ℕ) (st : State) {a : Toured} {t : Tour} {written : List ℕ}
+    → (toldToured a ≡ tourOf (fieldsOf kind m) n st) × (written ≡ outOf (fieldsOf kind m) st) → a ≡ Toured.Over t → Seen kind m st t written
+seen kind m by small n st e told =
+    let w = goes (fieldsOf kind m) n st (e .0) told (e .1) in
+    let q = bound (readMessage kind m) (w .1) in
+    let tile = rw (ok-same (q .2)) at (tiled kind m by (q .0) (q .1)) in
+    record { es = w .0; are = w .1; tile = tile; few = omega (arith, tiles-few 0 (length m) (w .0) tile); state = w .2 }
 
-module _ {kind : ℕ} {m : List ℕ} (f : Fields kind m) {after : Tour} {written : List ℕ} where
-  pub seen-window : (first : ℕ) (out : List ℕ) → Whole kind m first 0 out after written → Windowed (f .es) first out (stateOf after written)
-  seen-window first out w = rw (f .goes w) (windowed (f .es) first out (f .few) (tiles-asked 0 (length m) (f .es) (f .tile) (begun first 0 out) refl))
+module _ {kind : ℕ} {m : List ℕ} {t : Tour} {written : List ℕ} where
+  pub seen-window : (first : ℕ) (out : List ℕ) (f : Seen kind m (begun first 0 out) t written) → Windowed (f .es) first out (stateOf t written)
+  seen-window first out f = rw (f .state) (windowed (f .es) first out (f .few) (tiles-asked 0 (length m) (f .es) (f .tile) (begun first 0 out) refl))
 
-  pub seen-owner : (offset : ℕ) (out : List ℕ) → length out ≡ 6 → Whole kind m 0 offset out after written → stateOf after written ≡ owned offset out (length (f .es)) (ownerOf (f .es) offset)
-  seen-owner offset out long w =
+  pub seen-owner : (offset : ℕ) (out : List ℕ) → length out ≡ 6 → (f : Seen kind m (begun 0 offset out) t written) → stateOf t written ≡ owned offset out (length (f .es)) (ownerOf (f .es) offset)
+  seen-owner offset out long f =
       let small = f .few in
       let none : 0 + length (f .es) ≡ length (f .es) = omega arith in
-      f .goes w ∙ owns offset out long (f .es) 0 (length m) 0 (f .tile) (omega arith) (omega arith) ∙ ap (λ (n : ℕ). owned offset out n (ownerOf (f .es) offset)) none
+      f .state ∙ owns offset out long (f .es) 0 (length m) 0 (f .tile) (omega arith) (omega arith) ∙ ap (λ (n : ℕ). owned offset out n (ownerOf (f .es) offset)) none
 
 -- an entry past the end of a list, and one that is in it
 pub nth-past : (es : List Entry) (n : ℕ) → length es ≤ n → nth es n ≡ no PastEnd 0

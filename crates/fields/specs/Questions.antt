@@ -5,14 +5,9 @@ use mathlib.Core.List.{List, [], _∷_, _++_}
 use lib.ListN.{length, take, drop, getD}
 use lib.Dec.{leb, ltb}
 use Rattle.format.specs.declared.Fault.the-variants.{PastEnd}
-use Rattle.format.specs.Result.{Res, ok, no, bind, pick}
+use Rattle.format.specs.Result.{Res, ok, no, pick}
 use Rattle.format.specs.Format.{Entry}
-use Rattle.format.specs.Message.{readMessage, messageFields}
 use Rattle.tour.specs.Tour.{six}
-
--- the fields that a message of a kind has
-abbrev pub fieldsOf : ℕ → List ℕ → Res (List Entry)
-fieldsOf kind m = bind (readMessage kind m) (λ r. ok (messageFields kind r))
 
 -- the n-th entry, from 0 on
 abbrev pub nth : List Entry → ℕ → Res Entry

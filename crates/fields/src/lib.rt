@@ -1,12 +1,13 @@
 // The field list of a message: how many fields it has, the n-th, the owner of a byte, and windows of the list.
 use format::Fault;
 use format::Refusal;
-use message::Verdict;
+use tour::Toured;
 ghost use mathlib.Core.Path.{_≡_};
 ghost use lib.ListN.{length};
 ghost use Rattle.format.specs.declared.Fault.the-variants.{PastEnd};
 ghost use Rattle.format.specs.Result.{ok, bind};
-ghost use Rattle.fields.specs.Questions.{fieldsOf, nth, ownerOf, windowCount, windowOut, entryAt};
+ghost use Rattle.tour.specs.Tour.{fieldsOf};
+ghost use Rattle.fields.specs.Questions.{nth, ownerOf, windowCount, windowOut, entryAt};
 ghost use Rattle.fields.specs.Told.{toldEntry, toldCounted, toldListed, toldOwned, toldWritten};
 
 // A field: where it stands, how long it is, its number and its three indices.
@@ -47,12 +48,11 @@ pub enum Written {
 pub fn count(kind: u8, m: &[u8]) -> Counted
     ensures { λ r. ⌜ toldCounted r ≡ bind (fieldsOf kind (now (m .entry))) (λ es. ok (length es)) ⌝ }
 {
-    let verdict = message::accept(kind, m);
-    let Verdict::Fine = verdict else {
-        return Counted::No(message::verdict_refusal(verdict));
-    };
     let mut six: [u64; 6] = [0; 6];
-    let tour = tour::walk_message(kind, m, &mut six, 0, 0);
+    let toured = tour::over(kind, m, &mut six, 0, 0);
+    let Toured::Over(tour) = toured else {
+        return Counted::No(tour::toured_refusal(toured));
+    };
     Counted::Is(tour.seen)
 }
 
@@ -60,12 +60,11 @@ pub fn count(kind: u8, m: &[u8]) -> Counted
 pub fn field(kind: u8, m: &[u8], n: usize) -> Listed
     ensures { λ r. ⌜ toldListed r ≡ bind (fieldsOf kind (now (m .entry))) (λ es. nth es n) ⌝ }
 {
-    let verdict = message::accept(kind, m);
-    let Verdict::Fine = verdict else {
-        return Listed::No(message::verdict_refusal(verdict));
-    };
     let mut six: [u64; 6] = [0; 6];
-    let tour = tour::walk_message(kind, m, &mut six, n, 0);
+    let toured = tour::over(kind, m, &mut six, n, 0);
+    let Toured::Over(tour) = toured else {
+        return Listed::No(tour::toured_refusal(toured));
+    };
     if tour.seen <= n {
         return Listed::No(past_end());
     }
@@ -76,12 +75,11 @@ pub fn field(kind: u8, m: &[u8], n: usize) -> Listed
 pub fn owner(kind: u8, m: &[u8], offset: usize) -> Owned
     ensures { λ r. ⌜ toldOwned r ≡ bind (fieldsOf kind (now (m .entry))) (λ es. ownerOf es offset) ⌝ }
 {
-    let verdict = message::accept(kind, m);
-    let Verdict::Fine = verdict else {
-        return Owned::No(message::verdict_refusal(verdict));
-    };
     let mut six: [u64; 6] = [0; 6];
-    let tour = tour::walk_message(kind, m, &mut six, 0, offset);
+    let toured = tour::over(kind, m, &mut six, 0, offset);
+    let Toured::Over(tour) = toured else {
+        return Owned::No(tour::toured_refusal(toured));
+    };
     if tour.taken == 0 {
         return Owned::No(past_end());
     }
@@ -93,11 +91,10 @@ pub fn owner(kind: u8, m: &[u8], offset: usize) -> Owned
 pub fn window(kind: u8, m: &[u8], first: usize, out: &mut [u64]) -> Written
     ensures { λ r. ⌜ (toldWritten r ≡ bind (fieldsOf kind (now (m .entry))) (λ es. windowCount es first (length (now (out .entry))))) × (now (out .exit) ≡ windowOut (fieldsOf kind (now (m .entry))) first (now (out .entry))) ⌝ }
 {
-    let verdict = message::accept(kind, m);
-    let Verdict::Fine = verdict else {
-        return Written::No(message::verdict_refusal(verdict));
+    let toured = tour::over(kind, m, out, first, 0);
+    let Toured::Over(tour) = toured else {
+        return Written::No(tour::toured_refusal(toured));
     };
-    let tour = tour::walk_message(kind, m, out, first, 0);
     if tour.seen <= first {
         return Written::No(past_end());
     }

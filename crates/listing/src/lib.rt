@@ -5,12 +5,17 @@ ghost use mathlib.Core.Path.{_≡_};
 ghost use mathlib.Core.List.{_++_};
 ghost use lib.ListN.{length, take};
 ghost use lib.Seq.{paste};
+ghost use Rattle.format.specs.Result.{numberOf};
+ghost use Rattle.format.specs.Message.{isKind};
+ghost use Rattle.message.specs.Verdict.{toldVerdict};
 ghost use Rattle.io.specs.Counts.{Counts};
+ghost use Rattle.listing.specs.Listing.{listingOf};
 ghost use Rattle.listing.specs.Text.{spelled, lineOf};
 use fields::Written;
 use format::Fault;
 use format::Refusal;
 use libc::STDOUT_FILENO;
+use message::Verdict;
 
 // The longest input: one byte of kind and a message of 65,536 bytes.
 const MOST_INPUT: usize = 65537;
@@ -23,65 +28,85 @@ const NUMBERS: usize = 6;
 // Room for a line: its numbers of at most 20 digits, each with a byte after it.
 const LINE: usize = 126;
 
-// Prints what the listing program prints for its input: one byte of kind, then a message.
-pub fn print(input: &[u8]) {
+// Prints what the listing program prints for its input, one byte of kind and then a message: its field list, or a refusal.
+// Answers which.
+pub fn print(input: &[u8]) -> Verdict
+    ensures { λ r. ⌜ toldVerdict r ≡ listingOf (now (input .entry)) ⌝ }
+{
+    let verdict = judge(input);
+    let Verdict::No(refusal) = verdict else {
+        print_fields(input);
+        return verdict;
+    };
+    print_refusal(refusal);
+    verdict
+}
+
+// What is printed for an input: the field list where all is fine, or a refusal.
+fn judge(input: &[u8]) -> Verdict
+    ensures { λ r. ⌜ toldVerdict r ≡ listingOf (now (input .entry)) ⌝ }
+{
     if input.len() == 0 {
-        print_refused(Fault::WireType, 0);
-        return;
+        return Verdict::No(refusal_at_0(Fault::WireType));
     }
     let kind = input[0];
-    if kind < 1 || kind > 4 {
-        print_refused(Fault::WireType, 0);
-        return;
+    if input.len() <= MOST_INPUT {
+        return message::accept(kind, &input[1..]);
     }
-    if input.len() > MOST_INPUT {
-        print_refused(Fault::Limit, 0);
-        return;
+    if is_kind(kind) {
+        return Verdict::No(refusal_at_0(Fault::Limit));
     }
-    print_fields(kind, &input[1..]);
+    Verdict::No(refusal_at_0(Fault::WireType))
 }
 
-// Prints a refusal: `refused`, its number, its place.
-pub fn print_refusal(refusal: Refusal) {
+fn is_kind(kind: u8) -> bool
+    ensures { λ r. ⌜ r ≡ isKind kind ⌝ }
+{
+    1 <= kind && kind <= 4
+}
+
+fn refusal_at_0(fault: Fault) -> Refusal
+    ensures { λ r. ⌜ (r .fault ≡ fault) × (r .place ≡ 0) ⌝ }
+{
+    Refusal { fault, place: 0 }
+}
+
+// Prints a refusal: `refused`, its number, its place. Answers the number.
+pub fn print_refusal(refusal: Refusal) -> u8
+    ensures { λ r. ⌜ r ≡ numberOf (refusal .fault) ⌝ }
+{
     let fault = refusal.fault;
-    print_refused(fault, refusal.place);
-}
-
-fn print_refused(fault: Fault, place: usize) {
     let number = format::number_of(fault);
     io::write_all(STDOUT_FILENO, b"refused ");
     io::print_decimal(STDOUT_FILENO, number as u64);
     io::write_all(STDOUT_FILENO, b" ");
-    io::print_decimal(STDOUT_FILENO, place as u64);
+    io::print_decimal(STDOUT_FILENO, refusal.place as u64);
     io::write_all(STDOUT_FILENO, b"\n");
+    number
 }
 
-// Window after window, until one isn't full. A field has at least one byte, so the list is no longer
-// than the message.
-fn print_fields(kind: u8, m: &[u8]) {
+// Window after window, until one isn't full. A field has at least one byte, so the list is no longer than the message.
+fn print_fields(input: &[u8]) {
+    if input.len() == 0 {
+        return;
+    }
+    let kind = input[0];
+    let m = &input[1..];
     let mut first = 0;
     while first <= m.len() && print_window(kind, m, first) {
         first += WINDOW;
     }
 }
 
-// Prints the entries from `first` on, as many as a window takes, and answers whether there may be
-// more. The message's refusal is printed in place of its first window.
+// Prints the entries from `first` on, as many as a window takes, and answers whether there may be more.
 fn print_window(kind: u8, m: &[u8], first: usize) -> bool {
     let mut numbers = [0u64; WINDOW * NUMBERS];
     let answer = fields::window(kind, m, first, &mut numbers);
-    match answer {
-        Written::Is(n) => {
-            print_entries(&numbers, n);
-            n == WINDOW
-        }
-        Written::No(refusal) => {
-            if first == 0 {
-                print_refusal(refusal);
-            }
-            false
-        }
-    }
+    let Written::Is(n) = answer else {
+        return false;
+    };
+    print_entries(&numbers, n);
+    n == WINDOW
 }
 
 // Prints the first n entries, or as many as there are.

@@ -9,7 +9,7 @@ use lib.Dec.{eqb, lit<}
 use lib.Ieee.{binary64, ofBits, toBits, nanBits}
 use native.Mathlib.Omega.{arith}
 use native.Mathlib.Nat.{div-add-mod', div-lt-iff-lt-mul}
-use borrow.Author.Tests.{eqb-true, eqb-false, ne-eqb}
+use borrow.Author.Tests.{eqb-true}
 use Rattle.format.specs.Result.{Res, ok, no, bind, pick}
 use Rattle.format.specs.Number.{Bytes}
 use Rattle.format.specs.Format.{Verdict, number, ruled, into, counted}

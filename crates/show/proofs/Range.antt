@@ -2,13 +2,12 @@
 use mathlib.Core.Path.{_≡_, refl, sym, ap, ap₂, _∙_, subst}
 use mathlib.Core.Logic.{_⊎_, inl, inr}
 use Prim.Native.Nat.{ℕ, zero, suc, _+_, _-_, _*_, _/_, _%_, _^_, _≤_, _<_}
-use native.Mathlib.Nat.{le-trans, le-of-eq, le-of-lt, lt-of-lt-of-le, lt-of-le-of-lt, eq-or-lt-of-le, not-le-of-lt, le-of-mul-le-mul-right, mul-one, mul-assoc, mul-le-mul-right, mul-le-mul-left, mul-lt-mul-of-pos-right, pow-succ', div-add-mod', le-refl}
+use native.Mathlib.Nat.{le-trans, le-of-eq, le-of-lt, lt-of-lt-of-le, eq-or-lt-of-le, not-le-of-lt, le-of-mul-le-mul-right, mul-one, mul-assoc, mul-le-mul-right, mul-le-mul-left, mul-lt-mul-of-pos-right, pow-succ'}
 use native.Mathlib.Omega.{arith}
-use mathlib.Core.Bool.{Bool, true, false, not, _&&_, _||_, Bool·beq, cond, true≢false}
+use mathlib.Core.Bool.{Bool, true, false, not, _&&_, _||_, cond, true≢false}
 use lib.Dec.{T, lit<, leb, ltb, eqb, leb→le, le→leb, ltb→lt, lt→ltb, eqb→eq, eqb-refl, not-T, nltb→le, nleb→lt}
 use lib.Arith.{lt→nleb}
 use lib.Pow.{pow-pos, pow-mono}
-use lib.IntN.{ℤ}
 use lib.Ieee.{Float, nan, inf, fin, binary64, up, down, odd, ofFields, ofBits, isNan, neg, le}
 use lib.Ieee.Bits.{is-true, is-false, cond-no, nanBits-is, nanBits-above}
 use lib.Ieee.Exact.{HasValue, odd-sign}

@@ -1,9 +1,8 @@
 -- How a value of a wire type is shown, type by type.
-use Prim.Native.Nat.{ℕ, _+_, _*_, _/_, _%_, _^_, _<_, _≤_}
+use Prim.Native.Nat.{ℕ, _+_, _*_, _%_, _^_, _<_, _≤_}
 use mathlib.Core.Path.{_≡_, refl, sym, _∙_, ap}
-use mathlib.Core.Bool.{Bool, true, false, _||_}
+use mathlib.Core.Bool.{true, false}
 use mathlib.Core.List.{List}
-use mathlib.Core.Option.{Option}
 use mathlib.Core.Logic.{_⊎_, ⊎-elim}
 use lib.Dec.{eqb}
 use lib.Arith.{digits-div, digits-mod}
@@ -13,7 +12,7 @@ use borrow.Author.Tests.{leb-true}
 use Rattle.format.specs.declared.Fault.the-variants.{Decimal, Point}
 use Rattle.format.specs.Result.{Res, ok, no, bind, pick}
 use Rattle.format.specs.Format.{Format, number, ruled, into}
-use Rattle.format.specs.Value.{Value, fixed, body, number-of, body-of, value, string, isCounted, widthOf, fixedFine, decimalFine, pointFine, within}
+use Rattle.format.specs.Value.{fixed, body, number-of, body-of, value, string, isCounted, widthOf, fixedFine, decimalFine, pointFine, within}
 use Rattle.format.proofs.Results.{and-true-both}
 use Rattle.scan.proofs.Steps.{ruled-any}
 use Rattle.show.specs.declared.Cell.{Cell}

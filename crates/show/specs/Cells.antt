@@ -1,12 +1,10 @@
 -- What a value of a wire type is shown as, and which value a shown one is.
 use Prim.Native.Nat.{ℕ, _+_, _*_, _/_, _%_, _^_}
-use mathlib.Core.Bool.{Bool}
 use mathlib.Core.List.{List}
 use mathlib.Core.Option.{Option, some, none}
 use lib.ListN.{length, take, drop}
 use lib.Dec.{eqb}
 use lib.Ieee.{Float, binary64, ofBits, toBits, nanBits}
-use Rattle.format.specs.declared.Refusal.{Refusal}
 use Rattle.format.specs.Result.{Res, ok, no, pick}
 use Rattle.format.specs.Format.{Verdict}
 use Rattle.format.specs.Value.{Value, notEmpty, anything, fixed, body, tTinyint, tSmallint, tInteger, tBigint, tFloat, tString, tTimestamp, tDecimal, tVarbinary, tPoint, tGeography}

@@ -17,9 +17,9 @@ use Rattle.format.proofs.Results.{ok-same, bound}
 use Rattle.format.proofs.Laws.{Lawful, lawful-number, lawful-block, lawful-nothing, lawful-ruled, lawful-into, lawful-both, lawful-present}
 use Rattle.format.proofs.Formats.{lawful-list, lawful-param, lawful-server}
 use Rattle.tour.specs.declared.Tour.{Tour}
-use Rattle.tour.specs.Tour.{Toured}
+use Rattle.tour.specs.Tour.{Walked}
 use Rattle.tour.specs.Parts.{login}
-use Rattle.tour.proofs.Tours.{toured-block, toured-ruled, toured-into, toured-both, toured-nothing}
+use Rattle.tour.proofs.Tours.{walked-block, walked-ruled, walked-into, walked-both, walked-nothing}
 use Rattle.tour.proofs.Values.{lawful-string, ruled-read}
 
 -- how each format here is made
@@ -27,14 +27,14 @@ ruleset laws = (lawful-number, lawful-block, lawful-nothing, lawful-ruled, lawfu
 
 -- a value that is there, and one that is not
 module _ {A : Type 0} (d : A) (f : Format A) (s : List ℕ) {ix : Index} where
-  pub toured-present : (t : Bool) → t ≡ true → Bytes s → Lawful f → {tour : Tour} {out : List ℕ} {after : Tour} {written : List ℕ}
-      → Toured f s ix tour out after written → Toured (present t d f) s ix tour out after written
+  pub walked-present : (t : Bool) → t ≡ true → Bytes s → Lawful f → {tour : Tour} {out : List ℕ} {after : Tour} {written : List ℕ}
+      → Walked f s ix tour out after written → Walked (present t d f) s ix tour out after written
   unfolding present
-  toured-present t is by l w = rw is (toured-into s some (λ o. Option·getD o d) by l (λ a g. refl) w)
+  walked-present t is by l w = rw is (walked-into s some (λ o. Option·getD o d) by l (λ a g. refl) w)
 
-  pub toured-absent : (t : Bool) → t ≡ false → (tour : Tour) (out : List ℕ) → Toured (present t d f) s ix tour out tour out
+  pub walked-absent : (t : Bool) → t ≡ false → (tour : Tour) (out : List ℕ) → Walked (present t d f) s ix tour out tour out
   unfolding present
-  toured-absent t is tour out = rw is (toured-nothing s tour out none)
+  walked-absent t is tour out = rw is (walked-nothing s tour out none)
 
 -- the number of a field plays no part
 pub number-told : (s : List ℕ) (k field at : ℕ) {n : ℕ} → ((m next : ℕ) → number k 0 .read s at ≡ ok (m, next) → n ≡ m) → (m next : ℕ) → number k field .read s at ≡ ok (m, next) → n ≡ m
@@ -52,50 +52,50 @@ hashed version = both (present (eqb version 1) 0 (edition 3)) (λ h. login (hash
 module _ (s : List ℕ) (by : Bytes s) {ix : Index} {tour : Tour} {out : List ℕ} {after : Tour} {written : List ℕ} where
   module _ {mid : Tour} {half : List ℕ} where
     -- one value, and then another that doesn't look at it
-    pub toured-then : {A B : Type 0} {f : Format A} {g : Format B} → Lawful f → Toured f s ix tour out mid half → Toured g s ix mid half after written
-        → Toured (both f (λ a. g)) s ix tour out after written
-    toured-then {g = g} l t u = toured-both by {g = λ a. g} l t (λ a n e. u)
+    pub walked-then : {A B : Type 0} {f : Format A} {g : Format B} → Lawful f → Walked f s ix tour out mid half → Walked g s ix mid half after written
+        → Walked (both f (λ a. g)) s ix tour out after written
+    walked-then {g = g} l t u = walked-both by {g = λ a. g} l t (λ a n e. u)
 
     -- one value, known as t, and then another that it decides
-    pub toured-by : {A B : Type 0} {f : Format A} (g : A → Format B) → Lawful f → {t : A} → ((m : A) (next : ℕ) → f .read s (tour .at) ≡ ok (m, next) → t ≡ m) → Toured f s ix tour out mid half
-        → Toured (g t) s ix mid half after written → Toured (both f g) s ix tour out after written
-    toured-by g l {t} told w u =
-        toured-both by {g = g} l w (λ m next e. let same : t ≡ m = told m next e in rw same at u)
+    pub walked-by : {A B : Type 0} {f : Format A} (g : A → Format B) → Lawful f → {t : A} → ((m : A) (next : ℕ) → f .read s (tour .at) ≡ ok (m, next) → t ≡ m) → Walked f s ix tour out mid half
+        → Walked (g t) s ix mid half after written → Walked (both f g) s ix tour out after written
+    walked-by g l {t} told w u =
+        walked-both by {g = g} l w (λ m next e. let same : t ≡ m = told m next e in rw same at u)
 
-  pub toured-invocation : Toured (both (text 20 21) (λ p. both (block 8 22) (λ c. list 2 mostItems 23 first param))) s ix tour out after written → Toured invocation s ix tour out after written
+  pub walked-invocation : Walked (both (text 20 21) (λ p. both (block 8 22) (λ c. list 2 mostItems 23 first param))) s ix tour out after written → Walked invocation s ix tour out after written
   unfolding invocation
-  toured-invocation w = toured-into s _ _ by (search laws depth 8) (λ v g. refl) w
+  walked-invocation w = walked-into s _ _ by (search laws depth 8) (λ v g. refl) w
 
-  pub toured-server : Toured (both (number 4 11) (λ a. both (number 8 12) (λ b. both (number 8 13) (λ c. both (number 4 14) (λ d. text 15 16))))) s ix tour out after written → Toured server s ix tour out after written
+  pub walked-server : Walked (both (number 4 11) (λ a. both (number 8 12) (λ b. both (number 8 13) (λ c. both (number 4 14) (λ d. text 15 16))))) s ix tour out after written → Walked server s ix tour out after written
   unfolding server
-  toured-server w = toured-into s _ _ by (search laws depth 10) (λ v g. refl) w
+  walked-server w = walked-into s _ _ by (search laws depth 10) (λ v g. refl) w
 
-  pub toured-response : Toured (both (number 1 10) served) s ix tour out after written → Toured loginResponse s ix tour out after written
+  pub walked-response : Walked (both (number 1 10) served) s ix tour out after written → Walked loginResponse s ix tour out after written
   unfolding loginResponse
-  toured-response w = toured-into s _ _ by (search laws depth 8) (λ v g. refl) w
+  walked-response w = walked-into s _ _ by (search laws depth 8) (λ v g. refl) w
 
-  request : (version : ℕ) → Toured (hashed version) s ix tour out after written → Toured (loginRequest version) s ix tour out after written
+  request : (version : ℕ) → Walked (hashed version) s ix tour out after written → Walked (loginRequest version) s ix tour out after written
   unfolding loginRequest
-  request version w = toured-into s _ _ by (search laws depth 10) (λ v g. refl) w
+  request version w = walked-into s _ _ by (search laws depth 10) (λ v g. refl) w
 
   -- no hash version
-  pub toured-old : (version : ℕ) → (version ≡ 1 → ⊥) → Toured (login 20) s ix tour out after written → Toured (loginRequest version) s ix tour out after written
+  pub walked-old : (version : ℕ) → (version ≡ 1 → ⊥) → Walked (login 20) s ix tour out after written → Walked (loginRequest version) s ix tour out after written
   unfolding present nothing
-  toured-old version other w =
+  walked-old version other w =
       let is : eqb version 1 ≡ false = ne-eqb version 1 other in
-      request version (toured-both by {g = λ h. login (hashSize h)} (search laws depth 8) (toured-absent 0 (edition 3) s (eqb version 1) is tour out) (λ h n e.
+      request version (walked-both by {g = λ h. login (hashSize h)} (search laws depth 8) (walked-absent 0 (edition 3) s (eqb version 1) is tour out) (λ h n e.
       let same : _≡_ {A = Option ℕ} none h = ap (λ (p : Option ℕ × ℕ). p .0) (ok-same (rw is at e)) in
       rw (← same) w))
 
   module _ {mid : Tour} {half : List ℕ} where
     -- a hash version h
-    pub toured-new : (version : ℕ) → version ≡ 1 → {h : ℕ} → ((m next : ℕ) → number 1 0 .read s (tour .at) ≡ ok (m, next) → h ≡ m) → Toured (number 1 3) s ix tour out mid half
-        → Toured (login (hashSize (some h))) s ix mid half after written → Toured (loginRequest version) s ix tour out after written
+    pub walked-new : (version : ℕ) → version ≡ 1 → {h : ℕ} → ((m next : ℕ) → number 1 0 .read s (tour .at) ≡ ok (m, next) → h ≡ m) → Walked (number 1 3) s ix tour out mid half
+        → Walked (login (hashSize (some h))) s ix mid half after written → Walked (loginRequest version) s ix tour out after written
     unfolding present into number
-    toured-new version new {h} told t w =
+    walked-new version new {h} told t w =
         let is : eqb version 1 ≡ true = eq-eqb version 1 new in
-        let edited = toured-ruled s (λ n. leb n 1) Version t in
-        request version (toured-both by {g = λ v. login (hashSize v)} (search laws depth 8) (toured-present 0 (edition 3) s (eqb version 1) is by (search laws) edited) (λ v n e.
+        let edited = walked-ruled s (λ n. leb n 1) Version t in
+        request version (walked-both by {g = λ v. login (hashSize v)} (search laws depth 8) (walked-present 0 (edition 3) s (eqb version 1) is by (search laws) edited) (λ v n e.
         let r = bound (edition 3 .read s (tour .at)) (rw is at e) in
         let m = r .0 .0 in
         let same : h ≡ m = told m (r .0 .1) (ruled-read (λ n. leb n 1) Version (number 1 3) s (tour .at) (r .1)) in
@@ -113,6 +113,6 @@ hash-short h other = rw (ne-eqb h 1 other)
 pub lawful-optional : (t nullable : Bool) (l b : ℕ) → Lawful (present t none (string nullable anything l b))
 lawful-optional t nullable l b = search laws
 
-pub toured-if : {A : Type 0} (d : A) (f : Format A) {s : List ℕ} {ix : Index} {tour : Tour} {out : List ℕ} {after : Tour} {written : List ℕ} {t u : Bool} → t ≡ u
-    → Toured (present t d f) s ix tour out after written → Toured (present u d f) s ix tour out after written
-toured-if d f e w = rw e at w
+pub walked-if : {A : Type 0} (d : A) (f : Format A) {s : List ℕ} {ix : Index} {tour : Tour} {out : List ℕ} {after : Tour} {written : List ℕ} {t u : Bool} → t ≡ u
+    → Walked (present t d f) s ix tour out after written → Walked (present u d f) s ix tour out after written
+walked-if d f e w = rw e at w

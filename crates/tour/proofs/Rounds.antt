@@ -11,7 +11,7 @@ use Rattle.format.proofs.Results.{ok-same, bound}
 use Rattle.format.proofs.Laws.{Lawful}
 use Rattle.scan.proofs.Loops.{formats, replicate-formats, map-formats}
 use Rattle.tour.specs.declared.Tour.{Tour}
-use Rattle.tour.specs.Tour.{State, stateOf, visited, Toured}
+use Rattle.tour.specs.Tour.{State, stateOf, visited, Walked}
 use Rattle.tour.proofs.Visits.{visited-both}
 
 module _ {A : Type 0} (at-index : ℕ → Index → Index) (r : ℕ → Format A) (n : ℕ) where
@@ -31,7 +31,7 @@ module _ {A : Type 0} (at-index : ℕ → Index → Index) (r : ℕ → Format A
   pub round-first : Round 0 from old
   round-first = record { few = omega arith; long = refl; left = λ all end e. (all, e, refl) }
 
-  pub round-last : {i : ℕ} {tour : Tour} {out : List ℕ} → n ≤ i → Round i tour out → Toured (rest at-index r n 0) s ix from old tour out
+  pub round-last : {i : ℕ} {tour : Tour} {out : List ℕ} → n ≤ i → Round i tour out → Walked (rest at-index r n 0) s ix from old tour out
   unfolding each nothing formats visited
   round-last {i} {tour} {out} h w = record {
     goes = λ all end e.
@@ -43,7 +43,7 @@ module _ {A : Type 0} (at-index : ℕ → Index → Index) (r : ℕ → Format A
 
 -- one value, and then the others
 module _ {A : Type 0} (at-index : ℕ → Index → Index) (i : ℕ) {f : Format A} (fs : List (Format A)) (l : Lawful f) (s : List ℕ) (b : Bytes s) {ix : Index}
-    {tour : Tour} {out : List ℕ} {after : Tour} {written : List ℕ} (t : Toured f s (at-index i ix) tour out after written) (total : State) where
+    {tour : Tour} {out : List ℕ} {after : Tour} {written : List ℕ} (t : Walked f s (at-index i ix) tour out after written) (total : State) where
   -- what is left after the first of the values w
   abbrev Onward : List A × ℕ → Type 0
   Onward w =
@@ -63,7 +63,7 @@ module _ {A : Type 0} (at-index : ℕ → Index → Index) (i : ℕ) {f : Format
 
 module _ {A : Type 0} (at-index : ℕ → Index → Index) (r : ℕ → Format A) (l : (i : ℕ) → Lawful (r i)) (s : List ℕ) (b : Bytes s) (ix : Index) (n : ℕ) {from : Tour} {old : List ℕ} where
   pub round-next : (i : ℕ) {tour : Tour} {out : List ℕ} {after : Tour} {written : List ℕ} → i < n → Round at-index r s ix n from old i tour out
-      → Toured (r i) s (at-index i ix) tour out after written → length written ≡ length out → Round at-index r s ix n from old (i + 1) after written
+      → Walked (r i) s (at-index i ix) tour out after written → length written ≡ length out → Round at-index r s ix n from old (i + 1) after written
   unfolding formats
   round-next i h w t long = record {
     few = omega (arith, w .few);
@@ -76,13 +76,13 @@ module _ {A : Type 0} (at-index : ℕ → Index → Index) (r : ℕ → Format A
 
 -- all of n values of one format, and of one for each number of a list
 module _ {A : Type 0} (at-index : ℕ → Index → Index) (s : List ℕ) {ix : Index} {from : Tour} {old : List ℕ} {tour : Tour} {out : List ℕ} where
-  pub all-same : (f : Format A) (n : ℕ) → Toured (rest at-index (λ i. f) n 0) s ix from old tour out → Toured (each at-index 0 (replicate n f)) s ix from old tour out
+  pub all-same : (f : Format A) (n : ℕ) → Walked (rest at-index (λ i. f) n 0) s ix from old tour out → Walked (each at-index 0 (replicate n f)) s ix from old tour out
   all-same f n t =
       let whole : n - 0 ≡ n = omega arith in
       let same : formats (λ i. f) 0 (n - 0) ≡ replicate n f = rw whole (replicate-formats f 0 n) in
       rw same at t
 
-  pub all-map : (g : ℕ → Format A) (xs : List ℕ) → Toured (rest at-index (λ i. g (getD xs i 0)) (length xs) 0) s ix from old tour out → Toured (each at-index 0 (map g xs)) s ix from old tour out
+  pub all-map : (g : ℕ → Format A) (xs : List ℕ) → Walked (rest at-index (λ i. g (getD xs i 0)) (length xs) 0) s ix from old tour out → Walked (each at-index 0 (map g xs)) s ix from old tour out
   all-map g xs t =
       let whole : length xs - 0 ≡ length xs = omega arith in
       let same : formats (λ i. g (getD xs i 0)) 0 (length xs - 0) ≡ map g xs = rw whole (map-formats g xs) in

@@ -27,12 +27,12 @@ use Rattle.format.proofs.Formats.{lawful-list, lawful-value, lawful-metadata, l
 use Rattle.scan.proofs.Answers.{took}
 use Rattle.scan.proofs.Params.{byte-is}
 use Rattle.tour.specs.declared.Tour.{Tour}
-use Rattle.tour.specs.Tour.{Toured}
+use Rattle.tour.specs.Tour.{Walked}
 use Rattle.tour.specs.Parts.{statuses, results}
 use Rattle.tour.proofs.Visits.{visited-both}
-use Rattle.tour.proofs.Tours.{shows, toured-block, toured-ruled, toured-into}
+use Rattle.tour.proofs.Tours.{shows, walked-block, walked-ruled, walked-into}
 use Rattle.tour.proofs.Values.{lawful-string, lawful-count, ruled-read, count-read}
-use Rattle.tour.proofs.Contents.{toured-then, toured-by}
+use Rattle.tour.proofs.Contents.{walked-then, walked-by}
 
 -- how each format here is made
 ruleset laws = (lawful-number, lawful-block, lawful-nothing, lawful-ruled, lawful-into, lawful-both, lawful-present, lawful-each, lawful-string, lawful-count, lawful-list, lawful-value, lawful-metadata, lawful-row, lawful-table, all-replicate, all-map, lit<, tt)
@@ -62,10 +62,10 @@ roomed most field {f} l s by at a next e =
     record { n = n; length-read = r .1 ∙ ap (λ (p : ℕ). ok (n, p)) place; fit = fit; inside = rw take-append-drop at long ∙ end .1 }
 
 module _ (s : List ℕ) (by : Bytes s) {ix : Index} {tour : Tour} {out : List ℕ} {mid : Tour} {written : List ℕ} {after : Tour} {more : List ℕ} where
-  pub toured-room : {A : Type 0} (most field : ℕ) {f : Format A} → Lawful f → Toured (number 4 field) s ix tour out mid written → Toured f s ix mid written after more
-      → Toured (room most field f) s ix tour out after more
+  pub walked-room : {A : Type 0} (most field : ℕ) {f : Format A} → Lawful f → Walked (number 4 field) s ix tour out mid written → Walked f s ix mid written after more
+      → Walked (room most field f) s ix tour out after more
   unfolding room number
-  toured-room most field {f} l t u = record {
+  walked-room most field {f} l t u = record {
     goes = λ a next e.
         let r = roomed most field l s by (tour .at) a next e in
         let x = t .goes (r .n) (tour .at + 4) (r .length-read) in
@@ -162,28 +162,28 @@ abbrev pub rows : Metadata → Format (List (List Value))
 rows m = list 4 unlimited 48 second (row (m .types))
 
 module _ (s : List ℕ) (by : Bytes s) {ix : Index} {tour : Tour} {out : List ℕ} {mid : Tour} {written : List ℕ} {after : Tour} {more : List ℕ} where
-  pub toured-metadata : Toured (number 4 42) s ix tour out mid written → Toured described s ix mid written after more → Toured metadata s ix tour out after more
+  pub walked-metadata : Walked (number 4 42) s ix tour out mid written → Walked described s ix mid written after more → Walked metadata s ix tour out after more
   unfolding metadata
-  toured-metadata t u = toured-room s by unlimited 42 lawful-told t (toured-into s told untold by lawful-described described-back u)
+  walked-metadata t u = walked-room s by unlimited 42 lawful-told t (walked-into s told untold by lawful-described described-back u)
 
-  pub toured-row : (types : List ℕ) → Toured (number 4 49) s ix tour out mid written → Toured (each third 0 (map (value 50 51) types)) s ix mid written after more
-      → Toured (row types) s ix tour out after more
+  pub walked-row : (types : List ℕ) → Walked (number 4 49) s ix tour out mid written → Walked (each third 0 (map (value 50 51) types)) s ix mid written after more
+      → Walked (row types) s ix tour out after more
   unfolding row
-  toured-row types t u = toured-room s by mostRow 49 (search laws) t u
+  walked-row types t u = walked-room s by mostRow 49 (search laws) t u
 
-  pub toured-table : Toured (number 4 41) s ix tour out mid written → Toured (both metadata rows) s ix mid written after more → Toured table s ix tour out after more
+  pub walked-table : Walked (number 4 41) s ix tour out mid written → Walked (both metadata rows) s ix mid written after more → Walked table s ix tour out after more
   unfolding table
-  toured-table t u =
-      toured-room s by unlimited 41 (search laws depth 6) t
-      (toured-into s (λ v. record { metadata = v .0; rows = v .1 }) (λ l. (l .metadata, l .rows)) by (search laws depth 6) (λ v g. refl) u)
+  walked-table t u =
+      walked-room s by unlimited 41 (search laws depth 6) t
+      (walked-into s (λ v. record { metadata = v .0; rows = v .1 }) (λ l. (l .metadata, l .rows)) by (search laws depth 6) (λ v g. refl) u)
 
 module _ (s : List ℕ) (by : Bytes s) {ix : Index} {tour : Tour} {out : List ℕ} {after : Tour} {written : List ℕ} where
-  pub toured-count : (k most field : ℕ) → Toured (number k field) s ix tour out after written → Toured (count k most field) s ix tour out after written
-  toured-count k most field t = toured-ruled s (λ n. leb n most) Limit (toured-ruled s (λ n. ltb n (half k)) Negative t)
+  pub walked-count : (k most field : ℕ) → Walked (number k field) s ix tour out after written → Walked (count k most field) s ix tour out after written
+  walked-count k most field t = walked-ruled s (λ n. leb n most) Limit (walked-ruled s (λ n. ltb n (half k)) Negative t)
 
-  pub toured-reply : Toured (both (block 8 22) (λ c. both (ruled (λ n. eqb (n % 32) 0) Flags (number 1 30)) statuses)) s ix tour out after written → Toured response s ix tour out after written
+  pub walked-reply : Walked (both (block 8 22) (λ c. both (ruled (λ n. eqb (n % 32) 0) Flags (number 1 30)) statuses)) s ix tour out after written → Walked response s ix tour out after written
   unfolding response
-  toured-reply w = toured-into s _ _ by (search laws depth 16) (λ v g. refl) w
+  walked-reply w = walked-into s _ _ by (search laws depth 16) (λ v g. refl) w
 
 -- the same by what the code finds
 pub found-columns : (s : List ℕ) → Bytes s → (at : ℕ) (m : Metadata) (next : ℕ) → metadata .read s at ≡ ok (m, next) → {count first n : ℕ}

@@ -29,7 +29,7 @@ use Rattle.scan.specs.Shown.{shownNumber, shownNext, shownByte}
 use Rattle.scan.proofs.Answers.{took}
 use Rattle.tour.specs.declared.Tour.{Tour}
 use Rattle.tour.specs.declared.Indices.{Indices}
-use Rattle.tour.specs.Tour.{State, stateOf, indexOf, visited, Listed, Toured}
+use Rattle.tour.specs.Tour.{State, stateOf, indexOf, visited, Listed, Walked}
 use Rattle.tour.proofs.Visits.{visited-both}
 
 module _ {A : Type 0} (f : Format A) (s : List ℕ) (ix : Index) (tour : Tour) (out : List ℕ) (after : Tour) (written : List ℕ) where
@@ -42,28 +42,28 @@ module _ {A : Type 0} (f : Format A) (s : List ℕ) (ix : Index) (tour : Tour) (
 
 module _ (s : List ℕ) {ix : Index} {tour : Tour} {out : List ℕ} {after : Tour} {written : List ℕ} where
   -- bytes as they are, and a number
-  pub toured-block : (n field : ℕ) → Toured (number n field) s ix tour out after written → Toured (block n field) s ix tour out after written
+  pub walked-block : (n field : ℕ) → Walked (number n field) s ix tour out after written → Walked (block n field) s ix tour out after written
   unfolding number block
-  toured-block n field t = record {
+  walked-block n field t = record {
     goes = λ a next e.
         let h = passed (leb (tour .at + n) (length s)) _ _ e in
         let w = t .goes (numAt n s (tour .at)) (tour .at + n) (rw (h .0)) in
         shows (block n field) s ix tour out after written (h .1) w;
   }
 
-  pub toured-ruled : {A : Type 0} (test : A → Bool) (fault : Fault) {f : Format A} → Toured f s ix tour out after written → Toured (ruled test fault f) s ix tour out after written
+  pub walked-ruled : {A : Type 0} (test : A → Bool) (fault : Fault) {f : Format A} → Walked f s ix tour out after written → Walked (ruled test fault f) s ix tour out after written
   unfolding ruled
-  toured-ruled test fault {f} t = record {
+  walked-ruled test fault {f} t = record {
     goes = λ a next e.
         let r = bound (f .read s (tour .at)) e in
         let h = passed (test (r .0 .0)) _ _ (r .2) in
         shows (ruled test fault f) s ix tour out after written (h .1) (t .goes (r .0 .0) (r .0 .1) (r .1));
   }
 
-  pub toured-into : {A B : Type 0} (to : A → B) (from : B → A) {f : Format A} → Bytes s → Lawful f → ((a : A) → f .Good a → from (to a) ≡ a)
-      → Toured f s ix tour out after written → Toured (into to from f) s ix tour out after written
+  pub walked-into : {A B : Type 0} (to : A → B) (from : B → A) {f : Format A} → Bytes s → Lawful f → ((a : A) → f .Good a → from (to a) ≡ a)
+      → Walked f s ix tour out after written → Walked (into to from f) s ix tour out after written
   unfolding into
-  toured-into {A} {B} to from {f} b l back t = record {
+  walked-into {A} {B} to from {f} b l back t = record {
     goes = λ a next e.
         let r = bound (f .read s (tour .at)) e in
         let w = t .goes (r .0 .0) (r .0 .1) (r .1) in
@@ -74,10 +74,10 @@ module _ (s : List ℕ) {ix : Index} {tour : Tour} {out : List ℕ} {after : Tou
 
 -- a number, to the place past its bytes
 module _ (s : List ℕ) {tour : Tour} {out : List ℕ} {after : Tour} {written : List ℕ} where
-  pub toured-number : (k field : ℕ) {ix : Indices} {end : ℕ} → (tour .at + k ≤ length s → end ≡ tour .at + k) → Listed field ix tour out end after written
-      → Toured (number k field) s (indexOf ix) tour out after written
+  pub walked-number : (k field : ℕ) {ix : Indices} {end : ℕ} → (tour .at + k ≤ length s → end ≡ tour .at + k) → Listed field ix tour out end after written
+      → Walked (number k field) s (indexOf ix) tour out after written
   unfolding number
-  toured-number k field {ix} {end} far l = record {
+  walked-number k field {ix} {end} far l = record {
     goes = λ a next e.
         let h = passed (leb (tour .at + k) (length s)) _ _ e in
         let there : end ≡ tour .at + k = far (leb-true _ _ (h .0)) in
@@ -87,16 +87,16 @@ module _ (s : List ℕ) {tour : Tour} {out : List ℕ} {after : Tour} {written :
 
 -- nothing, which leaves the tour as it is
 module _ (s : List ℕ) {ix : Index} (tour : Tour) (out : List ℕ) where
-  pub toured-nothing : {A : Type 0} (a : A) → Toured (nothing a) s ix tour out tour out
+  pub walked-nothing : {A : Type 0} (a : A) → Walked (nothing a) s ix tour out tour out
   unfolding nothing visited
-  toured-nothing a = record { goes = λ v next e. shows (nothing a) s ix tour out tour out e (refl, refl) }
+  walked-nothing a = record { goes = λ v next e. shows (nothing a) s ix tour out tour out e (refl, refl) }
 
 -- one value and then another
 module _ {s : List ℕ} (b : Bytes s) {ix : Index} {tour : Tour} {out : List ℕ} {mid : Tour} {half : List ℕ} {after : Tour} {written : List ℕ} where
-  pub toured-both : {A B : Type 0} {f : Format A} {g : A → Format B} → Lawful f → Toured f s ix tour out mid half
-      → ((a : A) (n : ℕ) → f .read s (tour .at) ≡ ok (a, n) → Toured (g a) s ix mid half after written) → Toured (both f g) s ix tour out after written
+  pub walked-both : {A B : Type 0} {f : Format A} {g : A → Format B} → Lawful f → Walked f s ix tour out mid half
+      → ((a : A) (n : ℕ) → f .read s (tour .at) ≡ ok (a, n) → Walked (g a) s ix mid half after written) → Walked (both f g) s ix tour out after written
   unfolding both
-  toured-both {A} {B} {f} {g} l t u = record {
+  walked-both {A} {B} {f} {g} l t u = record {
     goes = λ v next e.
         let r = bound (f .read s (tour .at)) e in
         let a = r .0 .0 in
@@ -157,10 +157,10 @@ module _ (most : ℕ) (rule : List ℕ → Verdict) (s : List ℕ) (at n next : 
 
 -- a counted body, whether it may be null or not and whatever its rule: n is what stands for its length
 module _ (s : List ℕ) {ix : Index} {tour : Tour} {out : List ℕ} {mid : Tour} {written : List ℕ} (nullable : Bool) (most : ℕ) (rule : List ℕ → Verdict) (l b n : ℕ)
-    (told : (m next : ℕ) → number 4 0 .read s (tour .at) ≡ ok (m, next) → n ≡ m) (t : Toured (number 4 l) s ix tour out mid written) where
-  pub toured-null : n ≡ null4 → Toured (counted nullable most rule l b) s ix tour out mid written
+    (told : (m next : ℕ) → number 4 0 .read s (tour .at) ≡ ok (m, next) → n ≡ m) (t : Walked (number 4 l) s ix tour out mid written) where
+  pub walked-null : n ≡ null4 → Walked (counted nullable most rule l b) s ix tour out mid written
   unfolding counted number
-  toured-null z = record {
+  walked-null z = record {
     goes = λ v next e.
         let r = bound (number 4 l .read s (tour .at)) e in
         let same : n ≡ r .0 .0 = told (r .0 .0) (r .0 .1) (r .1) in
@@ -170,9 +170,9 @@ module _ (s : List ℕ) {ix : Index} {tour : Tour} {out : List ℕ} {mid : Tour}
         (x .0 ∙ place ∙ sym (w .end), rw (w .none-there) (x .1));
   }
 
-  pub toured-some : {after : Tour} {more : List ℕ} → (n ≡ null4 → ⊥) → Toured (number n b) s ix mid written after more → Toured (counted nullable most rule l b) s ix tour out after more
+  pub walked-some : {after : Tour} {more : List ℕ} → (n ≡ null4 → ⊥) → Walked (number n b) s ix mid written after more → Walked (counted nullable most rule l b) s ix tour out after more
   unfolding counted number
-  toured-some {after} {more} z u = record {
+  walked-some {after} {more} z u = record {
     goes = λ v next e.
         let r = bound (number 4 l .read s (tour .at)) e in
         let same : n ≡ r .0 .0 = told (r .0 .0) (r .0 .1) (r .1) in

@@ -23,8 +23,8 @@ use Rattle.format.proofs.Formats.{lawful-value, lawful-list, lawful-items, lawf
 use Rattle.scan.proofs.Values.{value-fields}
 use Rattle.tour.specs.declared.Tour.{Tour}
 use Rattle.tour.specs.declared.Indices.{Indices}
-use Rattle.tour.specs.Tour.{stateOf, indexOf, visited, Listed, Toured}
-use Rattle.tour.proofs.Tours.{Shows, shows, toured-ruled, toured-into, toured-both, toured-nothing}
+use Rattle.tour.specs.Tour.{stateOf, indexOf, visited, Listed, Walked}
+use Rattle.tour.proofs.Tours.{Shows, shows, walked-ruled, walked-into, walked-both, walked-nothing}
 
 pub lawful-string : (nullable : Bool) (rule : List ℕ → Verdict) (l b : ℕ) → Lawful (string nullable rule l b)
 lawful-string nullable rule l b = lawful-counted nullable mostBytes rule l b (lit< tt)
@@ -53,17 +53,17 @@ count-read k most field s at n next e = ruled-read (λ m. ltb m (half k)) Negati
 
 module _ (s : List ℕ) (by : Bytes s) {tour : Tour} {out : List ℕ} {after : Tour} {written : List ℕ} where
   module _ {ix : Index} where
-    pub toured-body : (l b t : ℕ) → isCounted t ≡ true → ((nullable : Bool) (rule : List ℕ → Verdict) → Toured (string nullable rule l b) s ix tour out after written)
-        → Toured (value l b t) s ix tour out after written
+    pub walked-body : (l b t : ℕ) → isCounted t ≡ true → ((nullable : Bool) (rule : List ℕ → Verdict) → Walked (string nullable rule l b) s ix tour out after written)
+        → Walked (value l b t) s ix tour out after written
     unfolding value
-    toured-body l b t is w =
+    walked-body l b t is w =
         let rule = pick (eqb t 27) notEmpty anything in
-        rw is (toured-into s body body-of by (lawful-string true rule l b) (λ a g. refl) (w true rule))
+        rw is (walked-into s body body-of by (lawful-string true rule l b) (λ a g. refl) (w true rule))
 
-  pub toured-plain : (l b t : ℕ) {ix : Indices} {end : ℕ} → isCounted t ≡ false → ((v : Value) (next : ℕ) → value 0 0 t .read s (tour .at) ≡ ok (v, next) → end ≡ next)
-      → Listed b ix tour out end after written → Toured (value l b t) s (indexOf ix) tour out after written
+  pub walked-plain : (l b t : ℕ) {ix : Indices} {end : ℕ} → isCounted t ≡ false → ((v : Value) (next : ℕ) → value 0 0 t .read s (tour .at) ≡ ok (v, next) → end ≡ next)
+      → Listed b ix tour out end after written → Walked (value l b t) s (indexOf ix) tour out after written
   unfolding value into ruled number
-  toured-plain l b t {ix} {end} is told w = record {
+  walked-plain l b t {ix} {end} is told w = record {
     goes = λ v next e.
         let there : end ≡ next = told v next (sym (value-fields s (tour .at) l b t) ∙ e) in
         let size : end - tour .at ≡ widthOf t = ends v next e there in
@@ -94,49 +94,49 @@ module _ {A : Type 0} where
 -- a count, and as many values of one format
 module _ {A : Type 0} (k most field : ℕ) (at-index : ℕ → Index → Index) {f : Format A} (l : Lawful f) (s : List ℕ) (by : Bytes s)
     {ix : Index} {tour : Tour} {out : List ℕ} {mid : Tour} {half : List ℕ} {after : Tour} {written : List ℕ} {n : ℕ} where
-  pub toured-list : ((m next : ℕ) → number k 0 .read s (tour .at) ≡ ok (m, next) → n ≡ m) → Toured (number k field) s ix tour out mid half
-      → Toured (each at-index 0 (replicate n f)) s ix mid half after written → Toured (list k most field at-index f) s ix tour out after written
+  pub walked-list : ((m next : ℕ) → number k 0 .read s (tour .at) ≡ ok (m, next) → n ≡ m) → Walked (number k field) s ix tour out mid half
+      → Walked (each at-index 0 (replicate n f)) s ix mid half after written → Walked (list k most field at-index f) s ix tour out after written
   unfolding list
-  toured-list told t u =
+  walked-list told t u =
       let c = count k most field in
       let g : ℕ → Format (List A) = λ m. each at-index 0 (replicate m f) in
-      toured-into s (λ v. v .1) (λ l. (length l, l)) by (lawful-both (lawful-count k most field) (λ m. lawful-each at-index 0 (replicate m f) (all-replicate m l))) (list-back c at-index f)
-      (toured-both by {g = g} (lawful-count k most field) (toured-ruled s (λ m. leb m most) Limit (toured-ruled s (λ m. ltb m (256 ^ k / 2)) Negative t))
+      walked-into s (λ v. v .1) (λ l. (length l, l)) by (lawful-both (lawful-count k most field) (λ m. lawful-each at-index 0 (replicate m f) (all-replicate m l))) (list-back c at-index f)
+      (walked-both by {g = g} (lawful-count k most field) (walked-ruled s (λ m. leb m most) Limit (walked-ruled s (λ m. ltb m (256 ^ k / 2)) Negative t))
       (λ m next e.
       let same : n ≡ m = told m next (count-read k most field s (tour .at) m next e) in
       rw same at u))
 
 module _ (s : List ℕ) (by : Bytes s) {ix : Index} {tour : Tour} {out : List ℕ} {after : Tour} {written : List ℕ} (t : ℕ) where
   -- an array's elements
-  pub toured-bytes : t ≡ 3 → Toured (text 26 28) s ix tour out after written → Toured (items t) s ix tour out after written
+  pub walked-bytes : t ≡ 3 → Walked (text 26 28) s ix tour out after written → Walked (items t) s ix tour out after written
   unfolding items
-  toured-bytes is w = rw is (toured-into s bytes bytes-of by (lawful-string false anything 26 28) (λ a g. refl) w)
+  walked-bytes is w = rw is (walked-into s bytes bytes-of by (lawful-string false anything 26 28) (λ a g. refl) w)
 
-  pub toured-values : (t ≡ 3 → ⊥) → Toured (list 2 mostItems 26 second (value 27 28 t)) s ix tour out after written → Toured (items t) s ix tour out after written
+  pub walked-values : (t ≡ 3 → ⊥) → Walked (list 2 mostItems 26 second (value 27 28 t)) s ix tour out after written → Walked (items t) s ix tour out after written
   unfolding items
-  toured-values other w = rw (ne-eqb t 3 other) (toured-into s values values-of by (lawful-list 2 mostItems 26 second (lawful-value 27 28 t)) (λ a g. refl) w)
+  walked-values other w = rw (ne-eqb t 3 other) (walked-into s values values-of by (lawful-list 2 mostItems 26 second (lawful-value 27 28 t)) (λ a g. refl) w)
 
   -- what stands after a parameter's type
-  pub toured-one : (t ≡ 1 → ⊥) → (t ≡ 157 → ⊥) → Toured (value 27 28 t) s ix tour out after written → Toured (argument t) s ix tour out after written
+  pub walked-one : (t ≡ 1 → ⊥) → (t ≡ 157 → ⊥) → Walked (value 27 28 t) s ix tour out after written → Walked (argument t) s ix tour out after written
   unfolding argument
-  toured-one a b w = rw (ne-eqb t 1 a, ne-eqb t 157 b) (toured-into s one one-of by (lawful-value 27 28 t) (λ v g. refl) w)
+  walked-one a b w = rw (ne-eqb t 1 a, ne-eqb t 157 b) (walked-into s one one-of by (lawful-value 27 28 t) (λ v g. refl) w)
 
-  pub toured-array : t ≡ 157 → Toured (both (columnType 25) items) s ix tour out after written → Toured (argument t) s ix tour out after written
+  pub walked-array : t ≡ 157 → Walked (both (columnType 25) items) s ix tour out after written → Walked (argument t) s ix tour out after written
   unfolding argument
-  toured-array is w = rw is (toured-into s (λ v. array (v .0) (v .1)) array-of by (lawful-both lawful-element lawful-items) (λ v g. refl) w)
+  walked-array is w = rw is (walked-into s (λ v. array (v .0) (v .1)) array-of by (lawful-both lawful-element lawful-items) (λ v g. refl) w)
 
-pub toured-null-argument : (s : List ℕ) {ix : Index} (tour : Tour) (out : List ℕ) (t : ℕ) → t ≡ 1 → Toured (argument t) s ix tour out tour out
+pub walked-null-argument : (s : List ℕ) {ix : Index} (tour : Tour) (out : List ℕ) (t : ℕ) → t ≡ 1 → Walked (argument t) s ix tour out tour out
 unfolding argument
-toured-null-argument s tour out t is = rw is (toured-nothing s tour out null)
+walked-null-argument s tour out t is = rw is (walked-nothing s tour out null)
 
 -- a type byte, and what it decides
 module _ {B : Type 0} (test : ℕ → Bool) (fault : Fault) (field : ℕ) (g : ℕ → Format B) (s : List ℕ) (by : Bytes s)
     {ix : Index} {tour : Tour} {out : List ℕ} {mid : Tour} {half : List ℕ} {after : Tour} {written : List ℕ} {t : ℕ} where
-  pub toured-typed : ((m next : ℕ) → number 1 0 .read s (tour .at) ≡ ok (m, next) → t ≡ m) → Toured (number 1 field) s ix tour out mid half
-      → Toured (g t) s ix mid half after written → Toured (both (ruled test fault (number 1 field)) g) s ix tour out after written
+  pub walked-typed : ((m next : ℕ) → number 1 0 .read s (tour .at) ≡ ok (m, next) → t ≡ m) → Walked (number 1 field) s ix tour out mid half
+      → Walked (g t) s ix mid half after written → Walked (both (ruled test fault (number 1 field)) g) s ix tour out after written
   unfolding number
-  toured-typed told w u =
-      toured-both by {g = g} (lawful-ruled test fault (lawful-number 1 field)) (toured-ruled s test fault w) (λ m next e.
+  walked-typed told w u =
+      walked-both by {g = g} (lawful-ruled test fault (lawful-number 1 field)) (walked-ruled s test fault w) (λ m next e.
       let same : t ≡ m = told m next (ruled-read test fault (number 1 field) s (tour .at) e) in
       rw same at u)
 
@@ -144,11 +144,11 @@ module _ {B : Type 0} (test : ℕ → Bool) (fault : Fault) (field : ℕ) (g : �
 abbrev pub isParam : ℕ → Bool
 isParam t = isColumn t || (eqb t tNull || eqb t tArray)
 
-pub toured-param : (s : List ℕ) (by : Bytes s) {ix : Index} {tour : Tour} {out : List ℕ} {after : Tour} {written : List ℕ}
-    → Toured (both (ruled isParam WireType (number 1 24)) argument) s ix tour out after written → Toured param s ix tour out after written
+pub walked-param : (s : List ℕ) (by : Bytes s) {ix : Index} {tour : Tour} {out : List ℕ} {after : Tour} {written : List ℕ}
+    → Walked (both (ruled isParam WireType (number 1 24)) argument) s ix tour out after written → Walked param s ix tour out after written
 unfolding param
-toured-param s by w =
-    toured-into s (λ v. record { type = v .0; argument = v .1 }) (λ l. (l .type, l .argument)) by
+walked-param s by w =
+    walked-into s (λ v. record { type = v .0; argument = v .1 }) (λ l. (l .type, l .argument)) by
     (lawful-both (lawful-ruled isParam WireType (lawful-number 1 24)) lawful-argument) (λ v g. refl) w
 
 -- what stands for a count, where its reading gives one

@@ -6,7 +6,7 @@ use mathlib.Core.List.{List, [], _∷_}
 use lib.ListN.{length}
 use lib.Seq.{sets}
 use lib.Dec.{leb, ltb}
-use Rattle.format.specs.Result.{ok, pick}
+use Rattle.format.specs.Result.{Res, ok, no, bind, pick}
 use Rattle.format.specs.Format.{Format, Index, Entry, piece}
 use Rattle.format.specs.Message.{Message, readMessage, messageFields}
 use Rattle.tour.specs.declared.Tour.{Tour}
@@ -63,13 +63,27 @@ pub record Listed (field : ℕ) (ix : Indices) (tour : Tour) (out : List ℕ) (e
   pub state : stateOf after written ≡ visited (stateOf tour out) (piece (end - tour .at) (tour .at) field (indexOf ix))
 
 -- where a value of the format f stands at the tour's place, the tour goes on to its end and lists its fields
-pub record Toured {A : Type 0} (f : Format A) (s : List ℕ) (ix : Index) (tour : Tour) (out : List ℕ) (after : Tour) (written : List ℕ) : Type 0 where
+pub record Walked {A : Type 0} (f : Format A) (s : List ℕ) (ix : Index) (tour : Tour) (out : List ℕ) (after : Tour) (written : List ℕ) : Type 0 where
   pub goes : (a : A) (next : ℕ) → f .read s (tour .at) ≡ ok (a, next)
       → (after .at ≡ next) × (stateOf after written ≡ visited (stateOf tour out) (f .fields ix (tour .at) a))
 
--- a tour over a whole message
+-- the beginning of a tour
 abbrev pub begun : ℕ → ℕ → List ℕ → State
 begun first offset out = record { first = first; offset = offset; seen = 0; taken = 0; last = 0; out = out }
 
+-- where a message is accepted, the tour over it goes to its end and lists its fields
 pub record Whole (kind : ℕ) (m : List ℕ) (first offset : ℕ) (out : List ℕ) (after : Tour) (written : List ℕ) : Type 0 where
-  pub goes : (r : Message) → readMessage kind m ≡ ok r → stateOf after written ≡ visited (begun first offset out) (messageFields kind r)
+  pub goes : (r : Message) → readMessage kind m ≡ ok r → (after .at ≡ length m) × (stateOf after written ≡ visited (begun first offset out) (messageFields kind r))
+
+-- the fields that a message of a kind has
+abbrev pub fieldsOf : ℕ → List ℕ → Res (List Entry)
+fieldsOf kind m = bind (readMessage kind m) (λ r. ok (messageFields kind r))
+
+-- the tour over the fields of a message of n bytes, from a state on, and what it leaves in the lent list
+abbrev pub tourOf : Res (List Entry) → ℕ → State → Res Tour
+tourOf (ok es) n st = let z = visited st es in ok (record { at = n; first = z .first; offset = z .offset; seen = z .seen; taken = z .taken; last = z .last })
+tourOf (no f p) n st = no f p
+
+abbrev pub outOf : Res (List Entry) → State → List ℕ
+outOf (ok es) st = visited st es .out
+outOf (no f p) st = st .out

@@ -1,4 +1,6 @@
 // One descent over an accepted message, which meets its fields in wire order.
+use format::Fault;
+use format::Refusal;
 use scan::Byte;
 use scan::Next;
 use scan::Number;
@@ -14,7 +16,8 @@ ghost use Rattle.format.specs.Result.{ok};
 ghost use Rattle.format.specs.Value.{string, anything, ascii, value, Value};
 ghost use Rattle.format.specs.Message.{first, second, third, items, argument, param, invocation, loginRequest, server, loginResponse, columnType, Metadata, metadata, row, table, flagged, response, contentOf};
 ghost use Rattle.tour.specs.Parts.{login, statuses, results};
-ghost use Rattle.tour.specs.Tour.{stateOf, indexOf, wanted, six, Listed, Toured, Whole};
+ghost use Rattle.tour.specs.Tour.{stateOf, indexOf, wanted, six, begun, fieldsOf, tourOf, outOf, Listed, Walked, Whole};
+ghost use Rattle.tour.specs.Told.{toldToured, touredNo};
 
 // Where the descent is, which fields it writes down (those from the first-th on that end past an offset, while they fit),
 // and what it has seen: how many fields, how many of them were written, and the number of the last of these.
@@ -25,6 +28,12 @@ pub struct Tour {
     pub seen: usize,
     pub taken: usize,
     pub last: usize,
+}
+
+// The descent at its end.
+pub enum Toured {
+    Over(Tour),
+    No(Refusal),
 }
 
 // The three numbers that follow a field's number.
@@ -135,7 +144,7 @@ fn byte_at(s: &[u8], at: usize) -> u8
 
 // A field of so many bytes.
 fn walk_fixed(s: &[u8], out: &mut [u64], tour: Tour, width: usize, field: u64, ix: Indices) -> Tour
-    ensures { λ r. ⌜ Toured (number width field) (now (s .entry)) (indexOf ix) tour (now (out .entry)) r (now (out .exit)) ⌝ }
+    ensures { λ r. ⌜ Walked (number width field) (now (s .entry)) (indexOf ix) tour (now (out .entry)) r (now (out .exit)) ⌝ }
 {
     let end = past(s, tour.at, width);
     visit(out, tour, end, field, ix)
@@ -145,7 +154,7 @@ const NULL: u64 = 0xffff_ffff;
 
 // A length, and as many bytes as it says.
 fn walk_body(s: &[u8], out: &mut [u64], tour: Tour, prefix: u64, body: u64, ix: Indices) -> Tour
-    ensures { λ r. ⌜ ((nullable : Bool) (rule : List ℕ → Verdict) → Toured (string nullable rule prefix body) (now (s .entry)) (indexOf ix) tour (now (out .entry)) r (now (out .exit))) ⌝ }
+    ensures { λ r. ⌜ ((nullable : Bool) (rule : List ℕ → Verdict) → Walked (string nullable rule prefix body) (now (s .entry)) (indexOf ix) tour (now (out .entry)) r (now (out .exit))) ⌝ }
 {
     let n = number_at(s, tour.at, 4);
     let start = walk_fixed(s, out, tour, 4, prefix, ix);
@@ -176,7 +185,7 @@ fn walk_value(
     body: u64,
     ix: Indices,
 ) -> Tour
-    ensures { λ r. ⌜ Toured (value prefix body t) (now (s .entry)) (indexOf ix) tour (now (out .entry)) r (now (out .exit)) ⌝ }
+    ensures { λ r. ⌜ Walked (value prefix body t) (now (s .entry)) (indexOf ix) tour (now (out .entry)) r (now (out .exit)) ⌝ }
 {
     match t {
         format::STRING | format::VARBINARY | format::GEOGRAPHY => walk_body(
@@ -196,7 +205,7 @@ fn walk_value(
 
 // The elements of an array: n values of one type.
 fn walk_values(s: &[u8], out: &mut [u64], from: Tour, t: u8, n: usize, ix: Indices) -> Tour
-    ensures { λ r. ⌜ Toured (each second 0 (replicate n (value 27 28 t))) (now (s .entry)) (indexOf ix) from (now (out .entry)) r (now (out .exit)) ⌝ }
+    ensures { λ r. ⌜ Walked (each second 0 (replicate n (value 27 28 t))) (now (s .entry)) (indexOf ix) from (now (out .entry)) r (now (out .exit)) ⌝ }
 {
     let mut tour = from;
     let mut j = 0;
@@ -214,7 +223,7 @@ fn walk_values(s: &[u8], out: &mut [u64], from: Tour, t: u8, n: usize, ix: Indic
 
 // An array's count and elements.
 fn walk_items(s: &[u8], out: &mut [u64], tour: Tour, t: u8, ix: Indices) -> Tour
-    ensures { λ r. ⌜ Toured (items t) (now (s .entry)) (indexOf ix) tour (now (out .entry)) r (now (out .exit)) ⌝ }
+    ensures { λ r. ⌜ Walked (items t) (now (s .entry)) (indexOf ix) tour (now (out .entry)) r (now (out .exit)) ⌝ }
 {
     if t == format::TINYINT {
         return walk_body(s, out, tour, 26, 28, ix);
@@ -226,7 +235,7 @@ fn walk_items(s: &[u8], out: &mut [u64], tour: Tour, t: u8, ix: Indices) -> Tour
 
 // What stands after a parameter's type.
 fn walk_argument(s: &[u8], out: &mut [u64], tour: Tour, t: u8, ix: Indices) -> Tour
-    ensures { λ r. ⌜ Toured (argument t) (now (s .entry)) (indexOf ix) tour (now (out .entry)) r (now (out .exit)) ⌝ }
+    ensures { λ r. ⌜ Walked (argument t) (now (s .entry)) (indexOf ix) tour (now (out .entry)) r (now (out .exit)) ⌝ }
 {
     if t == format::NULL {
         return tour;
@@ -241,7 +250,7 @@ fn walk_argument(s: &[u8], out: &mut [u64], tour: Tour, t: u8, ix: Indices) -> T
 
 // A parameter.
 fn walk_param(s: &[u8], out: &mut [u64], tour: Tour, ix: Indices) -> Tour
-    ensures { λ r. ⌜ Toured param (now (s .entry)) (indexOf ix) tour (now (out .entry)) r (now (out .exit)) ⌝ }
+    ensures { λ r. ⌜ Walked param (now (s .entry)) (indexOf ix) tour (now (out .entry)) r (now (out .exit)) ⌝ }
 {
     let t = byte_at(s, tour.at);
     let value = walk_fixed(s, out, tour, 1, 24, ix);
@@ -250,7 +259,7 @@ fn walk_param(s: &[u8], out: &mut [u64], tour: Tour, ix: Indices) -> Tour
 
 // N parameters.
 fn walk_params(s: &[u8], out: &mut [u64], from: Tour, n: usize, ix: Indices) -> Tour
-    ensures { λ r. ⌜ Toured (each first 0 (replicate n param)) (now (s .entry)) (indexOf ix) from (now (out .entry)) r (now (out .exit)) ⌝ }
+    ensures { λ r. ⌜ Walked (each first 0 (replicate n param)) (now (s .entry)) (indexOf ix) from (now (out .entry)) r (now (out .exit)) ⌝ }
 {
     let mut tour = from;
     let mut i = 0;
@@ -268,7 +277,7 @@ fn walk_params(s: &[u8], out: &mut [u64], from: Tour, n: usize, ix: Indices) -> 
 
 // An invocation, from its procedure's name on.
 fn walk_invocation(s: &[u8], out: &mut [u64], tour: Tour, ix: Indices) -> Tour
-    ensures { λ r. ⌜ Toured invocation (now (s .entry)) (indexOf ix) tour (now (out .entry)) r (now (out .exit)) ⌝ }
+    ensures { λ r. ⌜ Walked invocation (now (s .entry)) (indexOf ix) tour (now (out .entry)) r (now (out .exit)) ⌝ }
 {
     let client = walk_body(s, out, tour, 20, 21, ix);
     let count = walk_fixed(s, out, client, 8, 22, ix);
@@ -279,7 +288,7 @@ fn walk_invocation(s: &[u8], out: &mut [u64], tour: Tour, ix: Indices) -> Tour
 
 // A login request's service, user and hash.
 fn walk_login(s: &[u8], out: &mut [u64], tour: Tour, size: usize, ix: Indices) -> Tour
-    ensures { λ r. ⌜ Toured (login size) (now (s .entry)) (indexOf ix) tour (now (out .entry)) r (now (out .exit)) ⌝ }
+    ensures { λ r. ⌜ Walked (login size) (now (s .entry)) (indexOf ix) tour (now (out .entry)) r (now (out .exit)) ⌝ }
 {
     let user = walk_body(s, out, tour, 4, 5, ix);
     let hash = walk_body(s, out, user, 6, 7, ix);
@@ -288,7 +297,7 @@ fn walk_login(s: &[u8], out: &mut [u64], tour: Tour, size: usize, ix: Indices) -
 
 // A login request, from its hash version on, if it has one.
 fn walk_login_request(s: &[u8], out: &mut [u64], tour: Tour, version: u8, ix: Indices) -> Tour
-    ensures { λ r. ⌜ Toured (loginRequest version) (now (s .entry)) (indexOf ix) tour (now (out .entry)) r (now (out .exit)) ⌝ }
+    ensures { λ r. ⌜ Walked (loginRequest version) (now (s .entry)) (indexOf ix) tour (now (out .entry)) r (now (out .exit)) ⌝ }
 {
     if version != 1 {
         return walk_login(s, out, tour, 20, ix);
@@ -303,7 +312,7 @@ fn walk_login_request(s: &[u8], out: &mut [u64], tour: Tour, version: u8, ix: In
 
 // What follows a login's result of 0.
 fn walk_server(s: &[u8], out: &mut [u64], tour: Tour, ix: Indices) -> Tour
-    ensures { λ r. ⌜ Toured server (now (s .entry)) (indexOf ix) tour (now (out .entry)) r (now (out .exit)) ⌝ }
+    ensures { λ r. ⌜ Walked server (now (s .entry)) (indexOf ix) tour (now (out .entry)) r (now (out .exit)) ⌝ }
 {
     let connection = walk_fixed(s, out, tour, 4, 11, ix);
     let start = walk_fixed(s, out, connection, 8, 12, ix);
@@ -314,7 +323,7 @@ fn walk_server(s: &[u8], out: &mut [u64], tour: Tour, ix: Indices) -> Tour
 
 // A login response, from its result on.
 fn walk_login_response(s: &[u8], out: &mut [u64], tour: Tour, ix: Indices) -> Tour
-    ensures { λ r. ⌜ Toured loginResponse (now (s .entry)) (indexOf ix) tour (now (out .entry)) r (now (out .exit)) ⌝ }
+    ensures { λ r. ⌜ Walked loginResponse (now (s .entry)) (indexOf ix) tour (now (out .entry)) r (now (out .exit)) ⌝ }
 {
     let result = byte_at(s, tour.at);
     let server = walk_fixed(s, out, tour, 1, 10, ix);
@@ -326,7 +335,7 @@ fn walk_login_response(s: &[u8], out: &mut [u64], tour: Tour, ix: Indices) -> To
 
 // The types of n columns.
 fn walk_types(s: &[u8], out: &mut [u64], from: Tour, n: usize, ix: Indices) -> Tour
-    ensures { λ r. ⌜ Toured (each third 0 (replicate n (columnType 45))) (now (s .entry)) (indexOf ix) from (now (out .entry)) r (now (out .exit)) ⌝ }
+    ensures { λ r. ⌜ Walked (each third 0 (replicate n (columnType 45))) (now (s .entry)) (indexOf ix) from (now (out .entry)) r (now (out .exit)) ⌝ }
 {
     let mut tour = from;
     let mut k = 0;
@@ -344,7 +353,7 @@ fn walk_types(s: &[u8], out: &mut [u64], from: Tour, n: usize, ix: Indices) -> T
 
 // The names of n columns.
 fn walk_names(s: &[u8], out: &mut [u64], from: Tour, n: usize, ix: Indices) -> Tour
-    ensures { λ r. ⌜ Toured (each third 0 (replicate n (string false ascii 46 47))) (now (s .entry)) (indexOf ix) from (now (out .entry)) r (now (out .exit)) ⌝ }
+    ensures { λ r. ⌜ Walked (each third 0 (replicate n (string false ascii 46 47))) (now (s .entry)) (indexOf ix) from (now (out .entry)) r (now (out .exit)) ⌝ }
 {
     let mut tour = from;
     let mut k = 0;
@@ -362,7 +371,7 @@ fn walk_names(s: &[u8], out: &mut [u64], from: Tour, n: usize, ix: Indices) -> T
 
 // A table's metadata.
 fn walk_metadata(s: &[u8], out: &mut [u64], tour: Tour, ix: Indices) -> Tour
-    ensures { λ r. ⌜ Toured metadata (now (s .entry)) (indexOf ix) tour (now (out .entry)) r (now (out .exit)) ⌝ }
+    ensures { λ r. ⌜ Walked metadata (now (s .entry)) (indexOf ix) tour (now (out .entry)) r (now (out .exit)) ⌝ }
 {
     let status = walk_fixed(s, out, tour, 4, 42, ix);
     let count = walk_fixed(s, out, status, 1, 43, ix);
@@ -388,7 +397,7 @@ fn types_of(s: &[u8], at: usize) -> &[u8]
 
 // A row's cells, one for each column's type.
 fn walk_cells(s: &[u8], out: &mut [u64], from: Tour, types: &[u8], ix: Indices) -> Tour
-    ensures { λ r. ⌜ Toured (each third 0 (map (value 50 51) (now (types .entry)))) (now (s .entry)) (indexOf ix) from (now (out .entry)) r (now (out .exit)) ⌝ }
+    ensures { λ r. ⌜ Walked (each third 0 (map (value 50 51) (now (types .entry)))) (now (s .entry)) (indexOf ix) from (now (out .entry)) r (now (out .exit)) ⌝ }
 {
     let mut tour = from;
     let mut k = 0;
@@ -406,7 +415,7 @@ fn walk_cells(s: &[u8], out: &mut [u64], from: Tour, types: &[u8], ix: Indices) 
 
 // A row.
 fn walk_row(s: &[u8], out: &mut [u64], tour: Tour, types: &[u8], ix: Indices) -> Tour
-    ensures { λ r. ⌜ Toured (row (now (types .entry))) (now (s .entry)) (indexOf ix) tour (now (out .entry)) r (now (out .exit)) ⌝ }
+    ensures { λ r. ⌜ Walked (row (now (types .entry))) (now (s .entry)) (indexOf ix) tour (now (out .entry)) r (now (out .exit)) ⌝ }
 {
     let cells = walk_fixed(s, out, tour, 4, 49, ix);
     walk_cells(s, out, cells, types, ix)
@@ -414,7 +423,7 @@ fn walk_row(s: &[u8], out: &mut [u64], tour: Tour, types: &[u8], ix: Indices) ->
 
 // N rows.
 fn walk_rows(s: &[u8], out: &mut [u64], from: Tour, types: &[u8], n: usize, ix: Indices) -> Tour
-    ensures { λ r. ⌜ Toured (each second 0 (replicate n (row (now (types .entry))))) (now (s .entry)) (indexOf ix) from (now (out .entry)) r (now (out .exit)) ⌝ }
+    ensures { λ r. ⌜ Walked (each second 0 (replicate n (row (now (types .entry))))) (now (s .entry)) (indexOf ix) from (now (out .entry)) r (now (out .exit)) ⌝ }
 {
     let mut tour = from;
     let mut j = 0;
@@ -432,7 +441,7 @@ fn walk_rows(s: &[u8], out: &mut [u64], from: Tour, types: &[u8], n: usize, ix: 
 
 // A table.
 fn walk_table(s: &[u8], out: &mut [u64], tour: Tour, ix: Indices) -> Tour
-    ensures { λ r. ⌜ Toured table (now (s .entry)) (indexOf ix) tour (now (out .entry)) r (now (out .exit)) ⌝ }
+    ensures { λ r. ⌜ Walked table (now (s .entry)) (indexOf ix) tour (now (out .entry)) r (now (out .exit)) ⌝ }
 {
     let metadata = walk_fixed(s, out, tour, 4, 41, ix);
     let types = types_of(s, metadata.at);
@@ -444,7 +453,7 @@ fn walk_table(s: &[u8], out: &mut [u64], tour: Tour, ix: Indices) -> Tour
 
 // N tables.
 fn walk_tables(s: &[u8], out: &mut [u64], from: Tour, n: usize, ix: Indices) -> Tour
-    ensures { λ r. ⌜ Toured (each first 0 (replicate n table)) (now (s .entry)) (indexOf ix) from (now (out .entry)) r (now (out .exit)) ⌝ }
+    ensures { λ r. ⌜ Walked (each first 0 (replicate n table)) (now (s .entry)) (indexOf ix) from (now (out .entry)) r (now (out .exit)) ⌝ }
 {
     let mut tour = from;
     let mut i = 0;
@@ -470,7 +479,7 @@ fn walk_optional(
     body: u64,
     ix: Indices,
 ) -> Tour
-    ensures { λ r. ⌜ ((nullable : Bool) → Toured (present there none (string nullable anything prefix body)) (now (s .entry)) (indexOf ix) tour (now (out .entry)) r (now (out .exit))) ⌝ }
+    ensures { λ r. ⌜ ((nullable : Bool) → Walked (present there none (string nullable anything prefix body)) (now (s .entry)) (indexOf ix) tour (now (out .entry)) r (now (out .exit))) ⌝ }
 {
     if !there {
         return tour;
@@ -487,7 +496,7 @@ fn is_flagged(flags: u8, bit: u8) -> bool
 
 // A response from its round trip on.
 fn walk_results(s: &[u8], out: &mut [u64], tour: Tour, flags: u8, ix: Indices) -> Tour
-    ensures { λ r. ⌜ Toured (results flags) (now (s .entry)) (indexOf ix) tour (now (out .entry)) r (now (out .exit)) ⌝ }
+    ensures { λ r. ⌜ Walked (results flags) (now (s .entry)) (indexOf ix) tour (now (out .entry)) r (now (out .exit)) ⌝ }
 {
     let exception = walk_fixed(s, out, tour, 4, 37, ix);
     let count = walk_optional(s, out, exception, is_flagged(flags, 64), 38, 39, ix);
@@ -498,7 +507,7 @@ fn walk_results(s: &[u8], out: &mut [u64], tour: Tour, flags: u8, ix: Indices) -
 
 // A response from its status on.
 fn walk_statuses(s: &[u8], out: &mut [u64], tour: Tour, flags: u8, ix: Indices) -> Tour
-    ensures { λ r. ⌜ Toured (statuses flags) (now (s .entry)) (indexOf ix) tour (now (out .entry)) r (now (out .exit)) ⌝ }
+    ensures { λ r. ⌜ Walked (statuses flags) (now (s .entry)) (indexOf ix) tour (now (out .entry)) r (now (out .exit)) ⌝ }
 {
     let string = walk_fixed(s, out, tour, 1, 31, ix);
     let application = walk_optional(s, out, string, is_flagged(flags, 32), 32, 33, ix);
@@ -509,7 +518,7 @@ fn walk_statuses(s: &[u8], out: &mut [u64], tour: Tour, flags: u8, ix: Indices) 
 
 // An invocation's response, from its client data on.
 fn walk_response(s: &[u8], out: &mut [u64], tour: Tour, ix: Indices) -> Tour
-    ensures { λ r. ⌜ Toured response (now (s .entry)) (indexOf ix) tour (now (out .entry)) r (now (out .exit)) ⌝ }
+    ensures { λ r. ⌜ Walked response (now (s .entry)) (indexOf ix) tour (now (out .entry)) r (now (out .exit)) ⌝ }
 {
     let client = walk_fixed(s, out, tour, 8, 22, ix);
     let flags = byte_at(s, client.at);
@@ -519,7 +528,7 @@ fn walk_response(s: &[u8], out: &mut [u64], tour: Tour, ix: Indices) -> Tour
 
 // What stands after a message's version.
 fn walk_content(kind: u8, s: &[u8], out: &mut [u64], tour: Tour, version: u8, ix: Indices) -> Tour
-    ensures { λ r. ⌜ Toured (contentOf kind version) (now (s .entry)) (indexOf ix) tour (now (out .entry)) r (now (out .exit)) ⌝ }
+    ensures { λ r. ⌜ Walked (contentOf kind version) (now (s .entry)) (indexOf ix) tour (now (out .entry)) r (now (out .exit)) ⌝ }
 {
     match kind {
         1 => walk_login_request(s, out, tour, version, ix),
@@ -529,8 +538,8 @@ fn walk_content(kind: u8, s: &[u8], out: &mut [u64], tour: Tour, version: u8, ix
     }
 }
 
-// A tour over the fields of a message of a kind. It writes down those from the first-th on that end past an offset, while they fit.
-pub fn walk_message(kind: u8, m: &[u8], out: &mut [u64], first: usize, offset: usize) -> Tour
+// A message that is accepted.
+fn walk_message(kind: u8, m: &[u8], out: &mut [u64], first: usize, offset: usize) -> Tour
     ensures { λ r. ⌜ Whole kind (now (m .entry)) first offset (now (out .entry)) r (now (out .exit)) ⌝ }
 {
     let ix = Indices { i: 0, j: 0, k: 0 };
@@ -546,4 +555,28 @@ pub fn walk_message(kind: u8, m: &[u8], out: &mut [u64], first: usize, offset: u
     let version = byte_at(m, length.at);
     let content = walk_fixed(m, out, length, 1, 2, ix);
     walk_content(kind, m, out, content, version, ix)
+}
+
+// The tour over the fields of a message of a kind. It writes six numbers for each field from the first-th on that ends past an offset, while they fit.
+pub fn over(kind: u8, m: &[u8], out: &mut [u64], first: usize, offset: usize) -> Toured
+    ensures { λ r. ⌜ (toldToured r ≡ tourOf (fieldsOf kind (now (m .entry))) (length (now (m .entry))) (begun first offset (now (out .entry)))) × (now (out .exit) ≡ outOf (fieldsOf kind (now (m .entry))) (begun first offset (now (out .entry)))) ⌝ }
+{
+    let verdict = message::accept(kind, m);
+    let message::Verdict::Fine = verdict else {
+        return Toured::No(message::verdict_refusal(verdict));
+    };
+    Toured::Over(walk_message(kind, m, out, first, offset))
+}
+
+// The refusal of an answer that is one.
+pub fn toured_refusal(a: Toured) -> Refusal
+    ensures { λ r. ⌜ r ≡ touredNo a ⌝ }
+{
+    match a {
+        Toured::Over(_) => Refusal {
+            fault: Fault::Short,
+            place: 0,
+        },
+        Toured::No(r) => r,
+    }
 }

@@ -1,35 +1,36 @@
 -- `fields::field` meets its contract: a window of one entry. Assumes nothing.
 use mathlib.Core.Path.{_≡_, refl, sym, _∙_, ap}
 use native.Mathlib.Omega.{arith}
-use Prim.Native.Nat.{ℕ, _^_, _<_, _≤_}
+use Prim.Native.Nat.{_^_, _<_}
 use lib.ListN.{length, replicate}
-use Rattle.format.specs.Result.{Res, ok, no}
+use Rattle.format.specs.Result.{ok}
+use Rattle.tour.specs.Tour.{begun, fieldsOf}
 use Rattle.tour.proofs.Tours.{bytes-all}
-use Rattle.fields.proofs.Calls.{refuses, past-told, fields-of, seen-window, nth-past, nth-read}
+use Rattle.fields.proofs.Calls.{refuses, past-told, seen, seen-window, nth-past, nth-read}
 use borrow.Author.Needs.{needs}
 use Rattle.fields.proofs.field.Statement.{statement}
 use Rattle.fields.proofs.field.Tie as tie
 
-accept-requires : tie.Need-accept-requires
-accept-requires c κs = search needs
+slice-aggregate-over : tie.Need-slice-aggregate-over
+slice-aggregate-over c = search needs
+
+over-requires : tie.Need-over-requires
+over-requires c κs = search needs
+
+enum-known-toured : tie.Need-enum-known-toured
+enum-known-toured c = search needs
 
 enum-told : tie.Need-enum-told
 enum-told c = search needs
 
-enum-told-2 : tie.Need-enum-told-2
-enum-told-2 c = search needs
-
-verdict-refusal-requires : tie.Need-verdict-refusal-requires
-verdict-refusal-requires c κs = search needs
+toured-refusal-requires : tie.Need-toured-refusal-requires
+toured-refusal-requires c κs = search needs
 
 returns : tie.Need-returns
-returns c = let a = (c .before .before .before .before .before .args) in rw (refuses (a .kind) (a .m .now) (c .before .before .before .accept .ensures) (c .before .enum-told2 .given .1) (c .verdict-refusal .ensures))
-
-slice-aggregate-walk-message : tie.Need-slice-aggregate-walk-message
-slice-aggregate-walk-message c = search needs
-
-walk-message-requires : tie.Need-walk-message-requires
-walk-message-requires c κs = search needs
+returns c =
+    let a = (c .before .before .before .before .before .before .before .args) in
+    let s = begun (a .n) 0 (replicate 6 0) in
+    rw (refuses (fieldsOf (a .kind) (a .m .now)) (length (a .m .now)) s ((c .before .before .before .before .over .ensures .0)) (c .before .enum-told .given .1) (c .toured-refusal .ensures))
 
 past-end-requires : tie.Need-past-end-requires
 past-end-requires c κs = search needs
@@ -37,9 +38,10 @@ past-end-requires c κs = search needs
 returns-2 : tie.Need-returns-2
 returns-2 c =
     let a = (c .before .before .before .before .before .before .before .before .before .before .args) in
+    let s = begun (a .n) 0 (replicate 6 0) in
     let small : length (a .m .now) < 2 ^ 64 = omega arith in
-    let f = fields-of (a .kind) (a .m .now) (bytes-all (a .m .now) (c .before .before .before .before .before .before .before .before .before .shared-slice-known .given)) small (c .before .before .before .before .before .before .before .before .accept .ensures) (c .before .before .before .before .before .before .enum-told .given .1) in
-    let w = seen-window f (a .n) (replicate 6 0) ((c .before .before .before .before .walk-message .ensures)) in
+    let f = seen (a .kind) (a .m .now) (bytes-all (a .m .now) (c .before .before .before .before .before .before .before .before .before .shared-slice-known .given)) small (length (a .m .now)) s ((c .before .before .before .before .before .before .before .over .ensures)) (c .before .before .before .before .toured .given .1) in
+    let w = seen-window (a .n) (replicate 6 0) f in
     let all = w .seen in
     let past = (c .before .if1 .taken) in
     rw (f .are) (past-told ((c .past-end .ensures)) ∙ sym (nth-past (f .es) (a .n) (omega arith)))
@@ -50,9 +52,10 @@ entry-of-requires c κs = search needs
 returns-3 : tie.Need-returns-3
 returns-3 c =
     let a = (c .before .before .before .before .before .before .before .before .before .before .before .args) in
+    let s = begun (a .n) 0 (replicate 6 0) in
     let small : length (a .m .now) < 2 ^ 64 = omega arith in
-    let f = fields-of (a .kind) (a .m .now) (bytes-all (a .m .now) (c .before .before .before .before .before .before .before .before .before .before .shared-slice-known .given)) small (c .before .before .before .before .before .before .before .before .before .accept .ensures) (c .before .before .before .before .before .before .before .enum-told .given .1) in
-    let w = seen-window f (a .n) (replicate 6 0) ((c .before .before .before .before .before .walk-message .ensures)) in
+    let f = seen (a .kind) (a .m .now) (bytes-all (a .m .now) (c .before .before .before .before .before .before .before .before .before .before .shared-slice-known .given)) small (length (a .m .now)) s ((c .before .before .before .before .before .before .before .before .over .ensures)) (c .before .before .before .before .before .toured .given .1) in
+    let w = seen-window (a .n) (replicate 6 0) f in
     let all = w .seen in
     let there = (c .before .before .if1 .left) in
     rw (f .are) (ap ok (c .entry-of .ensures) ∙ sym (nth-read (f .es) (a .n) (replicate 6 0) refl (omega arith) (w .numbers)))
@@ -61,13 +64,12 @@ pub field-spec : {M : Type 1} → statement M
 field-spec =
     tie.close
     (tie.spec
-    accept-requires
+    slice-aggregate-over
+    over-requires
+    enum-known-toured
     enum-told
-    enum-told-2
-    verdict-refusal-requires
+    toured-refusal-requires
     returns
-    slice-aggregate-walk-message
-    walk-message-requires
     past-end-requires
     returns-2
     entry-of-requires

@@ -1,5 +1,5 @@
 -- `show::part_cell` meets its contract: type by type.
-use mathlib.Core.Path.{_≡_, sym, ap, _∙_}
+use mathlib.Core.Path.{sym, ap}
 use borrow.Author.Tests.{ne-eqb}
 use Prim.Native.Nat.{ℕ}
 use Rattle.show.specs.Cells.{partCell}

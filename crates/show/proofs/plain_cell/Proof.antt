@@ -1,5 +1,5 @@
 -- `show::plain_cell` meets its contract: type by type.
-use mathlib.Core.Path.{_≡_, sym, ap, _∙_}
+use mathlib.Core.Path.{sym, ap, _∙_}
 use Prim.Native.Nat.{ℕ}
 use borrow.Author.Tests.{ne-eqb}
 use mir.Syntax.{w8, w16, w32, w64}

@@ -1,9 +1,7 @@
 -- `show::read_decimal` meets its contract: the halves, then the rule on the signed upper half.
-use mathlib.Core.Path.{_≡_, refl, sym, ap, ap₂, _∙_}
+use mathlib.Core.Path.{sym, ap, _∙_}
 use Prim.Native.Nat.{ℕ, _+_, _*_, _^_, _<_}
-use mathlib.Core.Bool.{Bool}
 use lib.IntN.{ℤ}
-use lib.Arith.{digits-div, digits-mod}
 use mir.Syntax.{w64}
 use mir.ValLaws.{toZ-ofZ}
 use borrow.Author.Tests.{not-true, not-false}
@@ -14,7 +12,7 @@ use Rattle.scan.proofs.Steps.{ruled-go, ruled-bad, ruled-stop}
 use Rattle.scan.proofs.Sixteen.{halves-go, halves-stop}
 use Rattle.show.specs.declared.Cell.{Cell}
 use Rattle.show.specs.declared.Shown.{Shown}
-use Rattle.scan.specs.Signed.{signed, unsigned}
+use Rattle.scan.specs.Signed.{unsigned}
 use Rattle.show.specs.Cells.{decimalCell, shownAs}
 use Rattle.scan.proofs.Twos.{signed-back}
 use Rattle.show.proofs.Values.{decimal-halves}

@@ -1,5 +1,5 @@
 -- `show::read_part` meets its contract: a geography has a rule.
-use mathlib.Core.Path.{_≡_, sym, ap, _∙_}
+use mathlib.Core.Path.{_∙_}
 use borrow.Author.Tests.{eq-eqb, ne-eqb}
 use borrow.Author.Needs.{needs}
 use Rattle.show.proofs.read_part.Statement.{statement}

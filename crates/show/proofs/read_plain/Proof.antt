@@ -1,5 +1,5 @@
 -- `show::read_plain` meets its contract: the number, then what it is shown as.
-use mathlib.Core.Path.{_≡_, refl, sym, ap, ap₂, _∙_}
+use mathlib.Core.Path.{sym, ap, _∙_}
 use Prim.Native.Nat.{min}
 use Rattle.format.specs.Format.{number}
 use Rattle.show.specs.declared.Cell.{Cell}

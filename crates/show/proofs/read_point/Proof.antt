@@ -1,8 +1,6 @@
 -- `show::read_point` meets its contract: the halves, then the rule.
-use mathlib.Core.Path.{_≡_, refl, sym, ap, ap₂, _∙_}
-use mathlib.Core.Bool.{true, false}
-use Prim.Native.Nat.{_+_, _*_, _^_, _<_}
-use lib.Arith.{digits-div, digits-mod}
+use mathlib.Core.Path.{sym, ap, _∙_}
+use Prim.Native.Nat.{_^_, _<_}
 use borrow.Author.Tests.{not-true, not-false}
 use Rattle.format.specs.declared.Fault.the-variants.{Point}
 use Rattle.format.specs.Format.{number}

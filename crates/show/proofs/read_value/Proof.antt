@@ -1,5 +1,5 @@
 -- `show::read_value` meets its contract: type by type.
-use mathlib.Core.Path.{_≡_, refl, sym, ap, ap₂, _∙_}
+use mathlib.Core.Path.{refl, _∙_}
 use mathlib.Core.Logic.{⊎-elim, inl, inr}
 use borrow.Author.Tests.{ne-eqb}
 use Rattle.show.proofs.Values.{Plain, plain-key, plain-shows, decimal-shows, point-shows, counted-shows}

@@ -3,13 +3,13 @@ use Rattle.format.specs.declared.Fault.the-variants.{WireType}
 use Rattle.format.specs.Value.{isColumn}
 use Rattle.format.specs.Message.{items}
 use Rattle.tour.proofs.Tours.{bytes-all}
-use Rattle.tour.proofs.Values.{toured-null-argument, toured-array, toured-one, toured-typed}
+use Rattle.tour.proofs.Values.{walked-null-argument, walked-array, walked-one, walked-typed}
 use borrow.Author.Needs.{needs}
 use Rattle.tour.proofs.walk_argument.Statement.{statement}
 use Rattle.tour.proofs.walk_argument.Tie as tie
 
 returns : tie.Need-returns
-returns c = let a = (c .before .before .before .args) in toured-null-argument (a .s .now) (a .tour) (a .out .now) (a .t) (c .if1 .taken)
+returns c = let a = (c .before .before .before .args) in walked-null-argument (a .s .now) (a .tour) (a .out .now) (a .t) (c .if1 .taken)
 
 byte-at-requires : tie.Need-byte-at-requires
 byte-at-requires c κs = search needs
@@ -27,7 +27,7 @@ returns-2 : tie.Need-returns-2
 returns-2 c =
     let a = (c .before .before .before .before .before .before .before .before .before .before .before .before .before .args) in
     let b = bytes-all (a .s .now) (c .before .before .before .before .before .before .before .before .before .before .before .before .shared-slice-known .given) in
-    toured-array (a .s .now) b (a .t) (c .before .before .before .before .before .before .before .before .before .if2 .taken) (toured-typed isColumn WireType 25 items (a .s .now) b (c .before .before .before .before .before .before .before .before .byte-at .ensures) (c .before .before .before .before .before .before .walk-fixed .ensures) (c .before .before .walk-items .ensures))
+    walked-array (a .s .now) b (a .t) (c .before .before .before .before .before .before .before .before .before .if2 .taken) (walked-typed isColumn WireType 25 items (a .s .now) b (c .before .before .before .before .before .before .before .before .byte-at .ensures) (c .before .before .before .before .before .before .walk-fixed .ensures) (c .before .before .walk-items .ensures))
 
 walk-value-requires : tie.Need-walk-value-requires
 walk-value-requires c κs = search needs
@@ -36,7 +36,7 @@ same-length-2 : tie.Need-same-length-2
 same-length-2 c = search needs
 
 returns-3 : tie.Need-returns-3
-returns-3 c = let a = (c .before .before .before .before .before .before .before .before .args) in toured-one (a .s .now) (bytes-all (a .s .now) (c .before .before .before .before .before .before .before .shared-slice-known .given)) (a .t) (c .before .before .before .before .before .if1 .left) (c .before .before .before .before .if2 .left) (c .before .before .walk-value .ensures)
+returns-3 c = let a = (c .before .before .before .before .before .before .before .before .args) in walked-one (a .s .now) (bytes-all (a .s .now) (c .before .before .before .before .before .before .before .shared-slice-known .given)) (a .t) (c .before .before .before .before .before .if1 .left) (c .before .before .before .before .if2 .left) (c .before .before .walk-value .ensures)
 
 pub walk-argument-spec : {M : Type 1} → statement M
 walk-argument-spec =

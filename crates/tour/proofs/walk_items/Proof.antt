@@ -4,7 +4,7 @@ use Rattle.format.specs.Value.{value, anything}
 use Rattle.format.specs.Message.{mostItems, second}
 use Rattle.format.proofs.Formats.{lawful-value}
 use Rattle.tour.proofs.Tours.{bytes-all}
-use Rattle.tour.proofs.Values.{toured-list, toured-bytes, toured-values}
+use Rattle.tour.proofs.Values.{walked-list, walked-bytes, walked-values}
 use borrow.Author.Needs.{needs}
 use Rattle.tour.proofs.walk_items.Statement.{statement}
 use Rattle.tour.proofs.walk_items.Tie as tie
@@ -16,7 +16,7 @@ same-length : tie.Need-same-length
 same-length c = search needs
 
 returns : tie.Need-returns
-returns c = let a = (c .before .before .before .before .before .before .before .args) in toured-bytes (a .s .now) (bytes-all (a .s .now) (c .before .before .before .before .before .before .shared-slice-known .given)) (a .t) (c .before .before .before .before .if1 .taken) ((c .before .before .walk-body .ensures) false anything)
+returns c = let a = (c .before .before .before .before .before .before .before .args) in walked-bytes (a .s .now) (bytes-all (a .s .now) (c .before .before .before .before .before .before .shared-slice-known .given)) (a .t) (c .before .before .before .before .if1 .taken) ((c .before .before .walk-body .ensures) false anything)
 
 number-at-requires : tie.Need-number-at-requires
 number-at-requires c κs = search needs
@@ -34,7 +34,7 @@ returns-2 : tie.Need-returns-2
 returns-2 c =
     let a = (c .before .before .before .before .before .before .before .before .before .before .before .before .args) in
     let b = bytes-all (a .s .now) (c .before .before .before .before .before .before .before .before .before .before .before .shared-slice-known .given) in
-    toured-values (a .s .now) b (a .t) (c .before .before .before .before .before .before .before .before .before .if1 .left) (toured-list 2 mostItems 26 second (lawful-value 27 28 (a .t)) (a .s .now) b (c .before .before .before .before .before .before .before .before .number-at .ensures) (c .before .before .before .before .before .before .walk-fixed .ensures) (c .before .before .walk-values .ensures))
+    walked-values (a .s .now) b (a .t) (c .before .before .before .before .before .before .before .before .before .if1 .left) (walked-list 2 mostItems 26 second (lawful-value 27 28 (a .t)) (a .s .now) b (c .before .before .before .before .before .before .before .before .number-at .ensures) (c .before .before .before .before .before .before .walk-fixed .ensures) (c .before .before .walk-values .ensures))
 
 pub walk-items-spec : {M : Type 1} → statement M
 walk-items-spec =

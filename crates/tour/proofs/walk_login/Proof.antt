@@ -1,9 +1,9 @@
 -- `tour::walk_login` meets its contract: field after field. Assumes nothing.
 use mathlib.Core.Bool.{false}
 use Rattle.format.specs.Value.{anything}
-use Rattle.tour.proofs.Tours.{bytes-all, toured-block}
+use Rattle.tour.proofs.Tours.{bytes-all, walked-block}
 use Rattle.tour.proofs.Values.{lawful-string}
-use Rattle.tour.proofs.Contents.{toured-then}
+use Rattle.tour.proofs.Contents.{walked-then}
 use borrow.Author.Needs.{needs}
 use Rattle.tour.proofs.walk_login.Statement.{statement}
 use Rattle.tour.proofs.walk_login.Tie as tie
@@ -24,8 +24,8 @@ returns : tie.Need-returns
 returns c =
     let a = (c .before .before .before .before .before .before .before .before .before .before .before .before .before .before .args) in
     let b = bytes-all (a .s .now) (c .before .before .before .before .before .before .before .before .before .before .before .before .before .shared-slice-known .given) in
-    toured-then (a .s .now) b (lawful-string false anything 4 5) ((c .before .before .before .before .before .before .before .before .before .before .walk-body .ensures) false anything)
-    (toured-then (a .s .now) b (lawful-string false anything 6 7) ((c .before .before .before .before .before .before .walk-body2 .ensures) false anything) (toured-block (a .s .now) (a .size) 8 (c .before .before .walk-fixed .ensures)))
+    walked-then (a .s .now) b (lawful-string false anything 4 5) ((c .before .before .before .before .before .before .before .before .before .before .walk-body .ensures) false anything)
+    (walked-then (a .s .now) b (lawful-string false anything 6 7) ((c .before .before .before .before .before .before .walk-body2 .ensures) false anything) (walked-block (a .s .now) (a .size) 8 (c .before .before .walk-fixed .ensures)))
 
 pub walk-login-spec : {M : Type 1} → statement M
 walk-login-spec =

@@ -4,8 +4,8 @@ use mathlib.Core.Path.{refl}
 use Rattle.format.specs.declared.Fault.the-variants.{Version}
 use Rattle.format.specs.Message.{contentOf}
 use Rattle.tour.proofs.Tours.{bytes-all}
-use Rattle.tour.proofs.Values.{toured-typed}
-use Rattle.tour.proofs.Messages.{toured-whole}
+use Rattle.tour.proofs.Values.{walked-typed}
+use Rattle.tour.proofs.Messages.{walked-whole}
 use borrow.Author.Needs.{needs}
 use Rattle.tour.proofs.walk_message.Statement.{statement}
 use Rattle.tour.proofs.walk_message.Tie as tie
@@ -30,7 +30,7 @@ returns c =
     let a = (c .before .before .before .before .before .before .before .before .before .before .before .before .before .before .before .args) in
     let m = a .m .now in
     let b = bytes-all m (c .before .before .before .before .before .before .before .before .before .before .before .before .before .before .shared-slice-known .given) in
-    record { goes = toured-whole (a .kind) m b refl (c .before .before .before .before .before .before .before .before .before .before .before .walk-fixed .ensures) (toured-typed (λ n. leb n 1) Version 2 (contentOf (a .kind)) m b (c .before .before .before .before .before .before .before .before .byte-at .ensures) (c .before .before .before .before .before .before .walk-fixed2 .ensures) (c .before .before .walk-content .ensures)) }
+    record { goes = walked-whole (a .kind) m b refl (c .before .before .before .before .before .before .before .before .before .before .before .walk-fixed .ensures) (walked-typed (λ n. leb n 1) Version 2 (contentOf (a .kind)) m b (c .before .before .before .before .before .before .before .before .byte-at .ensures) (c .before .before .before .before .before .before .walk-fixed2 .ensures) (c .before .before .walk-content .ensures)) }
 
 pub walk-message-spec : {M : Type 1} → statement M
 walk-message-spec =

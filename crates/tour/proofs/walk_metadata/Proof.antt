@@ -4,8 +4,8 @@ use Rattle.format.specs.Message.{mostColumns}
 use Rattle.format.proofs.Laws.{lawful-number}
 use Rattle.tour.proofs.Tours.{bytes-all}
 use Rattle.tour.proofs.Values.{lawful-count, count-told}
-use Rattle.tour.proofs.Contents.{toured-then, toured-by}
-use Rattle.tour.proofs.Tables.{columns, lawful-types, toured-count, toured-metadata}
+use Rattle.tour.proofs.Contents.{walked-then, walked-by}
+use Rattle.tour.proofs.Tables.{columns, lawful-types, walked-count, walked-metadata}
 use borrow.Author.Needs.{needs}
 use Rattle.tour.proofs.walk_metadata.Statement.{statement}
 use Rattle.tour.proofs.walk_metadata.Tie as tie
@@ -36,9 +36,9 @@ returns c =
     let a = (c .before .before .before .before .before .before .before .before .before .before .before .before .before .before .before .before .before .before .before .before .before .before .before .args) in
     let s = a .s .now in
     let b = bytes-all (a .s .now) (c .before .before .before .before .before .before .before .before .before .before .before .before .before .before .before .before .before .before .before .before .before .before .shared-slice-known .given) in
-    toured-metadata s b (c .before .before .before .before .before .before .before .before .before .before .before .before .before .before .before .before .before .before .before .walk-fixed .ensures) (toured-then s b (lawful-number 1 43) (c .before .before .before .before .before .before .before .before .before .before .before .before .before .before .before .walk-fixed2 .ensures)
-    (toured-by s b columns (lawful-count 2 mostColumns 44) (count-told s 2 mostColumns 44 _ (c .before .before .before .before .before .before .before .before .before .before .before .before .number-at .ensures)) (toured-count s b 2 mostColumns 44 (c .before .before .before .before .before .before .before .before .before .before .walk-fixed3 .ensures))
-    (toured-then s b (lawful-types (c .before .before .before .before .before .before .before .before .before .before .before .before .number-at .result)) (c .before .before .before .before .before .before .walk-types .ensures) (c .before .before .walk-names .ensures))))
+    walked-metadata s b (c .before .before .before .before .before .before .before .before .before .before .before .before .before .before .before .before .before .before .before .walk-fixed .ensures) (walked-then s b (lawful-number 1 43) (c .before .before .before .before .before .before .before .before .before .before .before .before .before .before .before .walk-fixed2 .ensures)
+    (walked-by s b columns (lawful-count 2 mostColumns 44) (count-told s 2 mostColumns 44 _ (c .before .before .before .before .before .before .before .before .before .before .before .before .number-at .ensures)) (walked-count s b 2 mostColumns 44 (c .before .before .before .before .before .before .before .before .before .before .walk-fixed3 .ensures))
+    (walked-then s b (lawful-types (c .before .before .before .before .before .before .before .before .before .before .before .before .number-at .result)) (c .before .before .before .before .before .before .walk-types .ensures) (c .before .before .walk-names .ensures))))
 
 pub walk-metadata-spec : {M : Type 1} → statement M
 walk-metadata-spec =

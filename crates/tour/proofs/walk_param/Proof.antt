@@ -2,7 +2,7 @@
 use Rattle.format.specs.declared.Fault.the-variants.{WireType}
 use Rattle.format.specs.Message.{argument}
 use Rattle.tour.proofs.Tours.{bytes-all}
-use Rattle.tour.proofs.Values.{isParam, toured-param, toured-typed}
+use Rattle.tour.proofs.Values.{isParam, walked-param, walked-typed}
 use borrow.Author.Needs.{needs}
 use Rattle.tour.proofs.walk_param.Statement.{statement}
 use Rattle.tour.proofs.walk_param.Tie as tie
@@ -23,7 +23,7 @@ returns : tie.Need-returns
 returns c =
     let a = (c .before .before .before .before .before .before .before .before .before .before .before .args) in
     let b = bytes-all (a .s .now) (c .before .before .before .before .before .before .before .before .before .before .shared-slice-known .given) in
-    toured-param (a .s .now) b (toured-typed isParam WireType 24 argument (a .s .now) b (c .before .before .before .before .before .before .before .before .byte-at .ensures) (c .before .before .before .before .before .before .walk-fixed .ensures) (c .before .before .walk-argument .ensures))
+    walked-param (a .s .now) b (walked-typed isParam WireType 24 argument (a .s .now) b (c .before .before .before .before .before .before .before .before .byte-at .ensures) (c .before .before .before .before .before .before .walk-fixed .ensures) (c .before .before .walk-argument .ensures))
 
 pub walk-param-spec : {M : Type 1} → statement M
 walk-param-spec =

@@ -4,10 +4,10 @@ use lib.Dec.{eqb}
 use Rattle.format.specs.declared.Fault.the-variants.{Flags}
 use Rattle.format.proofs.Laws.{lawful-block}
 use Rattle.tour.specs.Parts.{statuses}
-use Rattle.tour.proofs.Tours.{bytes-all, toured-block}
-use Rattle.tour.proofs.Values.{toured-typed}
-use Rattle.tour.proofs.Contents.{toured-then}
-use Rattle.tour.proofs.Tables.{toured-reply}
+use Rattle.tour.proofs.Tours.{bytes-all, walked-block}
+use Rattle.tour.proofs.Values.{walked-typed}
+use Rattle.tour.proofs.Contents.{walked-then}
+use Rattle.tour.proofs.Tables.{walked-reply}
 use borrow.Author.Needs.{needs}
 use Rattle.tour.proofs.walk_response.Statement.{statement}
 use Rattle.tour.proofs.walk_response.Tie as tie
@@ -32,8 +32,8 @@ returns c =
     let a = (c .before .before .before .before .before .before .before .before .before .before .before .before .before .before .before .args) in
     let s = a .s .now in
     let b = bytes-all (a .s .now) (c .before .before .before .before .before .before .before .before .before .before .before .before .before .before .shared-slice-known .given) in
-    toured-reply s b (toured-then s b (lawful-block 8 22) (toured-block s 8 22 (c .before .before .before .before .before .before .before .before .before .before .before .walk-fixed .ensures))
-    (toured-typed (λ n. eqb (n % 32) 0) Flags 30 statuses s b (c .before .before .before .before .before .before .before .before .byte-at .ensures) (c .before .before .before .before .before .before .walk-fixed2 .ensures) (c .before .before .walk-statuses .ensures)))
+    walked-reply s b (walked-then s b (lawful-block 8 22) (walked-block s 8 22 (c .before .before .before .before .before .before .before .before .before .before .before .walk-fixed .ensures))
+    (walked-typed (λ n. eqb (n % 32) 0) Flags 30 statuses s b (c .before .before .before .before .before .before .before .before .byte-at .ensures) (c .before .before .before .before .before .before .walk-fixed2 .ensures) (c .before .before .walk-statuses .ensures)))
 
 pub walk-response-spec : {M : Type 1} → statement M
 walk-response-spec =

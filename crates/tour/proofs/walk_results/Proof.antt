@@ -8,8 +8,8 @@ use Rattle.format.specs.Message.{text, mostItems, first}
 use Rattle.format.proofs.Laws.{lawful-number, lawful-present}
 use Rattle.format.proofs.Formats.{lawful-table}
 use Rattle.tour.proofs.Tours.{bytes-all}
-use Rattle.tour.proofs.Values.{lawful-string, toured-list}
-use Rattle.tour.proofs.Contents.{toured-then, lawful-optional, toured-if}
+use Rattle.tour.proofs.Values.{lawful-string, walked-list}
+use Rattle.tour.proofs.Contents.{walked-then, lawful-optional, walked-if}
 use borrow.Author.Needs.{needs}
 use Rattle.tour.proofs.walk_results.Statement.{statement}
 use Rattle.tour.proofs.walk_results.Tie as tie
@@ -40,8 +40,8 @@ returns c =
     let a = (c .before .before .before .before .before .before .before .before .before .before .before .before .before .before .before .before .before .before .before .before .args) in
     let s = a .s .now in
     let b = bytes-all (a .s .now) (c .before .before .before .before .before .before .before .before .before .before .before .before .before .before .before .before .before .before .before .shared-slice-known .given) in
-    toured-then s b (lawful-number 4 37) (c .before .before .before .before .before .before .before .before .before .before .before .before .before .before .before .before .walk-fixed .ensures) (toured-then s b (lawful-optional _ false 38 39) (toured-if none (text 38 39) (c .before .before .before .before .before .before .before .before .before .before .before .before .is-flagged .ensures) ((c .before .before .before .before .before .before .before .before .before .before .before .walk-optional .ensures) false))
-    (toured-list 2 mostItems 40 first lawful-table s b (c .before .before .before .before .before .before .before .before .number-at .ensures) (c .before .before .before .before .before .before .walk-fixed2 .ensures) (c .before .before .walk-tables .ensures)))
+    walked-then s b (lawful-number 4 37) (c .before .before .before .before .before .before .before .before .before .before .before .before .before .before .before .before .walk-fixed .ensures) (walked-then s b (lawful-optional _ false 38 39) (walked-if none (text 38 39) (c .before .before .before .before .before .before .before .before .before .before .before .before .is-flagged .ensures) ((c .before .before .before .before .before .before .before .before .before .before .before .walk-optional .ensures) false))
+    (walked-list 2 mostItems 40 first lawful-table s b (c .before .before .before .before .before .before .before .before .number-at .ensures) (c .before .before .before .before .before .before .walk-fixed2 .ensures) (c .before .before .walk-tables .ensures)))
 
 pub walk-results-spec : {M : Type 1} → statement M
 walk-results-spec =

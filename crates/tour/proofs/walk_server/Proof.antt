@@ -4,7 +4,7 @@ use mathlib.Core.Bool.{false}
 use Rattle.format.specs.Value.{anything}
 use Rattle.format.proofs.Laws.{lawful-number}
 use Rattle.tour.proofs.Tours.{bytes-all}
-use Rattle.tour.proofs.Contents.{toured-then, toured-server}
+use Rattle.tour.proofs.Contents.{walked-then, walked-server}
 use borrow.Author.Needs.{needs}
 use Rattle.tour.proofs.walk_server.Statement.{statement}
 use Rattle.tour.proofs.walk_server.Tie as tie
@@ -32,8 +32,8 @@ returns c =
     let a = (c .before .before .before .before .before .before .before .before .before .before .before .before .before .before .before .before .before .before .before .before .before .before .args) in
     let s = a .s .now in
     let b = bytes-all (a .s .now) (c .before .before .before .before .before .before .before .before .before .before .before .before .before .before .before .before .before .before .before .before .before .shared-slice-known .given) in
-    toured-server s b (toured-then s b (lawful-number 4 11) (c .before .before .before .before .before .before .before .before .before .before .before .before .before .before .before .before .before .before .walk-fixed .ensures) (toured-then s b (lawful-number 8 12) (c .before .before .before .before .before .before .before .before .before .before .before .before .before .before .walk-fixed2 .ensures)
-    (toured-then s b (lawful-number 8 13) (c .before .before .before .before .before .before .before .before .before .before .walk-fixed3 .ensures) (toured-then s b (lawful-number 4 14) (c .before .before .before .before .before .before .walk-fixed4 .ensures) ((c .before .before .walk-body .ensures) false anything)))))
+    walked-server s b (walked-then s b (lawful-number 4 11) (c .before .before .before .before .before .before .before .before .before .before .before .before .before .before .before .before .before .before .walk-fixed .ensures) (walked-then s b (lawful-number 8 12) (c .before .before .before .before .before .before .before .before .before .before .before .before .before .before .walk-fixed2 .ensures)
+    (walked-then s b (lawful-number 8 13) (c .before .before .before .before .before .before .before .before .before .before .walk-fixed3 .ensures) (walked-then s b (lawful-number 4 14) (c .before .before .before .before .before .before .walk-fixed4 .ensures) ((c .before .before .walk-body .ensures) false anything)))))
 
 pub walk-server-spec : {M : Type 1} → statement M
 walk-server-spec =

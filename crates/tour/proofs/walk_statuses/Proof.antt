@@ -5,7 +5,7 @@ use mathlib.Core.Bool.{true}
 use Rattle.format.specs.Message.{nullText}
 use Rattle.format.proofs.Laws.{lawful-number}
 use Rattle.tour.proofs.Tours.{bytes-all}
-use Rattle.tour.proofs.Contents.{toured-then, lawful-optional, toured-if}
+use Rattle.tour.proofs.Contents.{walked-then, lawful-optional, walked-if}
 use borrow.Author.Needs.{needs}
 use Rattle.tour.proofs.walk_statuses.Statement.{statement}
 use Rattle.tour.proofs.walk_statuses.Tie as tie
@@ -39,8 +39,8 @@ returns c =
     let a = (c .before .before .before .before .before .before .before .before .before .before .before .before .before .before .before .before .before .before .before .before .before .before .before .before .args) in
     let s = a .s .now in
     let b = bytes-all (a .s .now) (c .before .before .before .before .before .before .before .before .before .before .before .before .before .before .before .before .before .before .before .before .before .before .before .shared-slice-known .given) in
-    toured-then s b (lawful-number 1 31) (c .before .before .before .before .before .before .before .before .before .before .before .before .before .before .before .before .before .before .before .before .walk-fixed .ensures) (toured-then s b (lawful-optional _ true 32 33) (toured-if none (nullText 32 33) (c .before .before .before .before .before .before .before .before .before .before .before .before .before .before .before .before .is-flagged .ensures) ((c .before .before .before .before .before .before .before .before .before .before .before .before .before .before .before .walk-optional .ensures) true))
-    (toured-then s b (lawful-number 1 34) (c .before .before .before .before .before .before .before .before .before .before .before .walk-fixed2 .ensures) (toured-then s b (lawful-optional _ true 35 36) (toured-if none (nullText 35 36) (c .before .before .before .before .before .before .before .is-flagged2 .ensures) ((c .before .before .before .before .before .before .walk-optional2 .ensures) true)) (c .before .before .walk-results .ensures))))
+    walked-then s b (lawful-number 1 31) (c .before .before .before .before .before .before .before .before .before .before .before .before .before .before .before .before .before .before .before .before .walk-fixed .ensures) (walked-then s b (lawful-optional _ true 32 33) (walked-if none (nullText 32 33) (c .before .before .before .before .before .before .before .before .before .before .before .before .before .before .before .before .is-flagged .ensures) ((c .before .before .before .before .before .before .before .before .before .before .before .before .before .before .before .walk-optional .ensures) true))
+    (walked-then s b (lawful-number 1 34) (c .before .before .before .before .before .before .before .before .before .before .before .walk-fixed2 .ensures) (walked-then s b (lawful-optional _ true 35 36) (walked-if none (nullText 35 36) (c .before .before .before .before .before .before .before .is-flagged2 .ensures) ((c .before .before .before .before .before .before .walk-optional2 .ensures) true)) (c .before .before .walk-results .ensures))))
 
 pub walk-statuses-spec : {M : Type 1} → statement M
 walk-statuses-spec =

@@ -2,9 +2,9 @@
 use mathlib.Core.Path.{_≡_, _∙_}
 use Rattle.format.specs.Message.{second, unlimited, row}
 use Rattle.format.proofs.Formats.{lawful-metadata, lawful-row}
-use Rattle.tour.proofs.Tours.{bytes-all, toured-both}
-use Rattle.tour.proofs.Values.{toured-list}
-use Rattle.tour.proofs.Tables.{rows, toured-table}
+use Rattle.tour.proofs.Tours.{bytes-all, walked-both}
+use Rattle.tour.proofs.Values.{walked-list}
+use Rattle.tour.proofs.Tables.{rows, walked-table}
 use borrow.Author.Needs.{needs}
 use Rattle.tour.proofs.walk_table.Statement.{statement}
 use Rattle.tour.proofs.walk_table.Tie as tie
@@ -35,9 +35,9 @@ returns c =
     let a = (c .before .before .before .before .before .before .before .before .before .before .before .before .before .before .before .before .before .before .before .before .args) in
     let s = a .s .now in
     let b = bytes-all (a .s .now) (c .before .before .before .before .before .before .before .before .before .before .before .before .before .before .before .before .before .before .before .shared-slice-known .given) in
-    toured-table s b (c .before .before .before .before .before .before .before .before .before .before .before .before .before .before .before .before .walk-fixed .ensures) (toured-both b {g = rows} lawful-metadata (c .before .before .before .before .before .before .before .before .before .before .before .walk-metadata .ensures) (λ m next e.
+    walked-table s b (c .before .before .before .before .before .before .before .before .before .before .before .before .before .before .before .before .walk-fixed .ensures) (walked-both b {g = rows} lawful-metadata (c .before .before .before .before .before .before .before .before .before .before .before .walk-metadata .ensures) (λ m next e.
     let same = (c .before .before .before .before .before .before .before .before .before .before .before .before .before .types-of .ensures) m next e in
-    rw (← same) (toured-list 4 unlimited 48 second (lawful-row _) s b (c .before .before .before .before .before .before .before .before .number-at .ensures) (c .before .before .before .before .before .before .walk-fixed2 .ensures) (c .before .before .walk-rows .ensures))))
+    rw (← same) (walked-list 4 unlimited 48 second (lawful-row _) s b (c .before .before .before .before .before .before .before .before .number-at .ensures) (c .before .before .before .before .before .before .walk-fixed2 .ensures) (c .before .before .walk-rows .ensures))))
 
 pub walk-table-spec : {M : Type 1} → statement M
 walk-table-spec =

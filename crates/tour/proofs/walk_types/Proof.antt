@@ -6,7 +6,7 @@ use Rattle.format.specs.declared.Fault.the-variants.{WireType}
 use Rattle.format.specs.Value.{isColumn}
 use Rattle.format.specs.Message.{third, columnType}
 use Rattle.format.proofs.Laws.{lawful-number, lawful-ruled}
-use Rattle.tour.proofs.Tours.{toured-ruled}
+use Rattle.tour.proofs.Tours.{walked-ruled}
 use Rattle.tour.specs.Tour.{indexOf}
 use Rattle.tour.proofs.Tours.{bytes-all}
 use Rattle.tour.proofs.Rounds.{Round, round-first, round-next, round-last, all-same}
@@ -36,7 +36,7 @@ loop-again : tie.Need-loop-again Inv-loop μ-loop
 loop-again c =
     let a = (c .before .before .before .before .before .before .before .before .args) in
     let l = (c .before .before .before .before .before .loop) in
-    round-next third (λ m. columnType 45) (λ m. lawful-ruled isColumn WireType (lawful-number 1 45)) (a .s .now) (bytes-all (a .s .now) (c .before .before .before .before .before .before .before .shared-slice-known .given)) (indexOf (a .ix)) (a .n) (l .k) (c .before .before .before .before .loop-test .taken) (l .inv) (toured-ruled (a .s .now) isColumn WireType (c .before .before .walk-fixed .ensures)) (c .before .before .walk-fixed .kept .1 .0)
+    round-next third (λ m. columnType 45) (λ m. lawful-ruled isColumn WireType (lawful-number 1 45)) (a .s .now) (bytes-all (a .s .now) (c .before .before .before .before .before .before .before .shared-slice-known .given)) (indexOf (a .ix)) (a .n) (l .k) (c .before .before .before .before .loop-test .taken) (l .inv) (walked-ruled (a .s .now) isColumn WireType (c .before .before .walk-fixed .ensures)) (c .before .before .walk-fixed .kept .1 .0)
 
 same-length : tie.Need-same-length Inv-loop μ-loop
 same-length c = (c .before .loop .inv .long)

@@ -1,6 +1,6 @@
 -- `tour::walk_value` meets its contract: a body's types, and the others. Assumes nothing.
 use Rattle.tour.proofs.Tours.{bytes-all}
-use Rattle.tour.proofs.Values.{counted-type, fixed-type, toured-body, toured-plain}
+use Rattle.tour.proofs.Values.{counted-type, fixed-type, walked-body, walked-plain}
 use borrow.Author.Needs.{needs}
 use Rattle.tour.proofs.walk_value.Statement.{statement}
 use Rattle.tour.proofs.walk_value.Tie as tie
@@ -18,7 +18,7 @@ same-length : tie.Need-same-length
 same-length c = search needs
 
 returns : tie.Need-returns
-returns c = let a = (c .before .before .before .before .before .before .before .args) in toured-body (a .s .now) (bytes-all (a .s .now) (c .before .before .before .before .before .before .shared-slice-known .given)) (a .prefix) (a .body) (a .t) (counted-type _ (c .before .before .before .before .match .keys1)) (c .before .before .walk-body .ensures)
+returns c = let a = (c .before .before .before .before .before .before .before .args) in walked-body (a .s .now) (bytes-all (a .s .now) (c .before .before .before .before .before .before .shared-slice-known .given)) (a .prefix) (a .body) (a .t) (counted-type _ (c .before .before .before .before .match .keys1)) (c .before .before .walk-body .ensures)
 
 same-length-2 : tie.Need-same-length-2
 same-length-2 c = search needs
@@ -27,7 +27,7 @@ returns-2 : tie.Need-returns-2
 returns-2 c =
     let a = (c .before .before .before .before .before .before .before .before .args) in
     let n = (c .before .before .before .before .before .match .rest) in
-    toured-plain (a .s .now) (bytes-all (a .s .now) (c .before .before .before .before .before .before .before .shared-slice-known .given)) (a .prefix) (a .body) (a .t) (fixed-type _ (n .1)) (c .before .before .before .before .value-end .ensures) (c .before .before .visit .ensures)
+    walked-plain (a .s .now) (bytes-all (a .s .now) (c .before .before .before .before .before .before .before .shared-slice-known .given)) (a .prefix) (a .body) (a .t) (fixed-type _ (n .1)) (c .before .before .before .before .value-end .ensures) (c .before .before .visit .ensures)
 
 pub walk-value-spec : {M : Type 1} → statement M
 walk-value-spec =

@@ -1,0 +1,212 @@
+-- What the code reads of an accepted message is its record, kind by kind.
+use Prim.Native.Nat.{ℕ, _+_, _%_}
+use mathlib.Core.Path.{_≡_, refl, sym, _∙_, ap, ap₂}
+use mathlib.Core.Bool.{Bool, true, false}
+use mathlib.Core.List.{List}
+use mathlib.Core.Option.{Option, some, none}
+use lib.ListN.{length}
+use lib.Dec.{eqb}
+use native.Mathlib.Omega.{arith}
+use Rattle.format.specs.declared.Fault.the-variants.{Flags}
+use Rattle.format.specs.declared.Refusal.{Refusal}
+use Rattle.format.specs.Result.{Res, ok, no}
+use Rattle.format.specs.Format.{Format, number, block, ruled, both, present, nothing}
+use Rattle.format.specs.Message as wire
+use Rattle.format.specs.Message.{Message, Server, contentOf, readMessage, loginRequest, loginResponse, server, noServer, invocation, response, text, nullText, edition, flagged, list, mostItems, first, param, table}
+use Rattle.format.proofs.Results.{ok-same, no-ok}
+use Rattle.message.specs.declared.Verdict.{Verdict}
+use Rattle.message.specs.Verdict.{toldVerdict, verdictOf}
+use Rattle.scan.specs.Signed.{signed}
+use Rattle.record.specs.declared.Span.{Span}
+use Rattle.record.specs.declared.Edition.{Edition}
+use Rattle.record.specs.declared.LoginRequestRecord.{LoginRequestRecord}
+use Rattle.record.specs.Places.{spanOf, afterText, afterNote}
+use Rattle.record.specs.Records.{recordIn, loginRequestOf, loginResponseOf, invocationOf, responseOf}
+use Rattle.record.specs.Peeks.{numberAt, textAt, loginAt, loginRequestAt, serverAt, loginResponseAt, invocationAt, responseAt}
+use Rattle.record.proofs.Fields.{spot}
+use Rattle.record.proofs.Says.{both-parts, into-parts, ruled-part, number-says, block-size, text-says, list-says, number-both, ruled-both, block-both, text-both, note-both, said}
+
+-- ---- an answer's record
+module _ {A : Type 0} (show : Message → A) (d : A) (w : Res Message) (v : Verdict) where
+  pub fine-record : (x : A) → toldVerdict v ≡ verdictOf w → v ≡ Verdict.Fine → ((r : Message) → w ≡ ok r → x ≡ show r) → x ≡ recordIn show d w
+  fine-record x e fine says = by-result w refl (sym (ap toldVerdict fine) ∙ e)
+    where
+      by-result : (u : Res Message) → w ≡ u → ok tt ≡ verdictOf u → x ≡ recordIn show d u
+      by-result (ok r) is h = says r is
+      by-result (no f p) is h = absurd (no-ok (sym h))
+
+  pub refused-record : {q : Refusal} → toldVerdict v ≡ verdictOf w → v ≡ Verdict.No q → d ≡ recordIn show d w
+  refused-record {q} e bad = by-result w (sym (ap toldVerdict bad) ∙ e)
+    where
+      by-result : (u : Res Message) → no (q .fault) (q .place) ≡ verdictOf u → d ≡ recordIn show d u
+      by-result (ok r) h = absurd (no-ok h)
+      by-result (no f p) h = refl
+
+-- ---- kind 1
+module _ (m : List ℕ) (v : ℕ) (version : numberAt m 4 1 ≡ record { n = v; next = 5 }) where
+  login-put : (at size : ℕ) (e : Edition) (s u : Option (List ℕ)) (bs : List ℕ)
+      → textAt m at false ≡ spot (spanOf at s) (afterText at s) → textAt m (afterText at s) false ≡ spot (spanOf (afterText at s) u) (afterText (afterText at s) u) → length bs ≡ size
+      → loginAt m at v e size ≡ record {
+        version = signed 1 v;
+        «hash_version» = e;
+        service = spanOf at s;
+        user = spanOf (afterText at s) u;
+        hash = Span.At (afterText (afterText at s) u) (length bs);
+      }
+  login-put at size e s u bs p q r = rw (p, q, r)
+
+  -- from the service on
+  login-rest : (at : ℕ) (e : Edition) (h : Option ℕ) (a : Option (List ℕ) × (Option (List ℕ) × List ℕ)) (end : ℕ)
+      → both (text 4 5) (λ s. both (text 6 7) (λ u. block (wire.hashSize h) 8)) .read m at ≡ ok (a, end)
+      → loginAt m at v e (wire.hashSize h) ≡ record {
+        version = signed 1 v;
+        «hash_version» = e;
+        service = spanOf at (a .0);
+        user = spanOf (afterText at (a .0)) (a .1 .0);
+        hash = Span.At (afterText (afterText at (a .0)) (a .1 .0)) (length (a .1 .1));
+      }
+  login-rest at e h a end read =
+      let q₁ = text-both m at false 4 5 (λ s. both (text 6 7) (λ u. block (wire.hashSize h) 8)) a end read in
+      let q₂ = text-both m (afterText at (a .0)) false 6 7 (λ u. block (wire.hashSize h) 8) (a .1) end (q₁ .1) in
+      login-put at (wire.hashSize h) e (a .0) (a .1 .0) (a .1 .1) (q₁ .0) (q₂ .0) (block-size m _ (wire.hashSize h) 8 (a .1 .1) end (q₂ .1))
+
+  abbrev Rest : Option ℕ → Format (Option (List ℕ) × (Option (List ℕ) × List ℕ))
+  Rest h = both (text 4 5) (λ s. both (text 6 7) (λ u. block (wire.hashSize h) 8))
+
+  abbrev put : Option (List ℕ) × (Option (List ℕ) × List ℕ) → Option ℕ → LoginRequestRecord
+  put a h = loginRequestOf v (record { hashVersion = h; service = a .0; user = a .1 .0; hash = a .1 .1 })
+
+  by-version : (t : Bool) → eqb v 1 ≡ t → (h : Option ℕ) (mid : ℕ) (a : Option (List ℕ) × (Option (List ℕ) × List ℕ)) (end : ℕ)
+      → present t 0 (edition 3) .read m 5 ≡ ok (h, mid) → Rest h .read m mid ≡ ok (a, end)
+      → loginRequestAt m ≡ put a h
+  unfolding present nothing
+  by-version true is h mid a end first rest =
+      let p = into-parts m some _ (edition 3) 5 h mid first in
+      let n = number-says m 5 1 3 (p .0) mid (ruled-part m _ _ (number 1 3) 5 (p .0) mid (p .1)) in
+      let read : Rest (some (p .0)) .read m 6 ≡ ok (a, end) = ap₂ (λ (x : Option ℕ) (y : ℕ). Rest x .read m y) (p .2) (sym (n .1)) ∙ rest in
+      rw (version, is, n .0) (login-rest 6 (Edition.Is (signed 1 (p .0))) (some (p .0)) a end read ∙ ap (put a) (p .2))
+  by-version false is h mid a end first rest =
+      let same = ok-same first in
+      let gone : none ≡ h = ap (λ (w : Option ℕ × ℕ). w .0) same in
+      let at : 5 ≡ mid = ap (λ (w : Option ℕ × ℕ). w .1) same in
+      let read : Rest none .read m 5 ≡ ok (a, end) = ap₂ (λ (x : Option ℕ) (y : ℕ). Rest x .read m y) gone at ∙ rest in
+      rw (version, is) (login-rest 5 Edition.Absent none a end read ∙ ap (put a) gone)
+
+  login-says : (l : wire.LoginRequest) (end : ℕ) → loginRequest v .read m 5 ≡ ok (l, end) → loginRequestAt m ≡ loginRequestOf v l
+  unfolding loginRequest
+  login-says l end e =
+      let p = into-parts m _ _ (both (present (eqb v 1) 0 (edition 3)) Rest) 5 l end e in
+      let q = both-parts m (present (eqb v 1) 0 (edition 3)) Rest 5 (p .0) end (p .1) in
+      by-version (eqb v 1) refl (p .0 .0) (q .0) (p .0 .1) end (q .1) (q .2) ∙ ap (loginRequestOf v) (p .2)
+
+pub login-request-says : (m : List ℕ) (r : Message) → readMessage 1 m ≡ ok r → loginRequestAt m ≡ loginRequestOf (r .version) (wire.loginRequest-of (r .content))
+unfolding contentOf
+login-request-says m r e =
+    let t = said 1 m r e in
+    let p = into-parts m wire.aLoginRequest _ (loginRequest (r .version)) 5 (r .content) (length m) (t .content) in
+    login-says m (r .version) (t .version) (p .0) (length m) (p .1) ∙ ap (λ (c : wire.Content). loginRequestOf (r .version) (wire.loginRequest-of c)) (p .2)
+
+-- ---- kind 2
+module _ (m : List ℕ) (v : ℕ) (version : numberAt m 4 1 ≡ record { n = v; next = 5 }) where
+  server-says : (r : ℕ) (x : Server) (end : ℕ) → server .read m 6 ≡ ok (x, end) → serverAt m v r ≡ loginResponseOf v r (some x)
+  unfolding server
+  server-says r x end e =
+      let p = into-parts m _ _ (both (number 4 11) (λ a. both (number 8 12) (λ b. both (number 8 13) (λ c. both (number 4 14) (λ d. text 15 16))))) 6 x end e in
+      let a = p .0 in
+      let q₁ = number-both m 6 4 11 (λ a. both (number 8 12) (λ b. both (number 8 13) (λ c. both (number 4 14) (λ d. text 15 16)))) a end (p .1) in
+      let q₂ = number-both m 10 8 12 (λ b. both (number 8 13) (λ c. both (number 4 14) (λ d. text 15 16))) (a .1) end (q₁ .1) in
+      let q₃ = number-both m 18 8 13 (λ c. both (number 4 14) (λ d. text 15 16)) (a .1 .1) end (q₂ .1) in
+      let q₄ = number-both m 26 4 14 (λ d. text 15 16) (a .1 .1 .1) end (q₃ .1) in
+      let q₅ = text-says m 30 false 15 16 (a .1 .1 .1 .1) end (q₄ .1) in
+      rw (q₁ .0, q₂ .0, q₃ .0, q₄ .0, q₅ .0) (ap (λ (y : Server). loginResponseOf v r (some y)) (p .2))
+
+  by-result : (t : Bool) (r : ℕ) → numberAt m 5 1 ≡ record { n = r; next = 6 } → eqb r 0 ≡ t → (o : Option Server) (end : ℕ) → present t noServer server .read m 6 ≡ ok (o, end) → loginResponseAt m ≡ loginResponseOf v r o
+  unfolding present nothing
+  by-result true r first is o end e =
+      let p = into-parts m some _ server 6 o end e in
+      rw (version, first, is) (server-says r (p .0) end (p .1) ∙ ap (loginResponseOf v r) (p .2))
+  by-result false r first is o end e = rw (version, first, is) (ap (λ (w : Option Server × ℕ). loginResponseOf v r (w .0)) (ok-same e))
+
+  response-2 : (l : wire.LoginResponse) (end : ℕ) → loginResponse .read m 5 ≡ ok (l, end) → loginResponseAt m ≡ loginResponseOf v (l .result) (l .server)
+  unfolding loginResponse
+  response-2 l end e =
+      let p = into-parts m _ _ (both (number 1 10) (λ r. present (eqb r 0) noServer server)) 5 l end e in
+      let q = number-both m 5 1 10 (λ r. present (eqb r 0) noServer server) (p .0) end (p .1) in
+      by-result (eqb (p .0 .0) 0) (p .0 .0) (q .0) refl (p .0 .1) end (q .1) ∙ ap (λ (x : wire.LoginResponse). loginResponseOf v (x .result) (x .server)) (p .2)
+
+pub login-response-says : (m : List ℕ) (r : Message) → readMessage 2 m ≡ ok r
+    → loginResponseAt m ≡ loginResponseOf (r .version) (wire.loginResponse-of (r .content) .result) (wire.loginResponse-of (r .content) .server)
+unfolding contentOf
+login-response-says m r e =
+    let t = said 2 m r e in
+    let p = into-parts m wire.aLoginResponse _ loginResponse 5 (r .content) (length m) (t .content) in
+    response-2 m (r .version) (t .version) (p .0) (length m) (p .1)
+    ∙ ap (λ (c : wire.Content). loginResponseOf (r .version) (wire.loginResponse-of c .result) (wire.loginResponse-of c .server)) (p .2)
+
+-- ---- kind 3
+call-says : (m : List ℕ) (v : ℕ) → numberAt m 4 1 ≡ record { n = v; next = 5 } → (l : wire.Invocation) (end : ℕ) → invocation .read m 5 ≡ ok (l, end) → invocationAt m ≡ invocationOf v l
+unfolding invocation
+call-says m v version l end e =
+    let p = into-parts m _ _ (both (text 20 21) (λ p. both (block 8 22) (λ c. list 2 mostItems 23 first param))) 5 l end e in
+    let a = p .0 in
+    let q₁ = text-both m 5 false 20 21 (λ p. both (block 8 22) (λ c. list 2 mostItems 23 first param)) a end (p .1) in
+    let q₂ = block-both m (afterText 5 (a .0)) 22 (λ c. list 2 mostItems 23 first param) (a .1) end (q₁ .1) in
+    let q₃ = list-says m (afterText 5 (a .0) + 8) mostItems 23 first param (a .1 .1) end (q₂ .1) in
+    let far : afterText 5 (a .0) + 8 + 2 ≡ afterText 5 (a .0) + 10 = omega arith in
+    rw (version, q₁ .0, q₂ .0, q₃, far) (ap (invocationOf v) (p .2))
+
+pub invocation-says : (m : List ℕ) (r : Message) → readMessage 3 m ≡ ok r → invocationAt m ≡ invocationOf (r .version) (wire.invocation-of (r .content))
+unfolding contentOf
+invocation-says m r e =
+    let t = said 3 m r e in
+    let p = into-parts m wire.anInvocation _ invocation 5 (r .content) (length m) (t .content) in
+    call-says m (r .version) (t .version) (p .0) (length m) (p .1) ∙ ap (λ (c : wire.Content). invocationOf (r .version) (wire.invocation-of c)) (p .2)
+
+-- ---- kind 4, from the flags on
+abbrev Text : Type 0
+Text = Option (Option (List ℕ))
+
+abbrev Tables : Format (List wire.Table)
+Tables = list 2 mostItems 40 first table
+
+abbrev Excepted : ℕ → Format (Text × List wire.Table)
+Excepted flags = both (present (flagged 64 flags) none (text 38 39)) (λ x. Tables)
+
+abbrev Tripped : ℕ → Format (ℕ × (Text × List wire.Table))
+Tripped flags = both (number 4 37) (λ r. Excepted flags)
+
+abbrev Applied : ℕ → Format (Text × (ℕ × (Text × List wire.Table)))
+Applied flags = both (present (flagged 128 flags) none (nullText 35 36)) (λ u. Tripped flags)
+
+abbrev Stated : ℕ → Format (Text × (ℕ × (Text × (ℕ × (Text × List wire.Table)))))
+Stated flags = both (present (flagged 32 flags) none (nullText 32 33)) (λ t. both (number 1 34) (λ a. Applied flags))
+
+abbrev Flagged : ℕ → Format (ℕ × (Text × (ℕ × (Text × (ℕ × (Text × List wire.Table))))))
+Flagged flags = both (number 1 31) (λ s. Stated flags)
+
+reply-says : (m : List ℕ) (v : ℕ) → numberAt m 4 1 ≡ record { n = v; next = 5 } → (l : wire.Response) (end : ℕ) → response .read m 5 ≡ ok (l, end) → responseAt m ≡ responseOf v l
+unfolding response
+reply-says m v version l end e =
+    let p = into-parts m _ _ (both (block 8 22) (λ c. both (ruled (λ n. eqb (n % 32) 0) Flags (number 1 30)) Flagged)) 5 l end e in
+    let a = p .0 in
+    let c = block-both m 5 22 (λ c. both (ruled (λ n. eqb (n % 32) 0) Flags (number 1 30)) Flagged) a end (p .1) in
+    let f = ruled-both m 13 (λ n. eqb (n % 32) 0) Flags 1 30 Flagged (a .1) end (c .1) in
+    let flags = a .1 .0 in
+    let s = number-both m 14 1 31 (λ s. Stated flags) (a .1 .1) end (f .1) in
+    let w = a .1 .1 .1 in
+    let t = note-both m 15 (flagged 32 flags) true 32 33 (λ t. both (number 1 34) (λ a. Applied flags)) w end (s .1) in
+    let app = afterNote 15 (w .0) in
+    let b = number-both m app 1 34 (λ a. Applied flags) (w .1) end (t .1) in
+    let u = note-both m (app + 1) (flagged 128 flags) true 35 36 (λ u. Tripped flags) (w .1 .1) end (b .1) in
+    let trip = afterNote (app + 1) (w .1 .1 .0) in
+    let r = number-both m trip 4 37 (λ r. Excepted flags) (w .1 .1 .1) end (u .1) in
+    let x = note-both m (trip + 4) (flagged 64 flags) false 38 39 (λ x. Tables) (w .1 .1 .1 .1) end (r .1) in
+    let n = list-says m (afterNote (trip + 4) (w .1 .1 .1 .1 .0)) mostItems 40 first table (w .1 .1 .1 .1 .1) end (x .1) in
+    rw (version, c .0, f .0, s .0, t .0, b .0, u .0, r .0, x .0, n) (ap (responseOf v) (p .2))
+
+pub response-says : (m : List ℕ) (r : Message) → readMessage 4 m ≡ ok r → responseAt m ≡ responseOf (r .version) (wire.response-of (r .content))
+unfolding contentOf
+response-says m r e =
+    let t = said 4 m r e in
+    let p = into-parts m wire.aResponse _ response 5 (r .content) (length m) (t .content) in
+    reply-says m (r .version) (t .version) (p .0) (length m) (p .1) ∙ ap (λ (c : wire.Content). responseOf (r .version) (wire.response-of c)) (p .2)
