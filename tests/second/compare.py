@@ -61,8 +61,10 @@ def broken(seed):
 
 
 def report(number, one, expected, found):
-    print("compare: DIFFERENCE at message %d, kind %s" % (number, one[:1].hex() or "none"))
-    print("message: %s" % one[1:].hex())
+    kept = RUN.parent.parent / "target" / "difference.bin"
+    kept.write_bytes(one[1:])
+    print("compare: DIFFERENCE at message %d of kind %s, kept in target/%s" % (number, one[:1].hex() or "none", kept.name))
+    print("message, %d bytes: %s" % (len(one) - 1, one[1:101].hex()))
     for i, (a, b) in enumerate(zip(expected.splitlines() + ["(end)"], found.splitlines() + ["(end)"])):
         if a != b:
             print("line %d: second reader: %s; sweep: %s" % (i + 1, a, b))

@@ -1,16 +1,15 @@
 -- What the functions' answers are, by what the verdict on a message and the tour over its fields say.
-use Prim.Native.Nat.{ℕ, zero, suc, _+_, _-_, _/_, _^_, _≤_, _<_}
+use Prim.Native.Nat.{ℕ, zero, suc, _+_, _-_, _^_, _≤_, _<_}
 use mathlib.Core.Path.{_≡_, refl, sym, _∙_, ap, ap₂}
 use mathlib.Core.List.{List, [], _∷_, _++_}
-use lib.ListN.{length, take, drop, drop-of-length-le}
+use lib.ListN.{length, take, drop}
 use lib.Seq.{sets, sets-eq}
-use lib.Dec.{ltb}
 use native.Mathlib.Omega.{arith}
 use borrow.Author.Tests.{lt-ltb, le-ltb}
 use Rattle.format.specs.declared.Fault.{Fault}
 use Rattle.format.specs.declared.Fault.the-variants.{PastEnd}
 use Rattle.format.specs.declared.Refusal.{Refusal}
-use Rattle.format.specs.Result.{Res, ok, no, bind}
+use Rattle.format.specs.Result.{Res, ok, no}
 use Rattle.format.specs.Number.{Bytes}
 use Rattle.format.specs.Format.{Entry}
 use Rattle.format.specs.Message.{readMessage}
@@ -20,8 +19,7 @@ use Rattle.tour.specs.declared.Tour.{Tour}
 use Rattle.tour.specs.declared.Toured.{Toured}
 use Rattle.tour.specs.Tour.{State, stateOf, six, visited, begun, fieldsOf, tourOf, outOf}
 use Rattle.tour.specs.Told.{toldToured, touredNo}
-use Rattle.fields.specs.Questions.{nth, ownerOf, windowOf, windowCount, windowOut, sixes, over, entryAt}
-use Rattle.fields.proofs.Folds.{length-sixes}
+use Rattle.fields.specs.Questions.{nth, ownerOf, windowOf, windowCount, sixes, over, entryAt}
 use Rattle.fields.proofs.Seen.{Windowed, windowed, tiles-asked, tiles-few, owned, owns, owner-past}
 use Rattle.fields.proofs.Together.{tiled}
 

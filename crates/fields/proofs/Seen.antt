@@ -1,14 +1,14 @@
 -- The whole tour: what it says of a list of fields that stand side by side.
-use Prim.Native.Nat.{ℕ, zero, suc, _+_, _-_, _*_, _/_, _^_, _≤_, _<_}
-use mathlib.Core.Path.{_≡_, refl, sym, _∙_, ap}
+use Prim.Native.Nat.{ℕ, suc, _+_, _-_, _*_, _/_, _^_, _≤_, _<_}
+use mathlib.Core.Path.{_≡_, sym, _∙_, ap}
 use mathlib.Core.Bool.{Bool, true, false, _&&_, and-false}
-use mathlib.Core.List.{List, [], _∷_, _++_}
-use lib.ListN.{length, take, drop, length-append, length-take, length-drop, take-append-drop, drop-of-length-le}
-use lib.Seq.{sets, sets-eq, length-sets, take-nil, length-take-le, take-all}
+use mathlib.Core.List.{List, [], _∷_}
+use lib.ListN.{length, take, drop, length-take, length-drop, take-append-drop, drop-of-length-le}
+use lib.Seq.{sets, sets-eq, length-sets, take-nil, length-take-le}
 use lib.Dec.{leb, ltb}
 use native.Mathlib.Omega.{arith}
 use native.Mathlib.Decide.{decLt}
-use borrow.Author.Tests.{le-leb, lt-ltb, le-ltb, lt-leb}
+use borrow.Author.Tests.{le-leb, lt-ltb, le-ltb}
 use Rattle.format.specs.declared.Fault.{Fault}
 use Rattle.format.specs.declared.Fault.the-variants.{PastEnd}
 use Rattle.format.specs.Result.{Res, ok, no as refused, pick}
@@ -17,8 +17,8 @@ use Rattle.format.proofs.Took.{Tiles}
 use Rattle.format.proofs.Results.{no-ok}
 use Rattle.tour.specs.Tour.{State, six, picks, listed, visited, begun}
 use Rattle.tour.proofs.Visits.{visited-both}
-use Rattle.fields.specs.Questions.{nth, ownerFrom, windowOf, sixes, over}
-use Rattle.fields.proofs.Folds.{counted, Each, Asked, passes, early, before, full, step-take, step-past, Filled, fills, each-drop, length-sixes}
+use Rattle.fields.specs.Questions.{ownerFrom, windowOf, sixes, over}
+use Rattle.fields.proofs.Folds.{counted, Each, Asked, passes, early, before, full, step-take, step-past, fills, each-drop, length-sixes}
 
 -- each of some entries side by side ends past 0, and there are at most as many as bytes
 pub tiles-asked : (o end : ℕ) (es : List Entry) → Tiles o es end → (st : State) → st .offset ≡ 0 → Each (Asked st) es

@@ -1,23 +1,22 @@
 -- What the answers say together: windows add up to the list, each byte has one owner, the owner is the field of its number, and no two answers tell the same.
-use Prim.Native.Nat.{ℕ, zero, suc, _+_, _-_, _*_, _/_, _≤_, _<_}
-use mathlib.Core.Path.{_≡_, refl, sym, _∙_, ap, ap₂}
+use Prim.Native.Nat.{ℕ, zero, suc, _+_, _-_, _/_, _≤_, _<_, _*_}
+use mathlib.Core.Path.{_≡_, refl, sym, _∙_, ap}
 use mathlib.Core.Bool.{Bool, true, false, _&&_, and-false}
 use mathlib.Core.List.{List, [], _∷_, _++_}
-use mathlib.Core.Option.{Option, some, none}
+use mathlib.Core.Option.{some, none}
 use lib.ListN.{length, take, drop, getElem?, length-drop, length-take, drop-of-length-le}
 use lib.Seq.{drop-drop, take-append-seam, drop-append-seam}
 use lib.Dec.{leb, ltb}
 use native.Mathlib.Omega.{arith}
 use native.Mathlib.Decide.{decLt}
-use borrow.Author.Tests.{leb-true, ltb-true, ltb-false, le-leb, lt-ltb, le-ltb}
-use Rattle.format.specs.declared.Fault.{Fault}
+use borrow.Author.Tests.{le-leb, lt-ltb, le-ltb}
 use Rattle.format.specs.declared.Fault.the-variants.{PastEnd}
 use Rattle.format.specs.Result.{Res, ok, no as refused, pick}
 use Rattle.format.specs.Number.{Bytes}
 use Rattle.format.specs.Format as format
 use Rattle.format.specs.Format.{Entry}
-use Rattle.format.specs.Message.{Message, readMessage, messageBytes, messageFields}
-use Rattle.format.proofs.Results.{ok-same, no-ok, and-true-both}
+use Rattle.format.specs.Message.{Message, readMessage, messageFields}
+use Rattle.format.proofs.Results.{ok-same, no-ok}
 use Rattle.format.proofs.Took.{Tiles}
 use Rattle.format.proofs.Owner.{Owns, Owner}
 use Rattle.format.proofs.Demands.{accepted→encodes, fields-tile, field-owner}
@@ -27,8 +26,9 @@ use Rattle.fields.specs.declared.Counted.{Counted}
 use Rattle.fields.specs.declared.Listed.{Listed}
 use Rattle.fields.specs.declared.Owned.{Owned}
 use Rattle.fields.specs.declared.Written.{Written}
-use Rattle.fields.specs.Questions.{nth, ownerFrom, ownerOf, windowOf, sixes, over, entryAt}
-use Rattle.fields.specs.Told.{toldEntry, toldCounted, toldListed, toldOwned, toldWritten}
+use Rattle.fields.specs.Questions.{nth, ownerFrom, ownerOf, windowOf, windowOut, sixes, over, entryAt}
+use Rattle.fields.proofs.Folds.{length-sixes}
+use Rattle.fields.specs.Told.{toldCounted, toldListed, toldOwned, toldWritten}
 
 -- the entries got by n windows, each from where the one before ended; the i-th has room for so many numbers
 pub gathered : (ℕ → ℕ) → ℕ → ℕ → List Entry → ℕ → List Entry
@@ -69,6 +69,15 @@ over-front new old = take-append-seam new (drop (length new) old)
 
 pub over-rest : (new old : List ℕ) → drop (length new) (over new old) ≡ drop (length new) old
 over-rest new old = drop-append-seam new (drop (length new) old)
+
+pub window-front : (es : List Entry) (first : ℕ) (out : List ℕ) → take (6 * length (windowOf es first (length out))) (windowOut (ok es) first out) ≡ sixes (windowOf es first (length out))
+window-front es first out = rw (← length-sixes (windowOf es first (length out))) (over-front (sixes (windowOf es first (length out))) out)
+
+-- the numbers of two windows in a row are those of their entries in a row
+pub sixes-both : (es fs : List Entry) → sixes (es ++ fs) ≡ sixes es ++ sixes fs
+unfolding sixes
+sixes-both [] fs = refl
+sixes-both (e ∷ es) fs = rw (sixes-both es fs)
 
 -- six numbers are one entry's only
 pub six-once : (x y : Entry) → six x ≡ six y → x ≡ y

@@ -15,8 +15,11 @@ placesFrom (suc more) k n = cond (ltb n (10 ^ k)) k (placesFrom more (suc k) n)
 unfoldable pub spelled : ℕ → ℕ → List ℕ
 spelled n after = digits 10 (placesFrom 19 1 n) n ++ (after ∷ [])
 
--- the six numbers from `from` on, a space (32) between and a line feed (10) behind
-unfoldable pub lineOf : List ℕ → ℕ → List ℕ
-lineOf numbers from =
-    spelled (getD numbers from 0) 32 ++ spelled (getD numbers (from + 1) 0) 32 ++ spelled (getD numbers (from + 2) 0) 32
-    ++ spelled (getD numbers (from + 3) 0) 32 ++ spelled (getD numbers (from + 4) 0) 32 ++ spelled (getD numbers (from + 5) 0) 10
+-- the byte behind the i-th number of a line: a space, and a line feed behind the last
+abbrev pub behindOf : ℕ → ℕ
+behindOf i = cond (ltb i 5) 32 10
+
+-- the first k numbers from `from` on; six of them are a line
+unfoldable pub wordsOf : List ℕ → ℕ → ℕ → List ℕ
+wordsOf numbers from zero = []
+wordsOf numbers from (suc k) = wordsOf numbers from k ++ spelled (getD numbers (from + k) 0) (behindOf k)

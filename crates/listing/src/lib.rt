@@ -10,7 +10,7 @@ ghost use Rattle.format.specs.Message.{isKind};
 ghost use Rattle.message.specs.Verdict.{toldVerdict};
 ghost use Rattle.io.specs.Counts.{Counts};
 ghost use Rattle.listing.specs.Listing.{listingOf};
-ghost use Rattle.listing.specs.Text.{spelled, lineOf};
+ghost use Rattle.listing.specs.Text.{spelled, behindOf, wordsOf};
 use fields::Written;
 use format::Fault;
 use format::Refusal;
@@ -138,14 +138,22 @@ fn put_line(line: &mut [u8], numbers: &[u64], from: usize) -> usize
     requires { ⌜ from + 6 ≤ length (now numbers) ⌝ }
     requires { ⌜ 126 ≤ length (now line) ⌝ }
     ensures { λ r. ⌜ Counts r (now (line .exit)) ⌝ }
-    ensures { λ r. ⌜ take r (now (line .exit)) ≡ lineOf (now (numbers .entry)) from ⌝ }
+    ensures { λ r. ⌜ take r (now (line .exit)) ≡ wordsOf (now (numbers .entry)) from 6 ⌝ }
 {
-    let size = put_number(line, 0, numbers[from], b' ');
-    let field = put_number(line, size, numbers[from + 1], b' ');
-    let first = put_number(line, field, numbers[from + 2], b' ');
-    let second = put_number(line, first, numbers[from + 3], b' ');
-    let third = put_number(line, second, numbers[from + 4], b' ');
-    put_number(line, third, numbers[from + 5], b'\n')
+    let mut end = 0;
+    let mut i = 0;
+    while i < NUMBERS {
+        end = put_number(line, end, numbers[from + i], behind(i));
+        i += 1;
+    }
+    end
+}
+
+// The byte behind the i-th number of a line: a space, and a line feed behind the last.
+fn behind(i: usize) -> u8
+    ensures { λ r. ⌜ r ≡ behindOf i ⌝ }
+{
+    if i < 5 { b' ' } else { b'\n' }
 }
 
 // Puts n in decimal at `at`, and the byte `after` behind it. Answers where that ends.

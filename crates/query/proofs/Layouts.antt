@@ -197,7 +197,7 @@ sized-name = record {
 }
 
 -- a type's byte is the type
-one-byte : (n : ℕ) → n < 256 → numBytes 1 n ≡ n ∷ []
+pub one-byte : (n : ℕ) → n < 256 → numBytes 1 n ≡ n ∷ []
 unfolding numBytes
 one-byte n h = ap (λ (x : ℕ). x ∷ []) (omega arith)
 

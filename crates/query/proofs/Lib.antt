@@ -6,3 +6,6 @@ pub mod Walks
 pub mod Names
 pub mod Parts
 pub mod Opened
+pub mod Calls
+pub mod Listed
+pub mod Theorems

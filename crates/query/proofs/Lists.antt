@@ -112,6 +112,33 @@ module _ {A : Type 0} (at-index : ℕ → Index → Index) (g : ℕ → Format A
       let w = front k xs l i (d .good) in
       record { good = w .0; before = d .before; after = w .1 .0 ++ d .after; whole = rw (← append-assoc (each at-index k (map g (take i xs)) .bytes (take i l)), w .1 .1) (d .whole); start = d .start }
 
+module _ {A : Type 0} where
+  short : (i : ℕ) (l : List A) → length (take i l) ≤ i
+  short zero l = omega arith
+  short (suc i) [] = omega arith
+  short (suc i) (a ∷ l) = let h = short i l in omega arith
+
+module _ {A : Type 0} (at-index : ℕ → Index → Index) (f : Format A) where
+  -- the same of one format
+  some-front : (k n i : ℕ) (l : List A) → i ≤ n → each at-index k (replicate n f) .Good l
+      → each at-index k (replicate i f) .Good (take i l) × ((rest : List ℕ) × (each at-index k (replicate i f) .bytes (take i l) ++ rest ≡ each at-index k (replicate n f) .bytes l))
+  unfolding each nothing
+  some-front k n zero l h g = (refl, (_, refl))
+  some-front k zero (suc i) l h g = absurd (omega arith)
+  some-front k (suc n) (suc i) [] h g = absurd g
+  some-front k (suc n) (suc i) (a ∷ l) h g =
+      let w = some-front (k + 1) n i l (omega arith) (g .1) in
+      ((g .0, w .0), (w .1 .0, append-assoc (f .bytes a) _ _ ∙ ap (λ (z : List ℕ). f .bytes a ++ z) (w .1 .1)))
+
+  pub some-lands : Lawful f → {s : List ℕ} {at : ℕ} (n i : ℕ) (l : List A) → i ≤ n → Stands (each at-index 0 (replicate n f)) s at l
+      → shownNext (each at-index 0 (replicate i f) .read s at) ≡ Next.At (at + total f (take i l))
+  some-lands law {s} {at} n i l h d =
+      let w = some-front 0 n i l h (d .good) in
+      let there : Stands (each at-index 0 (replicate i f)) s at (take i l)
+      = record { good = w .0; before = d .before; after = w .1 .0 ++ d .after; whole = rw (← append-assoc (each at-index 0 (replicate i f) .bytes (take i l)), w .1 .1) (d .whole); start = d .start } in
+      let size : length (each at-index 0 (replicate i f) .bytes (take i l)) ≡ total f (take i l) = length-total at-index 0 i f (take i l) (short i l) in
+      ap shownNext (stands-read (lawful-each at-index 0 (replicate i f) (all-replicate i law)) there) ∙ ap (λ (x : ℕ). Next.At (at + x)) size
+
 -- a format whose values have the bytes of a counted body
 pub record Sized {A : Type 0} (f : Format A) : Type 0 where
   pub inner : A → List ℕ

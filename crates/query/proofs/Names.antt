@@ -42,6 +42,9 @@ same-eq [] (y ∷ ys) t = absurd t
 same-eq (x ∷ xs) [] t = absurd t
 same-eq (x ∷ xs) (y ∷ ys) t = ap (λ (a : ℕ). a ∷ xs) (eqb→eq x y (and-l (eqb x y) (same xs ys) t)) ∙ ap (λ (zs : List ℕ). y ∷ zs) (same-eq xs ys (and-r (eqb x y) (same xs ys) t))
 
+pub same-true : (xs ys : List ℕ) → same xs ys ≡ true → xs ≡ ys
+same-true xs ys e = same-eq xs ys (rw e tt)
+
 pub same-no : (xs ys : List ℕ) → (xs ≡ ys → ⊥) → same xs ys ≡ false
 same-no xs ys n = go (same xs ys) (λ t. n (same-eq xs ys t))
   where

@@ -20,8 +20,10 @@ use Rattle.message.specs.Verdict.{toldVerdict, verdictOf}
 use Rattle.message.specs.Inner.{head}
 use Rattle.message.proofs.Heads.{respond, response-is}
 use Rattle.query.specs.Stands.{Stands}
-use Rattle.query.specs.Shown.{pastOf, numberIn}
-use Rattle.query.specs.Answers.{entry, ofTable, layoutOf, columnOf, Here, cellHere, shownHere, shownOf, partOf}
+use Rattle.query.specs.Shown.{pastOf, numberIn, shownOf}
+use Rattle.query.specs.Answers.{entry, ofPart, ofTable, layoutOf, columnOf, Here, cellHere, shownHere, partOf, toldPart}
+use Rattle.query.specs.declared.Part.{Part}
+use Rattle.format.specs.Value.{value}
 use Rattle.query.specs.Places.{tablesOf, tableAt, typeAt, nameAt, rowAt}
 use Rattle.query.specs.declared.TableLayout.{TableLayout}
 use Rattle.query.proofs.Stands.{stands-read, stands-fits, stands-at}
@@ -49,12 +51,12 @@ pub verdict-no : (r : Res Message) {v : Verdict} {x : Refusal} → toldVerdict v
 verdict-no (ok p) e told = absurd (no-ok (sym (ap toldVerdict told) ∙ e))
 verdict-no (no f q) e told = retold (sym e ∙ ap toldVerdict told)
 
-module _ {A : Type 0} (m : List ℕ) where
+module _ {A : Type 0} (kind : ℕ) (m : List ℕ) where
   -- what a refused message and an accepted one are asked
-  pub refused : (k : Message → Res A) {f : Fault} {p : ℕ} → readMessage 4 m ≡ no f p → no f p ≡ bind (readMessage 4 m) k
+  pub refused : (k : Message → Res A) {f : Fault} {p : ℕ} → readMessage kind m ≡ no f p → no f p ≡ bind (readMessage kind m) k
   refused k e = sym (ap (λ (r : Res Message). bind r k) e)
 
-  pub admitted : (k : Message → Res A) {x : Res A} {p : Message} → readMessage 4 m ≡ ok p → x ≡ k p → x ≡ bind (readMessage 4 m) k
+  pub admitted : (k : Message → Res A) {x : Res A} {p : Message} → readMessage kind m ≡ ok p → x ≡ k p → x ≡ bind (readMessage kind m) k
   admitted k e f = f ∙ sym (ap (λ (r : Res Message). bind r k) e)
 
 module _ (m : List ℕ) (b : Bytes m) (p : Message) (accepted : readMessage 4 m ≡ ok p) where
@@ -113,20 +115,6 @@ module _ (m : List ℕ) (b : Bytes m) (t : ℕ) where
       let q = bound (entry (tablesOf (r .0)) t) (r .2) in
       record { message = r .0; accepted = r .1; tab = q .0; there = q .1; stands = table-stands m b (r .0) (r .1) t (q .1); is = sym (ok-same (q .2)) }
 
-module _ {A : Type 0} (m : List ℕ) (t : ℕ) where
-  -- one that was not is refused, whatever is asked of it
-  pub not-opened : (ask : ℕ → Table → Res A) {f : Fault} {p : ℕ} → no f p ≡ ofTable m t (λ at tab. ok (layoutOf at tab)) → no f p ≡ ofTable m t ask
-  not-opened ask e = by-message (readMessage 4 m) e
-    where
-      by-table : (r : Res Table) (at : ℕ) {f : Fault} {p : ℕ} → no f p ≡ bind r (λ tab. ok (layoutOf at tab)) → no f p ≡ bind r (ask at)
-      by-table (ok tab) at e = absurd (no-ok e)
-      by-table (no g q) at e = retold e
-
-      by-message : (r : Res Message) {f : Fault} {p : ℕ} → no f p ≡ bind r (λ z. bind (entry (tablesOf z) t) (λ tab. ok (layoutOf (tableAt z t) tab)))
-          → no f p ≡ bind r (λ z. bind (entry (tablesOf z) t) (λ tab. ask (tableAt z t) tab))
-      by-message (ok z) e = by-table (entry (tablesOf z) t) (tableAt z t) e
-      by-message (no g q) e = retold e
-
 module _ {m : List ℕ} {t : ℕ} {l : TableLayout} (o : Opened m t l) where
   abbrev place : ℕ
   place = tableAt (o .message) t
@@ -181,42 +169,82 @@ module _ {m : List ℕ} {t : ℕ} {l : TableLayout} (o : Opened m t l) where
       let past : entry (o .tab .metadata .types) c ≡ no PastEnd 0 = entry-past (o .tab .metadata .types) c (omega (arith, columns-are)) in
       sym (asked (λ at b. bind (cellHere at b k c) (λ h. ok (shownOf h))) ∙ rw (w .1, past))
 
-module _ {A B : Type 0} (m : List ℕ) (t : ℕ) (ask : ℕ → Table → Res A) where
-  -- a question after another
-  pub then : (k : A → Res B) → ofTable m t (λ at b. bind (ask at b) k) ≡ bind (ofTable m t ask) k
-  then k = by-message (readMessage 4 m)
+-- questions about a part of a message, whichever it is
+module _ {P : Type 0} (kind : ℕ) (parts : Message → List P) (place : Message → ℕ → ℕ) (m : List ℕ) (i : ℕ) where
+  -- a part that was found
+  pub record Found {B : Type 0} (g : ℕ → P → B) (x : B) : Type 0 where
+    pub message : Message
+    pub accepted : readMessage kind m ≡ ok message
+    pub part : P
+    pub there : entry (parts message) i ≡ ok part
+    pub is : x ≡ g (place message i) part
+
+  pub found : {B : Type 0} (g : ℕ → P → B) {x : B} → ok x ≡ ofPart kind parts place m i (λ at b. ok (g at b)) → Found g x
+  found g e =
+      let r = bound (readMessage kind m) (sym e) in
+      let q = bound (entry (parts (r .0)) i) (r .2) in
+      record { message = r .0; accepted = r .1; part = q .0; there = q .1; is = sym (ok-same (q .2)) }
+
+  -- what is asked of it
+  pub found-asked : {A B : Type 0} {g : ℕ → P → B} {x : B} (w : Found g x) (ask : ℕ → P → Res A) → ofPart kind parts place m i ask ≡ ask (place (w .message) i) (w .part)
+  found-asked w ask =
+      ap (λ (r : Res Message). bind r (λ z. bind (entry (parts z) i) (λ b. ask (place z i) b))) (w .accepted)
+      ∙ ap (λ (r : Res P). bind r (λ b. ask (place (w .message) i) b)) (w .there)
+
+  -- one that was not is refused, whatever is asked of it
+  pub not-found : {A B : Type 0} (g : ℕ → P → B) (ask : ℕ → P → Res A) {f : Fault} {p : ℕ} → no f p ≡ ofPart kind parts place m i (λ at b. ok (g at b)) → no f p ≡ ofPart kind parts place m i ask
+  not-found {A} {B} g ask e = by-message (readMessage kind m) e
     where
-      by-table : (r : Res Table) (at : ℕ) → bind r (λ b. bind (ask at b) k) ≡ bind (bind r (ask at)) k
-      by-table (ok b) at = refl
-      by-table (no g q) at = refl
+      by-part : (r : Res P) (at : ℕ) {f : Fault} {p : ℕ} → no f p ≡ bind r (λ b. ok (g at b)) → no f p ≡ bind r (ask at)
+      by-part (ok b) at e = absurd (no-ok e)
+      by-part (no h q) at e = retold e
 
-      by-message : (r : Res Message) → bind r (λ z. bind (entry (tablesOf z) t) (λ b. bind (ask (tableAt z t) b) k)) ≡ bind (bind r (λ z. bind (entry (tablesOf z) t) (λ b. ask (tableAt z t) b))) k
-      by-message (ok z) = by-table (entry (tablesOf z) t) (tableAt z t)
-      by-message (no g q) = refl
+      by-message : (r : Res Message) {f : Fault} {p : ℕ} → no f p ≡ bind r (λ z. bind (entry (parts z) i) (λ b. ok (g (place z i) b)))
+          → no f p ≡ bind r (λ z. bind (entry (parts z) i) (λ b. ask (place z i) b))
+      by-message (ok z) e = by-part (entry (parts z) i) (place z i) e
+      by-message (no h q) e = retold e
 
-module _ {A B C : Type 0} (m : List ℕ) (t : ℕ) (ask : ℕ → Table → Res A) (g : A → B) (k : A → Res C) where
-  -- an answer that was found by one question serves another
-  pub serves-no : {f : Fault} {p : ℕ} → no f p ≡ ofTable m t (λ at b. bind (ask at b) (λ a. ok (g a))) → no f p ≡ ofTable m t (λ at b. bind (ask at b) k)
-  serves-no e = by-answer (ofTable m t ask) (e ∙ then m t ask (λ a. ok (g a))) ∙ sym (then m t ask k)
-    where
-      by-answer : (r : Res A) {f : Fault} {p : ℕ} → no f p ≡ bind r (λ a. ok (g a)) → no f p ≡ bind r k
-      by-answer (ok a) e = absurd (no-ok e)
-      by-answer (no h q) e = retold e
+  -- a question that follows another's answer
+  module _ {A B C : Type 0} (ask : ℕ → P → Res A) (g : A → B) (k : B → Res C) where
+    pub follows : bind (ofPart kind parts place m i (λ at b. bind (ask at b) (λ a. ok (g a)))) k ≡ ofPart kind parts place m i (λ at b. bind (ask at b) (λ a. k (g a)))
+    follows = by-message (readMessage kind m)
+      where
+        by-answer : (r : Res A) → bind (bind r (λ a. ok (g a))) k ≡ bind r (λ a. k (g a))
+        by-answer (ok a) = refl
+        by-answer (no h q) = refl
 
-  pub serves : {b : B} → ok b ≡ ofTable m t (λ at z. bind (ask at z) (λ a. ok (g a))) → (a : A) × (b ≡ g a) × (k a ≡ ofTable m t (λ at z. bind (ask at z) k))
-  serves e =
-      let w = bound (ofTable m t ask) (sym (e ∙ then m t ask (λ a. ok (g a)))) in
-      (w .0, sym (ok-same (w .2)), sym (then m t ask k ∙ ap (λ (r : Res A). bind r k) (w .1)))
+        by-part : (r : Res P) (at : ℕ) → bind (bind r (λ b. bind (ask at b) (λ a. ok (g a)))) k ≡ bind r (λ b. bind (ask at b) (λ a. k (g a)))
+        by-part (ok b) at = by-answer (ask at b)
+        by-part (no h q) at = refl
 
--- the part of a cell lies in the message
-pub part-fits : (m : List ℕ) → Bytes m → (t k c : ℕ) {start size : ℕ} → ok (some (start, size)) ≡ ofTable m t (λ at b. bind (cellHere at b k c) (λ h. partOf (h .type-at) (shownHere h))) → start + size ≤ length m
-part-fits m all t k c e =
-    let r = bound (readMessage 4 m) (sym e) in
-    let q = bound (entry (tablesOf (r .0)) t) (r .2) in
-    let at = tableAt (r .0) t in
-    let h = bound (cellHere at (q .0) k c) (q .2) in
-    let v = bound (entry (q .0 .rows) k) (h .1) in
-    let y = bound (entry (q .0 .metadata .types) c) (v .2) in
-    let w = there m (table-stands m all (r .0) (r .1) t (q .1)) k c (entry-below (q .0 .rows) k (v .1)) (entry-below (q .0 .metadata .types) c (y .1)) in
-    let same : h .0 ≡ w .here = ok-same (sym (h .1) ∙ w .is) in
-    part-stands 50 51 (w .here .type) (w .here .type-at) (w .here .value) (w .stands) (rw same at (h .2)) .0
+        by-message : (r : Res Message) → bind (bind r (λ z. bind (entry (parts z) i) (λ b. bind (ask (place z i) b) (λ a. ok (g a))))) k
+            ≡ bind r (λ z. bind (entry (parts z) i) (λ b. bind (ask (place z i) b) (λ a. k (g a))))
+        by-message (ok z) = by-part (entry (parts z) i) (place z i)
+        by-message (no h q) = refl
+
+-- a value that was found, where it is said to stand
+pub record Shows (m : List ℕ) (h : Here) : Type 0 where
+  pub length-field : ℕ
+  pub body-field : ℕ
+  pub stands : Stands (value length-field body-field (h .type)) m (h .at) (h .value)
+
+-- a part of it lies in the message
+module _ {P : Type 0} (kind : ℕ) (parts : Message → List P) (place : Message → ℕ → ℕ) (m : List ℕ) (i : ℕ) (ask : ℕ → P → Res Here) where
+  pub part-fits : ((p : Message) → readMessage kind m ≡ ok p → (b : P) → entry (parts p) i ≡ ok b → (h : Here) → ask (place p i) b ≡ ok h → Shows m h)
+      → {span : Part} → toldPart span ≡ ofPart kind parts place m i (λ at b. bind (ask at b) (λ h. partOf (h .type-at) (shownHere h)))
+      → (start size : ℕ) → span ≡ Part.Is start size → start + size ≤ length m
+  part-fits shows e start size told =
+      let r = bound (readMessage kind m) (sym (sym (ap toldPart told) ∙ e)) in
+      let q = bound (entry (parts (r .0)) i) (r .2) in
+      let h = bound (ask (place (r .0) i) (q .0)) (q .2) in
+      let w = shows (r .0) (r .1) (q .0) (q .1) (h .0) (h .1) in
+      part-stands (w .length-field) (w .body-field) (h .0 .type) (h .0 .type-at) (h .0 .value) (w .stands) (h .2) .0
+
+-- a cell that was found stands there
+pub cell-stands : (m : List ℕ) → Bytes m → (t k c : ℕ) (p : Message) → readMessage 4 m ≡ ok p → (b : Table) → entry (tablesOf p) t ≡ ok b → (h : Here) → cellHere (tableAt p t) b k c ≡ ok h → Shows m h
+cell-stands m all t k c p e b there-is h f =
+    let v = bound (entry (b .rows) k) f in
+    let y = bound (entry (b .metadata .types) c) (v .2) in
+    let w = there m (table-stands m all p e t there-is) k c (entry-below (b .rows) k (v .1)) (entry-below (b .metadata .types) c (y .1)) in
+    let same : w .here ≡ h = ok-same (sym (w .is) ∙ f) in
+    rw (← same) (record { length-field = 50; body-field = 51; stands = w .stands })

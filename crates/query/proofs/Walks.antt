@@ -22,9 +22,9 @@ use Rattle.format.proofs.Results.{ok-same}
 use Rattle.show.specs.declared.Cell.{Cell}
 use Rattle.show.specs.declared.Shown.{Shown}
 use Rattle.show.specs.Cells.{cellOf, shownAs}
-use Rattle.query.specs.Shown.{pastOf, numberIn, byteIn, cellIn}
+use Rattle.query.specs.Shown.{pastOf, numberIn, byteIn, cellIn, spotOf, shownOf}
 use Rattle.query.specs.Stands.{Stands}
-use Rattle.query.specs.Answers.{layoutOf, Here, cellHere, shownHere, spotOf, shownOf, columnOf, nameBytes, entry}
+use Rattle.query.specs.Answers.{layoutOf, Here, cellHere, shownHere, columnOf, nameBytes, entry}
 use Rattle.query.specs.Places.{typeAt, nameAt, rowAt, cellAt}
 use Rattle.query.specs.declared.TableLayout.{TableLayout}
 use Rattle.query.specs.declared.Spot.{Spot}

@@ -1,28 +1,27 @@
--- What each question about a message is answered with: the message's own refusal, then the question's.
+-- What each question about a message is answered with: the message's own refusal, then the question's. `ask..` are the questions and `told..` what
+-- the code's answers say: the paper's fault and place (Result.antt has its number), or the values.
 use Prim.Native.Nat.{ℕ, zero, suc, _+_}
 use mathlib.Core.Bool.{Bool, true, false, _&&_}
-use mathlib.Core.List.{List, [], _∷_}
+use mathlib.Core.List.{List, [], _∷_, map}
 use mathlib.Core.Option.{Option, some, none}
+use lib.ListN.{length, take, drop}
 use lib.Dec.{eqb}
 use Rattle.format.specs.declared.Fault.the-variants.{WireType, PastEnd, NoColumn}
-use lib.ListN.{length, take, drop}
 use Rattle.format.specs.Result.{Res, ok, no, bind, pick}
-use Rattle.format.specs.Message.{Table, table, readMessage}
-use Rattle.query.specs.declared.TableLayout.{TableLayout}
-use Rattle.query.specs.declared.Position.{Position}
-use Rattle.query.specs.declared.Part.{Part}
-use Rattle.query.specs.declared.Count.{Count}
-use Rattle.query.specs.declared.TableAnswer.{TableAnswer}
-use Rattle.query.specs.declared.ColumnAnswer.{ColumnAnswer}
-use Rattle.query.specs.declared.CellAnswer.{CellAnswer}
-use Rattle.query.specs.declared.FoundCell.{FoundCell}
-use Rattle.query.specs.declared.Spot.{Spot}
-use Rattle.query.specs.declared.ShownCell.{ShownCell}
-use Rattle.query.specs.declared.ColumnLayout.{ColumnLayout}
-use Rattle.format.specs.Value.{Value}
+use Rattle.format.specs.Value.{Value, fixed}
+use Rattle.format.specs.Message.{Table, table, Items, bytes, values, Argument, null, one, array, Param, Message, readMessage}
 use Rattle.show.specs.declared.Cell.{Cell}
 use Rattle.show.specs.Cells.{cellOf}
-use Rattle.query.specs.Places.{tablesOf, tableAt, typeAt, nameAt, rowAt, cellAt}
+use Rattle.query.specs.declared.Count.{Count}
+use Rattle.query.specs.declared.TableLayout.{TableLayout}
+use Rattle.query.specs.declared.TableAnswer.{TableAnswer}
+use Rattle.query.specs.declared.ColumnLayout.{ColumnLayout}
+use Rattle.query.specs.declared.ColumnAnswer.{ColumnAnswer}
+use Rattle.query.specs.declared.Position.{Position}
+use Rattle.query.specs.declared.CellAnswer.{CellAnswer}
+use Rattle.query.specs.declared.Part.{Part}
+use Rattle.query.specs.declared.Argued.{Argued}
+use Rattle.query.specs.Places.{tablesOf, tableAt, typeAt, nameAt, rowAt, cellAt, paramsOf, paramAt, argumentAt, elementAt}
 
 module _ {A : Type 0} where
   -- the i-th of a list
@@ -31,11 +30,20 @@ module _ {A : Type 0} where
   entry (a ∷ l) zero = ok a
   entry (a ∷ l) (suc i) = entry l i
 
-module _ {A : Type 0} where
-  -- what is asked of table t of a response, by its place and what it holds
-  abbrev pub ofTable : List ℕ → ℕ → (ℕ → Table → Res A) → Res A
-  ofTable m t ask = bind (readMessage 4 m) (λ r. bind (entry (tablesOf r) t) (λ b. ask (tableAt r t) b))
+module _ {A B : Type 0} where
+  -- what is asked of the i-th of a message's parts, by its place and what it is
+  abbrev pub ofPart : ℕ → (Message → List B) → (Message → ℕ → ℕ) → List ℕ → ℕ → (ℕ → B → Res A) → Res A
+  ofPart kind parts place m i ask = bind (readMessage kind m) (λ r. bind (entry (parts r) i) (λ b. ask (place r i) b))
 
+module _ {A : Type 0} where
+  -- of table t of a response, and of parameter p of an invocation
+  abbrev pub ofTable : List ℕ → ℕ → (ℕ → Table → Res A) → Res A
+  ofTable = ofPart 4 tablesOf tableAt
+
+  abbrev pub ofParam : List ℕ → ℕ → (ℕ → Param → Res A) → Res A
+  ofParam = ofPart 3 paramsOf paramAt
+
+-- ---- what stands there
 -- a table at a place: what it says of itself, and where its parts stand
 abbrev pub layoutOf : ℕ → Table → TableLayout
 layoutOf at b = record {
@@ -64,11 +72,6 @@ isNamed name (some bs) = same bs name
 unfoldable pub firstNamed : List ℕ → List (Option (List ℕ)) → ℕ → Res ℕ
 firstNamed name [] i = no NoColumn 0
 firstNamed name (n ∷ ns) i = pick (isNamed name n) (ok i) (firstNamed name ns (i + 1))
-
--- a column's position, or a refusal
-abbrev pub toldPosition : Position → Res ℕ
-toldPosition (Position.At i) = ok i
-toldPosition (Position.No r) = no (r .fault) (r .place)
 
 -- a column at its position: its type and that one's place, and where its name's bytes start and how many they are
 abbrev pub nameBytes : Option (List ℕ) → List ℕ
@@ -112,42 +115,101 @@ partOf type-at (Cell.FloatBits bits) = no WireType type-at
 partOf type-at (Cell.Decimal upper lower) = no WireType type-at
 partOf type-at (Cell.Point longitude latitude) = no WireType type-at
 
--- what the code keeps of a cell on its way
-abbrev pub spotOf : Here → Spot
-spotOf h = record { «wire_type» = h .type; «type_at» = h .type-at; at = h .at }
-
-abbrev pub shownOf : Here → ShownCell
-shownOf h = record { cell = shownHere h; «type_at» = h .type-at }
-
--- a part of the message, null, or a refusal
-abbrev pub toldPart : Part → Res (Option (ℕ × ℕ))
-toldPart (Part.Is start size) = ok (some (start, size))
-toldPart Part.Null = ok none
-toldPart (Part.No r) = no (r .fault) (r .place)
-
 -- the bytes of that part; none for a null or a refusal
 abbrev pub partIn : List ℕ → Res (Option (ℕ × ℕ)) → List ℕ
 partIn m (ok (some p)) = take (p .1) (drop (p .0) m)
 partIn m (ok none) = []
 partIn m (no f p) = []
 
--- the other answers: what was asked for, or a refusal
+-- a parameter: null, a value, or an array, by its elements' type and how many they are
+pub data Given : Type 0 where
+  nothing : Given
+  value : Cell → Given
+  list : ℕ → ℕ → Given
+
+-- the elements of an array, bytes as tinyints
+abbrev pub valuesIn : Items → List Value
+valuesIn (bytes none) = []
+valuesIn (bytes (some bs)) = map fixed bs
+valuesIn (values l) = l
+
+-- a parameter of a type, at a place
+abbrev pub givenOf : ℕ → ℕ → Argument → Given
+givenOf at t null = Given.nothing
+givenOf at t (one v) = Given.value (cellOf t (argumentAt at) v)
+givenOf at t (array e l) = Given.list e (length (valuesIn l))
+
+-- the value of a parameter that is one; any other is refused at its type
+abbrev pub valueHere : ℕ → ℕ → Argument → Res Here
+valueHere at t (one v) = ok (record { type = t; type-at = at; at = argumentAt at; value = v })
+valueHere at t null = no WireType at
+valueHere at t (array e l) = no WireType at
+
+-- element e of an array; the parameter of any other type is refused at that
+abbrev pub elementOf : ℕ → Argument → ℕ → Res Here
+elementOf at null e = no WireType at
+elementOf at (one v) e = no WireType at
+elementOf at (array t l) e = bind (entry (valuesIn l) e) (λ v. ok (record { type = t; type-at = argumentAt at; at = elementAt at t l e; value = v }))
+
+-- ---- the questions
+abbrev pub askTables : List ℕ → Res ℕ
+askTables m = bind (readMessage 4 m) (λ p. ok (length (tablesOf p)))
+
+abbrev pub askTable : List ℕ → ℕ → Res TableLayout
+askTable m t = ofTable m t (λ at b. ok (layoutOf at b))
+
+abbrev pub askColumn : List ℕ → ℕ → ℕ → Res ColumnLayout
+askColumn m t c = ofTable m t (λ at b. columnOf at b c)
+
+abbrev pub askPosition : List ℕ → ℕ → List ℕ → Res ℕ
+askPosition m t name = ofTable m t (λ at b. firstNamed name (b .metadata .names) 0)
+
+abbrev pub askCell : List ℕ → ℕ → ℕ → ℕ → Res Cell
+askCell m t k c = ofTable m t (λ at b. bind (cellHere at b k c) (λ h. ok (shownHere h)))
+
+abbrev pub askCellSpan : List ℕ → ℕ → ℕ → ℕ → Res (Option (ℕ × ℕ))
+askCellSpan m t k c = ofTable m t (λ at b. bind (cellHere at b k c) (λ h. partOf (h .type-at) (shownHere h)))
+
+abbrev pub askParameter : List ℕ → ℕ → Res Given
+askParameter m p = ofParam m p (λ at q. ok (givenOf at (q .type) (q .argument)))
+
+abbrev pub askParameterSpan : List ℕ → ℕ → Res (Option (ℕ × ℕ))
+askParameterSpan m p = ofParam m p (λ at q. bind (valueHere at (q .type) (q .argument)) (λ h. partOf (h .type-at) (shownHere h)))
+
+abbrev pub askElement : List ℕ → ℕ → ℕ → Res Cell
+askElement m p e = ofParam m p (λ at q. bind (elementOf at (q .argument) e) (λ h. ok (shownHere h)))
+
+abbrev pub askElementSpan : List ℕ → ℕ → ℕ → Res (Option (ℕ × ℕ))
+askElementSpan m p e = ofParam m p (λ at q. bind (elementOf at (q .argument) e) (λ h. partOf (h .type-at) (shownHere h)))
+
+-- ---- the answers
 abbrev pub toldCount : Count → Res ℕ
-toldCount (Count.Is n) = ok n
+toldCount (Count.Is a) = ok a
 toldCount (Count.No r) = no (r .fault) (r .place)
 
 abbrev pub toldTable : TableAnswer → Res TableLayout
-toldTable (TableAnswer.Is l) = ok l
+toldTable (TableAnswer.Is a) = ok a
 toldTable (TableAnswer.No r) = no (r .fault) (r .place)
 
 abbrev pub toldColumn : ColumnAnswer → Res ColumnLayout
-toldColumn (ColumnAnswer.Is l) = ok l
+toldColumn (ColumnAnswer.Is a) = ok a
 toldColumn (ColumnAnswer.No r) = no (r .fault) (r .place)
 
+abbrev pub toldPosition : Position → Res ℕ
+toldPosition (Position.At i) = ok i
+toldPosition (Position.No r) = no (r .fault) (r .place)
+
 abbrev pub toldCell : CellAnswer → Res Cell
-toldCell (CellAnswer.Is c) = ok c
+toldCell (CellAnswer.Is a) = ok a
 toldCell (CellAnswer.No r) = no (r .fault) (r .place)
 
-abbrev pub toldFound : FoundCell → Res ShownCell
-toldFound (FoundCell.Is c) = ok c
-toldFound (FoundCell.No r) = no (r .fault) (r .place)
+abbrev pub toldPart : Part → Res (Option (ℕ × ℕ))
+toldPart (Part.Is start size) = ok (some (start, size))
+toldPart Part.Null = ok none
+toldPart (Part.No r) = no (r .fault) (r .place)
+
+abbrev pub toldArgument : Argued → Res Given
+toldArgument Argued.Null = ok Given.nothing
+toldArgument (Argued.One c) = ok (Given.value c)
+toldArgument (Argued.Array t n) = ok (Given.list t n)
+toldArgument (Argued.No r) = no (r .fault) (r .place)

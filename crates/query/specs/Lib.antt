@@ -1,4 +1,4 @@
 pub mod Places
-pub mod Shown
 pub mod Answers
 pub mod Stands
+pub mod Shown

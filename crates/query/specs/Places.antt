@@ -1,10 +1,11 @@
--- Where things stand in a response. Each stands where the message would end if it were cut there: after the encoding of what comes before it.
+-- Where things stand in a response and in an invocation. Each stands where the message would end if it were cut there: after the encoding of what comes before it.
 -- Lengths and counts have the same size whatever they say, so nothing else decides a place, and no layout is restated here.
 use Prim.Native.Nat.{ℕ, _+_}
 use mathlib.Core.List.{List, []}
+use mathlib.Core.Option.{some, none}
 use lib.ListN.{length, take}
-use Rattle.format.specs.Value.{Value}
-use Rattle.format.specs.Message.{Metadata, metadata, row, Table, table, Response, Message, response-of, aResponse, messageBytes}
+use Rattle.format.specs.Value.{Value, tArray}
+use Rattle.format.specs.Message.{Metadata, metadata, row, Table, table, Response, Message, response-of, aResponse, Items, bytes, values, Argument, null, one, array, Param, param, Invocation, anInvocation, invocation-of, messageBytes}
 
 -- the tables of a response, and the same response with other tables
 abbrev pub tablesOf : Message → List Table
@@ -46,3 +47,26 @@ rowAt at b k = at + length (table .bytes (record { metadata = b .metadata; rows 
 -- cell c of a row at a place: after the row's length and the cells before it
 unfoldable pub cellAt : ℕ → List ℕ → List Value → ℕ → ℕ
 cellAt at types cells c = at + length (row types .bytes (take c cells))
+
+-- the parameters of an invocation; parameter p: after the parameters before it
+abbrev pub paramsOf : Message → List Param
+paramsOf r = invocation-of (r .content) .params
+
+abbrev pub reparamed : Invocation → List Param → Invocation
+reparamed v l = record { procedure = v .procedure; client = v .client; params = l }
+
+unfoldable pub paramAt : Message → ℕ → ℕ
+paramAt r p = length (messageBytes 3 (record { version = r .version; content = anInvocation (reparamed (invocation-of (r .content)) (take p (paramsOf r))) }))
+
+-- what stands after a parameter's type
+abbrev pub argumentAt : ℕ → ℕ
+argumentAt at = at + 1
+
+-- an array's first e elements, and element e of one in a parameter at a place: after the elements before it
+abbrev pub cutItems : Items → ℕ → Items
+cutItems (bytes none) e = bytes none
+cutItems (bytes (some bs)) e = bytes (some (take e bs))
+cutItems (values l) e = values (take e l)
+
+unfoldable pub elementAt : ℕ → ℕ → Items → ℕ → ℕ
+elementAt at t l e = at + length (param .bytes (record { type = tArray; argument = array t (cutItems l e) }))

@@ -1,4 +1,6 @@
-// Questions about an accepted message.
+// Questions about a message: how many tables it has, what a table, a column, a cell, a parameter or an array's element is, and where it stands.
+// Each call accepts the message once and then jumps by lengths: nothing that it passes is read again. A refusal is the message's own, then the
+// question's: past the end (11), another type (6), no such column (9).
 use format::Fault;
 use format::Refusal;
 use message::Verdict;
@@ -9,25 +11,94 @@ use scan::Number;
 use show::Shown;
 ghost use mathlib.Core.Path.{_≡_};
 ghost use mathlib.Core.Bool.{false};
-ghost use lib.ListN.{length, replicate, take, drop};
-ghost use Rattle.format.specs.Format.{each, counted};
-ghost use Rattle.format.specs.Value.{anything};
-ghost use Rattle.format.specs.Message.{first, unlimited};
-ghost use Rattle.scan.specs.Shown.{shownNext, bodyEnd};
-ghost use Prim.Native.Nat.{ℕ, _+_, _<_, _≤_, min};
-ghost use Rattle.format.specs.Format.{number};
-ghost use Rattle.format.specs.Message.{Table, table};
-ghost use Rattle.scan.specs.Shown.{shownNumber, shownByte};
-ghost use Rattle.query.specs.Shown.{pastOf, numberIn, byteIn, cellIn};
-ghost use Rattle.query.specs.Stands.{Stands};
 ghost use mathlib.Core.List.{List, map};
 ghost use mathlib.Core.Option.{Option};
-ghost use Rattle.format.specs.Value.{string, ascii, value};
-ghost use Rattle.format.specs.Result.{ok, bind};
-ghost use Rattle.query.specs.Places.{tablesOf, tableAt, typeAt, nameAt, rowAt};
-ghost use Rattle.format.specs.Message.{third, Message, readMessage};
+ghost use Prim.Native.Nat.{ℕ, _+_, _<_, _≤_, min};
+ghost use lib.ListN.{length, replicate, take, drop};
+ghost use lib.Dec.{eqb};
+ghost use Rattle.format.specs.declared.Fault.the-variants.{WireType};
+ghost use Rattle.format.specs.Result.{ok, bind, pick};
+ghost use Rattle.format.specs.Format.{number, each, counted};
+ghost use Rattle.format.specs.Value.{string, anything, ascii, value, tTinyint};
+ghost use Rattle.format.specs.Message.{first, third, unlimited, Message, readMessage, Table, table, Param, param};
+ghost use Rattle.scan.specs.Shown.{shownNext, shownNumber, shownByte, bodyEnd, refusal};
+ghost use Rattle.show.specs.Cells.{cellOf, shownAs};
 ghost use Rattle.message.specs.Inner.{head};
-ghost use Rattle.query.specs.Answers.{layoutOf, firstNamed, toldPosition, cellHere, spotOf, shownOf, columnOf, partOf, toldPart, partIn, toldCount, toldTable, toldColumn, toldCell, toldFound, ofTable, entry, shownHere};
+ghost use Rattle.query.specs.Stands.{Stands};
+ghost use Rattle.query.specs.Places.{tablesOf, tableAt, typeAt, nameAt, rowAt, paramsOf, paramAt};
+ghost use Rattle.query.specs.Shown.{pastOf, numberIn, byteIn, cellIn, spotOf, shownOf, toldFound};
+ghost use Rattle.query.specs.Answers.{entry, ofTable, ofParam, layoutOf, columnOf, firstNamed, cellHere, partOf, partIn, givenOf, valueHere, elementOf, askTables, askTable, askColumn, askPosition, askCell, askCellSpan, askParameter, askParameterSpan, askElement, askElementSpan, toldCount, toldTable, toldColumn, toldPosition, toldCell, toldPart, toldArgument};
+
+// ---- What the questions are answered with.
+
+// How many there are.
+pub enum Count {
+    Is(usize),
+    No(Refusal),
+}
+
+// What a table says of itself: its status, how many columns and rows it has, and where it and its parts stand.
+pub struct TableLayout {
+    pub status: u8,
+    pub columns: usize,
+    pub rows: usize,
+    // its length field, and the place after its last byte
+    pub at: usize,
+    pub end: usize,
+    // its first column's type, its first column's name (the length field), its first row (the length field)
+    pub types: usize,
+    pub names: usize,
+    pub first_row: usize,
+}
+
+// A table's layout.
+pub enum TableAnswer {
+    Is(TableLayout),
+    No(Refusal),
+}
+
+// What a column says of itself: its type and where that stands, where its name starts and how long it is.
+pub struct ColumnLayout {
+    pub wire_type: u8,
+    pub type_at: usize,
+    pub name: usize,
+    pub name_length: usize,
+}
+
+// A column's layout.
+pub enum ColumnAnswer {
+    Is(ColumnLayout),
+    No(Refusal),
+}
+
+// The position of a column.
+pub enum Position {
+    At(usize),
+    No(Refusal),
+}
+
+// A cell, shown by its column's type.
+pub enum CellAnswer {
+    Is(show::Cell),
+    No(Refusal),
+}
+
+// A part of the message: where it starts and how long it is; or null.
+pub enum Part {
+    Is(usize, usize),
+    Null,
+    No(Refusal),
+}
+
+// A parameter: null, a value, or an array by its elements' type and their number.
+pub enum Argued {
+    Null,
+    One(show::Cell),
+    Array(u8, usize),
+    No(Refusal),
+}
+
+// ---- Steps over an accepted message. None of their readings can fail there, and what stands for a refusal is never used.
 
 // Where a reading ended that can't fail.
 fn past(a: Next) -> usize
@@ -47,6 +118,51 @@ fn number_in(a: Number) -> usize
         Number::Is(n, _) => n as usize,
         Number::No(_) => 0,
     }
+}
+
+fn byte_in(a: Byte) -> u8
+    ensures { λ r. ⌜ r ≡ byteIn a ⌝ }
+{
+    match a {
+        Byte::Is(b, _) => b,
+        Byte::No(_) => 0,
+    }
+}
+
+fn cell_in(a: Shown) -> show::Cell
+    ensures { λ r. ⌜ r ≡ cellIn a ⌝ }
+{
+    match a {
+        Shown::Is(cell, _) => cell,
+        Shown::No(_) => show::Cell::NullText,
+    }
+}
+
+// Past n bytes that are there.
+fn after(m: &[u8], at: usize, n: usize) -> usize
+    ensures { λ r. ⌜ r ≡ pastOf (shownNext (number n 0 .read (now (m .entry)) at)) ⌝ }
+{
+    past(scan::skip_fixed(m, at, n))
+}
+
+// The count of k bytes that is there.
+fn count_at(m: &[u8], at: usize, k: usize) -> usize
+    ensures { λ r. ⌜ r ≡ numberIn (shownNumber (number (min k 8) 0 .read (now (m .entry)) at)) ⌝ }
+{
+    number_in(scan::read_number(m, at, k))
+}
+
+// The byte that is there.
+fn byte_at(m: &[u8], at: usize) -> u8
+    ensures { λ r. ⌜ r ≡ byteIn (shownByte (number 1 0 .read (now (m .entry)) at)) ⌝ }
+{
+    byte_in(scan::read_byte(m, at))
+}
+
+fn value_at(m: &[u8], at: usize, t: u8) -> show::Cell
+    ensures { λ r. ⌜ r ≡ cellIn (shownAs (cellOf t at) (value 0 0 t .read (now (m .entry)) at)) ⌝ }
+{
+    cell_in(show::read_value(m, at, t))
 }
 
 fn body_end(b: Body) -> Next
@@ -83,22 +199,6 @@ fn jump(s: &[u8], from: usize, n: usize) -> Next
     Next::At(at)
 }
 
-fn byte_in(a: Byte) -> u8
-    ensures { λ r. ⌜ r ≡ byteIn a ⌝ }
-{
-    match a {
-        Byte::Is(b, _) => b,
-        Byte::No(_) => 0,
-    }
-}
-
-// Past n bytes that are there.
-fn after(m: &[u8], at: usize, n: usize) -> usize
-    ensures { λ r. ⌜ r ≡ pastOf (shownNext (number n 0 .read (now (m .entry)) at)) ⌝ }
-{
-    past(scan::skip_fixed(m, at, n))
-}
-
 // Past n things that begin with their length and are there.
 fn over(m: &[u8], at: usize, n: usize) -> usize
     ensures { λ r. ⌜ r ≡ pastOf (shownNext (each first 0 (replicate n (counted false unlimited anything 0 0)) .read (now (m .entry)) at)) ⌝ }
@@ -106,32 +206,38 @@ fn over(m: &[u8], at: usize, n: usize) -> usize
     past(jump(m, at, n))
 }
 
-// The count of k bytes that is there.
-fn count_at(m: &[u8], at: usize, k: usize) -> usize
-    ensures { λ r. ⌜ r ≡ numberIn (shownNumber (number (min k 8) 0 .read (now (m .entry)) at)) ⌝ }
+const PAST_END: Refusal = Refusal {
+    fault: Fault::PastEnd,
+    place: 0,
+};
+
+fn wrong_type(place: usize) -> Refusal
+    ensures { λ r. ⌜ r ≡ refusal WireType place ⌝ }
 {
-    number_in(scan::read_number(m, at, k))
+    Refusal {
+        fault: Fault::WireType,
+        place,
+    }
 }
 
-// The byte that is there.
-fn byte_at(m: &[u8], at: usize) -> u8
-    ensures { λ r. ⌜ r ≡ byteIn (shownByte (number 1 0 .read (now (m .entry)) at)) ⌝ }
+// ---- Tables.
+
+// Where the count of a response's tables stands.
+fn tables_counted(m: &[u8]) -> usize
+    ensures { λ r. ⌜ r ≡ pastOf (shownNext (head .read (now (m .entry)) 5)) ⌝ }
 {
-    byte_in(scan::read_byte(m, at))
+    past(message::skip_head(m, 5))
 }
 
-// What a table says of itself: its status, how many columns and rows it has, and where it and its parts stand.
-pub struct TableLayout {
-    pub status: u8,
-    pub columns: usize,
-    pub rows: usize,
-    // its length field, and the place after its last byte
-    pub at: usize,
-    pub end: usize,
-    // its first column's type, its first column's name (the length field), its first row (the length field)
-    pub types: usize,
-    pub names: usize,
-    pub first_row: usize,
+// How many tables a response has.
+pub fn tables(m: &[u8]) -> Count
+    ensures { λ r. ⌜ toldCount r ≡ askTables (now (m .entry)) ⌝ }
+{
+    let verdict = message::accept(4, m);
+    match verdict {
+        Verdict::No(r) => Count::No(r),
+        Verdict::Fine => Count::Is(count_at(m, tables_counted(m), 2)),
+    }
 }
 
 // The table at a place.
@@ -161,10 +267,64 @@ fn layout_at(m: &[u8], at: usize) -> TableLayout
     }
 }
 
-// The position of a column.
-pub enum Position {
-    At(usize),
-    No(Refusal),
+// Table t of an accepted response.
+fn table_in(m: &[u8], t: usize) -> TableAnswer
+    ensures { λ r. ⌜ ((p : Message) → readMessage 4 (now (m .entry)) ≡ ok p → toldTable r ≡ bind (entry (tablesOf p) t) (λ b. ok (layoutOf (tableAt p t) b))) ⌝ }
+{
+    let counted = tables_counted(m);
+    if count_at(m, counted, 2) <= t {
+        return TableAnswer::No(PAST_END);
+    }
+    let first = after(m, counted, 2);
+    TableAnswer::Is(layout_at(m, over(m, first, t)))
+}
+
+// What table t of a response says of itself, and where it and its parts stand.
+pub fn table(m: &[u8], t: usize) -> TableAnswer
+    ensures { λ r. ⌜ toldTable r ≡ askTable (now (m .entry)) t ⌝ }
+{
+    let verdict = message::accept(4, m);
+    match verdict {
+        Verdict::No(r) => TableAnswer::No(r),
+        Verdict::Fine => table_in(m, t),
+    }
+}
+
+// ---- Columns.
+
+// The column at a position, by where types and names begin.
+fn column_at(m: &[u8], types: usize, names: usize, c: usize) -> ColumnLayout
+    ensures { λ r. ⌜ ((at : ℕ) (b : Table) → Stands table (now (m .entry)) at b → types ≡ typeAt at (b .metadata) 0 → names ≡ nameAt at (b .metadata) 0
+        → c < length (b .metadata .types) → ok r ≡ columnOf at b c) ⌝ }
+{
+    let type_at = after(m, types, c);
+    let wire_type = byte_at(m, type_at);
+    let named = over(m, names, c);
+    let name_length = count_at(m, named, 4);
+    let name = after(m, named, 4);
+    ColumnLayout {
+        wire_type,
+        type_at,
+        name,
+        name_length,
+    }
+}
+
+// What column c of table t says of itself.
+pub fn column(m: &[u8], t: usize, c: usize) -> ColumnAnswer
+    ensures { λ r. ⌜ toldColumn r ≡ askColumn (now (m .entry)) t c ⌝ }
+{
+    let answer = table(m, t);
+    match answer {
+        TableAnswer::No(r) => ColumnAnswer::No(r),
+        TableAnswer::Is(layout) => {
+            if layout.columns <= c {
+                ColumnAnswer::No(PAST_END)
+            } else {
+                ColumnAnswer::Is(column_at(m, layout.types, layout.names, c))
+            }
+        }
+    }
 }
 
 // The first of some names, from a place on, that is equal to a name.
@@ -210,6 +370,26 @@ fn search(m: &[u8], from: usize, count: usize, name: &[u8]) -> Position
     }
 }
 
+// The position of the first column of table t whose name is equal, bytes compared exactly.
+pub fn find_column(m: &[u8], t: usize, name: &[u8]) -> Position
+    ensures { λ r. ⌜ toldPosition r ≡ askPosition (now (m .entry)) t (now (name .entry)) ⌝ }
+{
+    let answer = table(m, t);
+    match answer {
+        TableAnswer::No(r) => Position::No(r),
+        TableAnswer::Is(layout) => search(m, layout.names, layout.columns, name),
+    }
+}
+
+// ---- Cells. A cell that was found is kept with the place of its column's type, where a wrong question is refused.
+
+// The type of a cell, where that type stands, and where the cell does.
+struct Spot {
+    wire_type: u8,
+    type_at: usize,
+    at: usize,
+}
+
 // Past the first c cells of a row, by the types that stand at a place.
 fn skip_front(m: &[u8], from: usize, types: usize, c: usize) -> Next
     requires { ⌜ types + c ≤ length (now m) ⌝ }
@@ -217,13 +397,6 @@ fn skip_front(m: &[u8], from: usize, types: usize, c: usize) -> Next
 {
     let end = types + c;
     scan::skip_cells(m, from, &m[types..end])
-}
-
-// The type of a cell, where that type stands, and where the cell does.
-struct Spot {
-    wire_type: u8,
-    type_at: usize,
-    at: usize,
 }
 
 // The cell at row k and column c of a table, by where its types and rows begin.
@@ -244,15 +417,6 @@ fn spot_at(m: &[u8], types: usize, rows: usize, k: usize, c: usize) -> Spot
     }
 }
 
-fn cell_in(a: Shown) -> show::Cell
-    ensures { λ r. ⌜ r ≡ cellIn a ⌝ }
-{
-    match a {
-        Shown::Is(cell, _) => cell,
-        Shown::No(_) => show::Cell::NullText,
-    }
-}
-
 // A cell, and where its column's type stands.
 struct ShownCell {
     cell: show::Cell,
@@ -270,149 +434,6 @@ fn shown_at(m: &[u8], types: usize, rows: usize, k: usize, c: usize) -> ShownCel
     ShownCell {
         cell,
         type_at: spot.type_at,
-    }
-}
-
-// What a column says of itself: its type and where that stands, where its name starts and how long it is.
-pub struct ColumnLayout {
-    pub wire_type: u8,
-    pub type_at: usize,
-    pub name: usize,
-    pub name_length: usize,
-}
-
-// The column at a position, by where types and names begin.
-fn column_at(m: &[u8], types: usize, names: usize, c: usize) -> ColumnLayout
-    ensures { λ r. ⌜ ((at : ℕ) (b : Table) → Stands table (now (m .entry)) at b → types ≡ typeAt at (b .metadata) 0 → names ≡ nameAt at (b .metadata) 0
-        → c < length (b .metadata .types) → ok r ≡ columnOf at b c) ⌝ }
-{
-    let type_at = after(m, types, c);
-    let wire_type = byte_at(m, type_at);
-    let named = over(m, names, c);
-    let name_length = count_at(m, named, 4);
-    let name = after(m, named, 4);
-    ColumnLayout {
-        wire_type,
-        type_at,
-        name,
-        name_length,
-    }
-}
-
-// A part of the message: where it starts and how long it is; or null.
-pub enum Part {
-    Is(usize, usize),
-    Null,
-    No(Refusal),
-}
-
-// The part of the message that a cell is, if it is text, bytes or a geography.
-fn part_of(cell: show::Cell, place: usize) -> Part
-    ensures { λ r. ⌜ toldPart r ≡ partOf place cell ⌝ }
-{
-    match cell {
-        show::Cell::Text(start, size) => Part::Is(start, size),
-        show::Cell::Binary(start, size) => Part::Is(start, size),
-        show::Cell::Geography(start, size) => Part::Is(start, size),
-        show::Cell::NullText => Part::Null,
-        show::Cell::NullBinary => Part::Null,
-        show::Cell::NullGeography => Part::Null,
-        _ => Part::No(Refusal {
-            fault: Fault::WireType,
-            place,
-        }),
-    }
-}
-
-const PAST_END: Refusal = Refusal {
-    fault: Fault::PastEnd,
-    place: 0,
-};
-
-// Where the count of a response's tables stands.
-fn tables_counted(m: &[u8]) -> usize
-    ensures { λ r. ⌜ r ≡ pastOf (shownNext (head .read (now (m .entry)) 5)) ⌝ }
-{
-    past(message::skip_head(m, 5))
-}
-
-// How many there are.
-pub enum Count {
-    Is(usize),
-    No(Refusal),
-}
-
-// How many tables a response has.
-pub fn tables(m: &[u8]) -> Count
-    ensures { λ r. ⌜ toldCount r ≡ bind (readMessage 4 (now (m .entry))) (λ p. ok (length (tablesOf p))) ⌝ }
-{
-    let verdict = message::accept(4, m);
-    match verdict {
-        Verdict::No(r) => Count::No(r),
-        Verdict::Fine => Count::Is(count_at(m, tables_counted(m), 2)),
-    }
-}
-
-// A table's layout.
-pub enum TableAnswer {
-    Is(TableLayout),
-    No(Refusal),
-}
-
-// Table t of an accepted response.
-fn table_in(m: &[u8], t: usize) -> TableAnswer
-    ensures { λ r. ⌜ ((p : Message) → readMessage 4 (now (m .entry)) ≡ ok p → toldTable r ≡ bind (entry (tablesOf p) t) (λ b. ok (layoutOf (tableAt p t) b))) ⌝ }
-{
-    let counted = tables_counted(m);
-    if count_at(m, counted, 2) <= t {
-        return TableAnswer::No(PAST_END);
-    }
-    let first = after(m, counted, 2);
-    TableAnswer::Is(layout_at(m, over(m, first, t)))
-}
-
-// What table t of a response says of itself, and where it and its parts stand.
-pub fn table(m: &[u8], t: usize) -> TableAnswer
-    ensures { λ r. ⌜ toldTable r ≡ ofTable (now (m .entry)) t (λ at b. ok (layoutOf at b)) ⌝ }
-{
-    let verdict = message::accept(4, m);
-    match verdict {
-        Verdict::No(r) => TableAnswer::No(r),
-        Verdict::Fine => table_in(m, t),
-    }
-}
-
-// A column's layout.
-pub enum ColumnAnswer {
-    Is(ColumnLayout),
-    No(Refusal),
-}
-
-// What column c of table t says of itself.
-pub fn column(m: &[u8], t: usize, c: usize) -> ColumnAnswer
-    ensures { λ r. ⌜ toldColumn r ≡ ofTable (now (m .entry)) t (λ at b. columnOf at b c) ⌝ }
-{
-    let answer = table(m, t);
-    match answer {
-        TableAnswer::No(r) => ColumnAnswer::No(r),
-        TableAnswer::Is(layout) => {
-            if layout.columns <= c {
-                ColumnAnswer::No(PAST_END)
-            } else {
-                ColumnAnswer::Is(column_at(m, layout.types, layout.names, c))
-            }
-        }
-    }
-}
-
-// The position of the first column of table t whose name is equal, bytes compared exactly.
-pub fn find_column(m: &[u8], t: usize, name: &[u8]) -> Position
-    ensures { λ r. ⌜ toldPosition r ≡ ofTable (now (m .entry)) t (λ at b. firstNamed (now (name .entry)) (b .metadata .names) 0) ⌝ }
-{
-    let answer = table(m, t);
-    match answer {
-        TableAnswer::No(r) => Position::No(r),
-        TableAnswer::Is(layout) => search(m, layout.names, layout.columns, name),
     }
 }
 
@@ -440,17 +461,10 @@ fn find_cell(m: &[u8], t: usize, k: usize, c: usize) -> FoundCell
     }
 }
 
-// A cell, shown by its column's type.
-pub enum CellAnswer {
-    Is(show::Cell),
-    No(Refusal),
-}
-
-// The cell at row k and column c of table t.
-pub fn cell(m: &[u8], t: usize, k: usize, c: usize) -> CellAnswer
-    ensures { λ r. ⌜ toldCell r ≡ ofTable (now (m .entry)) t (λ at b. bind (cellHere at b k c) (λ h. ok (shownHere h))) ⌝ }
+// The cell that was found.
+fn cell_of(found: FoundCell) -> CellAnswer
+    ensures { λ r. ⌜ toldCell r ≡ bind (toldFound found) (λ s. ok (s .cell)) ⌝ }
 {
-    let found = find_cell(m, t, k, c);
     match found {
         FoundCell::No(r) => CellAnswer::No(r),
         FoundCell::Is(shown) => {
@@ -460,11 +474,25 @@ pub fn cell(m: &[u8], t: usize, k: usize, c: usize) -> CellAnswer
     }
 }
 
-// Where the bytes of a text or binary cell stand, or that it is null.
-pub fn cell_span(m: &[u8], t: usize, k: usize, c: usize) -> Part
-    ensures { λ r. ⌜ toldPart r ≡ ofTable (now (m .entry)) t (λ at b. bind (cellHere at b k c) (λ h. partOf (h .type-at) (shownHere h))) ⌝ }
+// The part of the message that a cell is, if it is text, bytes or a geography.
+fn part_of(cell: show::Cell, place: usize) -> Part
+    ensures { λ r. ⌜ toldPart r ≡ partOf place cell ⌝ }
 {
-    let found = find_cell(m, t, k, c);
+    match cell {
+        show::Cell::Text(start, size) => Part::Is(start, size),
+        show::Cell::Binary(start, size) => Part::Is(start, size),
+        show::Cell::Geography(start, size) => Part::Is(start, size),
+        show::Cell::NullText => Part::Null,
+        show::Cell::NullBinary => Part::Null,
+        show::Cell::NullGeography => Part::Null,
+        _ => Part::No(wrong_type(place)),
+    }
+}
+
+// The part of the message that a found cell is.
+fn span_of(found: FoundCell) -> Part
+    ensures { λ r. ⌜ toldPart r ≡ bind (toldFound found) (λ s. partOf (s .«type_at») (s .cell)) ⌝ }
+{
     match found {
         FoundCell::No(r) => Part::No(r),
         FoundCell::Is(shown) => {
@@ -474,14 +502,184 @@ pub fn cell_span(m: &[u8], t: usize, k: usize, c: usize) -> Part
     }
 }
 
-// The bytes of a text or binary cell, as that part of the message; the empty part for any other answer of `cell_span`.
-pub fn cell_part(m: &[u8], t: usize, k: usize, c: usize) -> &[u8]
-    ensures { λ r. ⌜ now r ≡ partIn (now (m .entry)) (ofTable (now (m .entry)) t (λ at b. bind (cellHere at b k c) (λ h. partOf (h .type-at) (shownHere h)))) ⌝ }
+// That part of the message; the empty part where there is none.
+fn part_in(m: &[u8], span: Part) -> &[u8]
+    requires { ⌜ ((start size : ℕ) → span ≡ Part.Is start size → start + size ≤ length (now m)) ⌝ }
+    ensures { λ r. ⌜ now r ≡ partIn (now (m .entry)) (toldPart span) ⌝ }
 {
-    let span = cell_span(m, t, k, c);
     let Part::Is(start, size) = span else {
         return &m[0..0];
     };
     let end = start + size;
     &m[start..end]
+}
+
+// The cell at row k and column c of table t.
+pub fn cell(m: &[u8], t: usize, k: usize, c: usize) -> CellAnswer
+    ensures { λ r. ⌜ toldCell r ≡ askCell (now (m .entry)) t k c ⌝ }
+{
+    cell_of(find_cell(m, t, k, c))
+}
+
+// Where the bytes of a text or binary cell stand, or that it is null.
+pub fn cell_span(m: &[u8], t: usize, k: usize, c: usize) -> Part
+    ensures { λ r. ⌜ toldPart r ≡ askCellSpan (now (m .entry)) t k c ⌝ }
+{
+    span_of(find_cell(m, t, k, c))
+}
+
+// The bytes of a text or binary cell, as that part of the message; the empty part for any other answer of `cell_span`.
+pub fn cell_part(m: &[u8], t: usize, k: usize, c: usize) -> &[u8]
+    ensures { λ r. ⌜ now r ≡ partIn (now (m .entry)) (askCellSpan (now (m .entry)) t k c) ⌝ }
+{
+    part_in(m, cell_span(m, t, k, c))
+}
+
+// ---- Parameters, and the elements of those that are arrays.
+
+// The place of parameter p of an accepted invocation.
+fn param_in(m: &[u8], p: usize) -> Position
+    ensures { λ r. ⌜ ((v : Message) → readMessage 3 (now (m .entry)) ≡ ok v → toldPosition r ≡ bind (entry (paramsOf v) p) (λ q. ok (paramAt v p))) ⌝ }
+{
+    let client = past(scan::skip_body(m, 5, false));
+    let counted = after(m, client, 8);
+    if count_at(m, counted, 2) <= p {
+        return Position::No(PAST_END);
+    }
+    let first = after(m, counted, 2);
+    Position::At(past(scan::skip_params(m, first, p)))
+}
+
+fn find_param(m: &[u8], p: usize) -> Position
+    ensures { λ r. ⌜ toldPosition r ≡ ofParam (now (m .entry)) p (λ at q. ok at) ⌝ }
+{
+    let verdict = message::accept(3, m);
+    match verdict {
+        Verdict::No(r) => Position::No(r),
+        Verdict::Fine => param_in(m, p),
+    }
+}
+
+// How many bytes the count of an array's elements has.
+fn count_width(t: u8) -> usize
+    ensures { λ r. ⌜ r ≡ pick (eqb t tTinyint) 4 2 ⌝ }
+{
+    if t == format::TINYINT { 4 } else { 2 }
+}
+
+// The parameter at a place.
+fn argument_at(m: &[u8], at: usize) -> Argued
+    ensures { λ r. ⌜ ((q : Param) → Stands param (now (m .entry)) at q → toldArgument r ≡ ok (givenOf at (q .type) (q .argument))) ⌝ }
+{
+    let t = byte_at(m, at);
+    let inner = after(m, at, 1);
+    if t == format::NULL {
+        return Argued::Null;
+    }
+    if t != 157 {
+        return Argued::One(value_at(m, inner, t));
+    }
+    let e = byte_at(m, inner);
+    let counted = after(m, inner, 1);
+    Argued::Array(e, count_at(m, counted, count_width(e)))
+}
+
+// Parameter p of an invocation, shown.
+pub fn parameter(m: &[u8], p: usize) -> Argued
+    ensures { λ r. ⌜ toldArgument r ≡ askParameter (now (m .entry)) p ⌝ }
+{
+    let place = find_param(m, p);
+    match place {
+        Position::No(r) => Argued::No(r),
+        Position::At(at) => argument_at(m, at),
+    }
+}
+
+// The value that a parameter at a place is, and where its type stands.
+fn one_at(m: &[u8], at: usize) -> FoundCell
+    ensures { λ r. ⌜ ((q : Param) → Stands param (now (m .entry)) at q → toldFound r ≡ bind (valueHere at (q .type) (q .argument)) (λ h. ok (shownOf h))) ⌝ }
+{
+    let t = byte_at(m, at);
+    if t == format::NULL {
+        return FoundCell::No(wrong_type(at));
+    }
+    if t == format::ARRAY {
+        return FoundCell::No(wrong_type(at));
+    }
+    let cell = value_at(m, after(m, at, 1), t);
+    FoundCell::Is(ShownCell { cell, type_at: at })
+}
+
+fn find_value(m: &[u8], p: usize) -> FoundCell
+    ensures { λ r. ⌜ toldFound r ≡ ofParam (now (m .entry)) p (λ at q. bind (valueHere at (q .type) (q .argument)) (λ h. ok (shownOf h))) ⌝ }
+{
+    let place = find_param(m, p);
+    match place {
+        Position::No(r) => FoundCell::No(r),
+        Position::At(at) => one_at(m, at),
+    }
+}
+
+// Where the bytes of a text or binary parameter stand, or that it is null.
+pub fn parameter_span(m: &[u8], p: usize) -> Part
+    ensures { λ r. ⌜ toldPart r ≡ askParameterSpan (now (m .entry)) p ⌝ }
+{
+    span_of(find_value(m, p))
+}
+
+// The bytes of a text or binary parameter, likewise.
+pub fn parameter_part(m: &[u8], p: usize) -> &[u8]
+    ensures { λ r. ⌜ now r ≡ partIn (now (m .entry)) (askParameterSpan (now (m .entry)) p) ⌝ }
+{
+    part_in(m, parameter_span(m, p))
+}
+
+// The element of an array at a place, and where the elements' type stands.
+fn element_at(m: &[u8], at: usize, e: usize) -> FoundCell
+    ensures { λ r. ⌜ ((q : Param) → Stands param (now (m .entry)) at q → toldFound r ≡ bind (elementOf at (q .argument) e) (λ h. ok (shownOf h))) ⌝ }
+{
+    if byte_at(m, at) != 157 {
+        return FoundCell::No(wrong_type(at));
+    }
+    let type_at = after(m, at, 1);
+    let t = byte_at(m, type_at);
+    let counted = after(m, type_at, 1);
+    let width = count_width(t);
+    if count_at(m, counted, width) <= e {
+        return FoundCell::No(PAST_END);
+    }
+    let first = after(m, counted, width);
+    let cell = value_at(m, past(scan::skip_values(m, first, t, e)), t);
+    FoundCell::Is(ShownCell { cell, type_at })
+}
+
+fn find_element(m: &[u8], p: usize, e: usize) -> FoundCell
+    ensures { λ r. ⌜ toldFound r ≡ ofParam (now (m .entry)) p (λ at q. bind (elementOf at (q .argument) e) (λ h. ok (shownOf h))) ⌝ }
+{
+    let place = find_param(m, p);
+    match place {
+        Position::No(r) => FoundCell::No(r),
+        Position::At(at) => element_at(m, at, e),
+    }
+}
+
+// Element e of the array that parameter p is, shown.
+pub fn element(m: &[u8], p: usize, e: usize) -> CellAnswer
+    ensures { λ r. ⌜ toldCell r ≡ askElement (now (m .entry)) p e ⌝ }
+{
+    cell_of(find_element(m, p, e))
+}
+
+// Where the bytes of a text or binary element stand, or that it is null.
+pub fn element_span(m: &[u8], p: usize, e: usize) -> Part
+    ensures { λ r. ⌜ toldPart r ≡ askElementSpan (now (m .entry)) p e ⌝ }
+{
+    span_of(find_element(m, p, e))
+}
+
+// The bytes of a text or binary element, likewise.
+pub fn element_part(m: &[u8], p: usize, e: usize) -> &[u8]
+    ensures { λ r. ⌜ now r ≡ partIn (now (m .entry)) (askElementSpan (now (m .entry)) p e) ⌝ }
+{
+    part_in(m, element_span(m, p, e))
 }

@@ -9,13 +9,14 @@ use lib.Dec.{eqb}
 use native.Mathlib.Omega.{arith}
 use Rattle.format.specs.declared.Fault.the-variants.{Flags}
 use Rattle.format.specs.declared.Refusal.{Refusal}
-use Rattle.format.specs.Result.{Res, ok, no}
+use Rattle.format.specs.Result.{Res, ok}
 use Rattle.format.specs.Format.{Format, number, block, ruled, both, present, nothing}
 use Rattle.format.specs.Message as wire
 use Rattle.format.specs.Message.{Message, Server, contentOf, readMessage, loginRequest, loginResponse, server, noServer, invocation, response, text, nullText, edition, flagged, list, mostItems, first, param, table}
-use Rattle.format.proofs.Results.{ok-same, no-ok}
+use Rattle.format.proofs.Results.{ok-same}
 use Rattle.message.specs.declared.Verdict.{Verdict}
 use Rattle.message.specs.Verdict.{toldVerdict, verdictOf}
+use Rattle.message.proofs.Accepted.{verdict-go, verdict-stop}
 use Rattle.scan.specs.Signed.{signed}
 use Rattle.record.specs.declared.Span.{Span}
 use Rattle.record.specs.declared.Edition.{Edition}
@@ -24,25 +25,21 @@ use Rattle.record.specs.Places.{spanOf, afterText, afterNote}
 use Rattle.record.specs.Records.{recordIn, loginRequestOf, loginResponseOf, invocationOf, responseOf}
 use Rattle.record.specs.Peeks.{numberAt, textAt, loginAt, loginRequestAt, serverAt, loginResponseAt, invocationAt, responseAt}
 use Rattle.record.proofs.Fields.{spot}
-use Rattle.record.proofs.Says.{both-parts, into-parts, ruled-part, number-says, block-size, text-says, list-says, number-both, ruled-both, block-both, text-both, note-both, said}
+use Rattle.record.proofs.Holds.{block-size}
+use Rattle.record.proofs.Says.{both-parts, into-parts, ruled-part, number-says, text-says, list-says, number-both, ruled-both, block-both, text-both, note-both, said}
 
 -- ---- an answer's record
 module _ {A : Type 0} (show : Message → A) (d : A) (w : Res Message) (v : Verdict) where
   pub fine-record : (x : A) → toldVerdict v ≡ verdictOf w → v ≡ Verdict.Fine → ((r : Message) → w ≡ ok r → x ≡ show r) → x ≡ recordIn show d w
-  fine-record x e fine says = by-result w refl (sym (ap toldVerdict fine) ∙ e)
-    where
-      by-result : (u : Res Message) → w ≡ u → ok tt ≡ verdictOf u → x ≡ recordIn show d u
-      by-result (ok r) is h = says r is
-      by-result (no f p) is h = absurd (no-ok (sym h))
+  fine-record x e fine says = let g = verdict-go w e fine in says (g .0) (g .1) ∙ sym (ap (recordIn show d) (g .1))
 
   pub refused-record : {q : Refusal} → toldVerdict v ≡ verdictOf w → v ≡ Verdict.No q → d ≡ recordIn show d w
-  refused-record {q} e bad = by-result w (sym (ap toldVerdict bad) ∙ e)
-    where
-      by-result : (u : Res Message) → no (q .fault) (q .place) ≡ verdictOf u → d ≡ recordIn show d u
-      by-result (ok r) h = absurd (no-ok h)
-      by-result (no f p) h = refl
+  refused-record e bad = sym (ap (recordIn show d) (verdict-stop w e bad refl))
 
--- ---- kind 1
+-- ---- kind 1: from the service on
+abbrev pub Rest : Option ℕ → Format (Option (List ℕ) × (Option (List ℕ) × List ℕ))
+Rest h = both (text 4 5) (λ s. both (text 6 7) (λ u. block (wire.hashSize h) 8))
+
 module _ (m : List ℕ) (v : ℕ) (version : numberAt m 4 1 ≡ record { n = v; next = 5 }) where
   login-put : (at size : ℕ) (e : Edition) (s u : Option (List ℕ)) (bs : List ℕ)
       → textAt m at false ≡ spot (spanOf at s) (afterText at s) → textAt m (afterText at s) false ≡ spot (spanOf (afterText at s) u) (afterText (afterText at s) u) → length bs ≡ size
@@ -69,9 +66,6 @@ module _ (m : List ℕ) (v : ℕ) (version : numberAt m 4 1 ≡ record { n = v; 
       let q₁ = text-both m at false 4 5 (λ s. both (text 6 7) (λ u. block (wire.hashSize h) 8)) a end read in
       let q₂ = text-both m (afterText at (a .0)) false 6 7 (λ u. block (wire.hashSize h) 8) (a .1) end (q₁ .1) in
       login-put at (wire.hashSize h) e (a .0) (a .1 .0) (a .1 .1) (q₁ .0) (q₂ .0) (block-size m _ (wire.hashSize h) 8 (a .1 .1) end (q₂ .1))
-
-  abbrev Rest : Option ℕ → Format (Option (List ℕ) × (Option (List ℕ) × List ℕ))
-  Rest h = both (text 4 5) (λ s. both (text 6 7) (λ u. block (wire.hashSize h) 8))
 
   abbrev put : Option (List ℕ) × (Option (List ℕ) × List ℕ) → Option ℕ → LoginRequestRecord
   put a h = loginRequestOf v (record { hashVersion = h; service = a .0; user = a .1 .0; hash = a .1 .1 })
@@ -166,22 +160,22 @@ invocation-says m r e =
 abbrev Text : Type 0
 Text = Option (Option (List ℕ))
 
-abbrev Tables : Format (List wire.Table)
+abbrev pub Tables : Format (List wire.Table)
 Tables = list 2 mostItems 40 first table
 
-abbrev Excepted : ℕ → Format (Text × List wire.Table)
+abbrev pub Excepted : ℕ → Format (Text × List wire.Table)
 Excepted flags = both (present (flagged 64 flags) none (text 38 39)) (λ x. Tables)
 
-abbrev Tripped : ℕ → Format (ℕ × (Text × List wire.Table))
+abbrev pub Tripped : ℕ → Format (ℕ × (Text × List wire.Table))
 Tripped flags = both (number 4 37) (λ r. Excepted flags)
 
-abbrev Applied : ℕ → Format (Text × (ℕ × (Text × List wire.Table)))
+abbrev pub Applied : ℕ → Format (Text × (ℕ × (Text × List wire.Table)))
 Applied flags = both (present (flagged 128 flags) none (nullText 35 36)) (λ u. Tripped flags)
 
-abbrev Stated : ℕ → Format (Text × (ℕ × (Text × (ℕ × (Text × List wire.Table)))))
+abbrev pub Stated : ℕ → Format (Text × (ℕ × (Text × (ℕ × (Text × List wire.Table)))))
 Stated flags = both (present (flagged 32 flags) none (nullText 32 33)) (λ t. both (number 1 34) (λ a. Applied flags))
 
-abbrev Flagged : ℕ → Format (ℕ × (Text × (ℕ × (Text × (ℕ × (Text × List wire.Table))))))
+abbrev pub Flagged : ℕ → Format (ℕ × (Text × (ℕ × (Text × (ℕ × (Text × List wire.Table))))))
 Flagged flags = both (number 1 31) (λ s. Stated flags)
 
 reply-says : (m : List ℕ) (v : ℕ) → numberAt m 4 1 ≡ record { n = v; next = 5 } → (l : wire.Response) (end : ℕ) → response .read m 5 ≡ ok (l, end) → responseAt m ≡ responseOf v l

@@ -1,14 +1,12 @@
 -- What an accepted reading says of its parts: where they stand, and what the code finds there.
-use Prim.Native.Nat.{ℕ, suc, _+_, _≤_}
-use mathlib.Core.Path.{_≡_, refl, sym, _∙_, ap, ap₂}
+use Prim.Native.Nat.{ℕ, suc, _+_}
+use mathlib.Core.Path.{_≡_, refl, sym, _∙_, ap, ap₂, subst}
 use mathlib.Core.Bool.{Bool, true, false, _&&_}
 use mathlib.Core.List.{List, [], _∷_}
 use mathlib.Core.Option.{Option, some, none}
-use lib.ListN.{length, take, drop, replicate, length-replicate, length-drop}
-use lib.Seq.{length-take-le}
+use lib.ListN.{length, take, drop, replicate, length-replicate}
 use lib.Dec.{leb, ltb, eqb}
 use native.Mathlib.Omega.{arith}
-use borrow.Author.Tests.{leb-true}
 use Rattle.format.specs.declared.Fault.{Fault}
 use Rattle.format.specs.declared.Fault.the-variants.{Short, Negative, Limit}
 use Rattle.format.specs.Result.{Res, ok, no, pick}
@@ -22,6 +20,7 @@ use Rattle.scan.proofs.Answers.{took}
 use Rattle.show.proofs.Bodies.{stood}
 use Rattle.record.specs.Places.{spanOf, afterText, noteOf, afterNote}
 use Rattle.record.specs.Peeks.{numIn, spotIn, blockIn, numberAt, textAt, noteAt, blockAt}
+use Rattle.record.proofs.Holds.{Holds, HoldsNote, text-held, block-held}
 use Rattle.record.proofs.Fields.{spot, note-absent, note-there}
 
 -- ---- the parts of each combinator
@@ -75,14 +74,6 @@ module _ (s : List ℕ) (at : ℕ) where
       let far : at + 8 ≡ next = ap (λ (w : List ℕ × ℕ). w .1) (ok-same (passed (leb (at + 8) (length s)) _ _ e .1)) in
       (ap (blockIn at) (e ∙ ap (λ (m : ℕ). ok (bs, m)) (sym far)), sym far)
 
-  pub block-size : (n field : ℕ) (bs : List ℕ) (next : ℕ) → block n field .read s at ≡ ok (bs, next) → length bs ≡ n
-  unfolding block
-  block-size n field bs next e =
-      let t = passed (leb (at + n) (length s)) _ _ e in
-      let room : at + n ≤ length s = leb-true _ _ (t .0) in
-      let fit : n ≤ length (drop at s) = simp length-drop (omega arith) in
-      sym (ap (λ (w : List ℕ × ℕ). length (w .0)) (ok-same (t .1))) ∙ length-take-le n (drop at s) fit
-
   some-none : {bs : List ℕ} {n m : ℕ} → _≡_ {A = Res (Option (List ℕ) × ℕ)} (ok (some bs, n)) (ok (none, m)) → ⊥
   some-none e = let z : _≡_ {A = ℕ} 0 1 = ap (λ (w : Option (List ℕ) × ℕ). kindOf (w .0)) (ok-same e) in omega arith
     where
@@ -134,6 +125,14 @@ module _ (s : List ℕ) (at : ℕ) where
       let gone : none ≡ o = ap (λ (w : Option (Option (List ℕ)) × ℕ). w .0) same in
       (sym (note-absent s at false nullable refl) ∙ ap (λ (x : Option (Option (List ℕ))). spot (noteOf at x) (afterNote at x)) gone, sym (ap (λ (w : Option (Option (List ℕ)) × ℕ). w .1) same) ∙ ap (afterNote at) gone)
 
+  pub note-held : (there nullable : Bool) (l b : ℕ) (o : Option (Option (List ℕ))) (next : ℕ) → present there none (string nullable anything l b) .read s at ≡ ok (o, next) → HoldsNote s (noteOf at o) o
+  unfolding present nothing
+  note-held true nullable l b o next e =
+      let p = into-parts s some _ (string nullable anything l b) at o next e in
+      subst (λ (x : Option (Option (List ℕ))). HoldsNote s (noteOf at x) x) (p .2) (text-held s at nullable l b (p .0) next (p .1))
+  note-held false nullable l b o next e =
+      subst (λ (x : Option (Option (List ℕ))). HoldsNote s (noteOf at x) x) (ap (λ (w : Option (Option (List ℕ)) × ℕ). w .0) (ok-same e)) refl
+
   module _ {A : Type 0} (most field : ℕ) (ix : ℕ → Index → Index) (f : Format A) where
     -- a count, and so many values
     pub list-says : (l : List A) (next : ℕ) → list 2 most field ix f .read s at ≡ ok (l, next) → numberAt s at 2 ≡ record { n = length l; next = at + 2 }
@@ -162,25 +161,25 @@ module _ {B : Type 0} (s : List ℕ) (at : ℕ) where
       (t .0, ap (λ (p : ℕ). g (v .0) .read s p) (sym (t .1)) ∙ q .2)
 
   pub block-both : (field : ℕ) (g : List ℕ → Format B) (v : List ℕ × B) (next : ℕ) → both (block 8 field) g .read s at ≡ ok (v, next)
-      → (blockAt s at ≡ record { bytes = v .0; next = at + 8 }) × (g (v .0) .read s (at + 8) ≡ ok (v .1, next))
+      → (blockAt s at ≡ record { bytes = v .0; next = at + 8 }) × (g (v .0) .read s (at + 8) ≡ ok (v .1, next)) × (take (length (v .0)) (drop at s) ≡ v .0)
   block-both field g v next e =
       let q = both-parts s (block 8 field) g at v next e in
       let t = block-says s at field (v .0) (q .0) (q .1) in
-      (t .0, ap (λ (p : ℕ). g (v .0) .read s p) (sym (t .1)) ∙ q .2)
+      (t .0, ap (λ (p : ℕ). g (v .0) .read s p) (sym (t .1)) ∙ q .2, block-held s at 8 field (v .0) (q .0) (q .1))
 
   pub text-both : (nullable : Bool) (l b : ℕ) (g : Option (List ℕ) → Format B) (v : Option (List ℕ) × B) (next : ℕ) → both (string nullable anything l b) g .read s at ≡ ok (v, next)
-      → (textAt s at nullable ≡ spot (spanOf at (v .0)) (afterText at (v .0))) × (g (v .0) .read s (afterText at (v .0)) ≡ ok (v .1, next))
+      → (textAt s at nullable ≡ spot (spanOf at (v .0)) (afterText at (v .0))) × (g (v .0) .read s (afterText at (v .0)) ≡ ok (v .1, next)) × Holds s (spanOf at (v .0)) (v .0)
   text-both nullable l b g v next e =
       let q = both-parts s (string nullable anything l b) g at v next e in
       let t = text-says s at nullable l b (v .0) (q .0) (q .1) in
-      (t .0, ap (λ (p : ℕ). g (v .0) .read s p) (sym (t .1)) ∙ q .2)
+      (t .0, ap (λ (p : ℕ). g (v .0) .read s p) (sym (t .1)) ∙ q .2, text-held s at nullable l b (v .0) (q .0) (q .1))
 
   pub note-both : (there nullable : Bool) (l b : ℕ) (g : Option (Option (List ℕ)) → Format B) (v : Option (Option (List ℕ)) × B) (next : ℕ) → both (present there none (string nullable anything l b)) g .read s at ≡ ok (v, next)
-      → (noteAt s at there nullable ≡ spot (noteOf at (v .0)) (afterNote at (v .0))) × (g (v .0) .read s (afterNote at (v .0)) ≡ ok (v .1, next))
+      → (noteAt s at there nullable ≡ spot (noteOf at (v .0)) (afterNote at (v .0))) × (g (v .0) .read s (afterNote at (v .0)) ≡ ok (v .1, next)) × HoldsNote s (noteOf at (v .0)) (v .0)
   note-both there nullable l b g v next e =
       let q = both-parts s (present there none (string nullable anything l b)) g at v next e in
       let t = note-says s at there nullable l b (v .0) (q .0) (q .1) in
-      (t .0, ap (λ (p : ℕ). g (v .0) .read s p) (sym (t .1)) ∙ q .2)
+      (t .0, ap (λ (p : ℕ). g (v .0) .read s p) (sym (t .1)) ∙ q .2, note-held s at there nullable l b (v .0) (q .0) (q .1))
 
 -- ---- the whole message
 pub record Said (kind : ℕ) (m : List ℕ) (r : Message) : Type 0 where

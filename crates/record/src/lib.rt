@@ -73,22 +73,22 @@ pub struct ResponseRecord {
 // A login request, where the message is accepted; else all of it is 0 or absent. So it is of the three answers below.
 pub struct LoginRequestShown {
     pub verdict: Verdict,
-    pub record: LoginRequestRecord,
+    pub shown: LoginRequestRecord,
 }
 
 pub struct LoginResponseShown {
     pub verdict: Verdict,
-    pub record: LoginResponseRecord,
+    pub shown: LoginResponseRecord,
 }
 
 pub struct InvocationShown {
     pub verdict: Verdict,
-    pub record: InvocationRecord,
+    pub shown: InvocationRecord,
 }
 
 pub struct ResponseShown {
     pub verdict: Verdict,
-    pub record: ResponseRecord,
+    pub shown: ResponseRecord,
 }
 
 // A field, and where the next one stands.
@@ -401,17 +401,17 @@ fn no_response() -> ResponseRecord
 
 // The record of a login request, or why the message is none.
 pub fn login_request(m: &[u8]) -> LoginRequestShown
-    ensures { λ r. ⌜ (toldVerdict (r .verdict) ≡ verdictOf (readMessage 1 (now (m .entry)))) × (r .record ≡ shownLoginRequest (readMessage 1 (now (m .entry)))) ⌝ }
+    ensures { λ r. ⌜ (toldVerdict (r .verdict) ≡ verdictOf (readMessage 1 (now (m .entry)))) × (r .shown ≡ shownLoginRequest (readMessage 1 (now (m .entry)))) ⌝ }
 {
     let verdict = message::accept(1, m);
     match verdict {
         Verdict::Fine => LoginRequestShown {
             verdict,
-            record: read_login_request(m),
+            shown: read_login_request(m),
         },
         Verdict::No(_) => LoginRequestShown {
             verdict,
-            record: LoginRequestRecord {
+            shown: LoginRequestRecord {
                 version: 0,
                 hash_version: Edition::Absent,
                 service: Span::Absent,
@@ -424,34 +424,34 @@ pub fn login_request(m: &[u8]) -> LoginRequestShown
 
 // The record of a login response, or why the message is none.
 pub fn login_response(m: &[u8]) -> LoginResponseShown
-    ensures { λ r. ⌜ (toldVerdict (r .verdict) ≡ verdictOf (readMessage 2 (now (m .entry)))) × (r .record ≡ shownLoginResponse (readMessage 2 (now (m .entry)))) ⌝ }
+    ensures { λ r. ⌜ (toldVerdict (r .verdict) ≡ verdictOf (readMessage 2 (now (m .entry)))) × (r .shown ≡ shownLoginResponse (readMessage 2 (now (m .entry)))) ⌝ }
 {
     let verdict = message::accept(2, m);
     match verdict {
         Verdict::Fine => LoginResponseShown {
             verdict,
-            record: read_login_response(m),
+            shown: read_login_response(m),
         },
         Verdict::No(_) => LoginResponseShown {
             verdict,
-            record: no_server(0, 0),
+            shown: no_server(0, 0),
         },
     }
 }
 
 // The record of an invocation, or why the message is none.
 pub fn invocation(m: &[u8]) -> InvocationShown
-    ensures { λ r. ⌜ (toldVerdict (r .verdict) ≡ verdictOf (readMessage 3 (now (m .entry)))) × (r .record ≡ shownInvocation (readMessage 3 (now (m .entry)))) ⌝ }
+    ensures { λ r. ⌜ (toldVerdict (r .verdict) ≡ verdictOf (readMessage 3 (now (m .entry)))) × (r .shown ≡ shownInvocation (readMessage 3 (now (m .entry)))) ⌝ }
 {
     let verdict = message::accept(3, m);
     match verdict {
         Verdict::Fine => InvocationShown {
             verdict,
-            record: read_invocation(m),
+            shown: read_invocation(m),
         },
         Verdict::No(_) => InvocationShown {
             verdict,
-            record: InvocationRecord {
+            shown: InvocationRecord {
                 version: 0,
                 procedure: Span::Absent,
                 client: [0; 8],
@@ -464,17 +464,17 @@ pub fn invocation(m: &[u8]) -> InvocationShown
 
 // The record of a response, or why the message is none.
 pub fn response(m: &[u8]) -> ResponseShown
-    ensures { λ r. ⌜ (toldVerdict (r .verdict) ≡ verdictOf (readMessage 4 (now (m .entry)))) × (r .record ≡ shownResponse (readMessage 4 (now (m .entry)))) ⌝ }
+    ensures { λ r. ⌜ (toldVerdict (r .verdict) ≡ verdictOf (readMessage 4 (now (m .entry)))) × (r .shown ≡ shownResponse (readMessage 4 (now (m .entry)))) ⌝ }
 {
     let verdict = message::accept(4, m);
     match verdict {
         Verdict::Fine => ResponseShown {
             verdict,
-            record: read_response(m),
+            shown: read_response(m),
         },
         Verdict::No(_) => ResponseShown {
             verdict,
-            record: no_response(),
+            shown: no_response(),
         },
     }
 }

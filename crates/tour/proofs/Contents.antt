@@ -1,25 +1,24 @@
 -- The walks over the contents of the kinds 1 to 3, each made from the walks over its fields.
-use Prim.Native.Nat.{ℕ, _+_}
-use mathlib.Core.Path.{_≡_, refl, sym, _∙_, ap}
+use Prim.Native.Nat.{ℕ}
+use mathlib.Core.Path.{_≡_, refl, ap}
 use mathlib.Core.Bool.{Bool, true, false}
 use mathlib.Core.List.{List}
 use mathlib.Core.Option.{Option, some, none, Option·getD}
 use lib.Dec.{eqb, leb, lit<}
 use borrow.Author.Tests.{eq-eqb, ne-eqb}
-use Rattle.format.specs.declared.Fault.{Fault}
 use Rattle.format.specs.declared.Fault.the-variants.{Version}
-use Rattle.format.specs.Result.{Res, ok, no, bind}
+use Rattle.format.specs.Result.{ok, no}
 use Rattle.format.specs.Number.{Bytes}
-use Rattle.format.specs.Format.{Format, Index, Verdict, number, block, nothing, ruled, into, both, present}
+use Rattle.format.specs.Format.{Format, Index, number, block, nothing, into, both, present}
 use Rattle.format.specs.Value.{anything, string}
-use Rattle.format.specs.Message.{text, list, mostItems, first, Param, param, Invocation, invocation, Server, server, noServer, loginResponse, loginRequest, edition, hashSize}
+use Rattle.format.specs.Message.{text, list, mostItems, first, param, invocation, Server, server, noServer, loginResponse, loginRequest, edition, hashSize}
 use Rattle.format.proofs.Results.{ok-same, bound}
 use Rattle.format.proofs.Laws.{Lawful, lawful-number, lawful-block, lawful-nothing, lawful-ruled, lawful-into, lawful-both, lawful-present}
 use Rattle.format.proofs.Formats.{lawful-list, lawful-param, lawful-server}
 use Rattle.tour.specs.declared.Tour.{Tour}
 use Rattle.tour.specs.Tour.{Walked}
 use Rattle.tour.specs.Parts.{login}
-use Rattle.tour.proofs.Tours.{walked-block, walked-ruled, walked-into, walked-both, walked-nothing}
+use Rattle.tour.proofs.Tours.{walked-ruled, walked-into, walked-both, walked-nothing}
 use Rattle.tour.proofs.Values.{lawful-string, ruled-read}
 
 -- how each format here is made

@@ -1,3 +1,5 @@
+-- The proofs. From the bottom: what a tour has seen after some fields, the walk over each way to make a format, loops, values and
+-- parameters, the kinds 1 to 3, tables and responses, whole messages; and that no two answers tell the same.
 pub mod Visits
 pub mod Tours
 pub mod Rounds
@@ -5,3 +7,4 @@ pub mod Values
 pub mod Contents
 pub mod Tables
 pub mod Messages
+pub mod Once

@@ -1,18 +1,17 @@
 -- The walk over a whole message, made from the walks over its length, its version and its content.
-use Prim.Native.Nat.{ℕ, _+_}
-use mathlib.Core.Path.{_≡_, refl, sym, _∙_, ap}
-use mathlib.Core.Bool.{Bool}
-use mathlib.Core.List.{List, _++_}
+use Prim.Native.Nat.{ℕ}
+use mathlib.Core.Path.{_≡_, refl, _∙_, ap}
+use mathlib.Core.List.{List}
 use lib.ListN.{length}
-use lib.Dec.{eqb, leb}
-use borrow.Author.Tests.{eq-eqb, ne-eqb}
+use lib.Dec.{leb}
+use borrow.Author.Tests.{ne-eqb}
 use Rattle.format.specs.declared.Fault.the-variants.{Version}
 use Rattle.format.specs.declared.Refusal.{Refusal}
 use Rattle.format.specs.Result.{Res, ok, no, bind}
 use Rattle.format.specs.Number.{Bytes}
-use Rattle.format.specs.Format.{Format, Index, Entry, number, both, piece}
+use Rattle.format.specs.Format.{Index, Entry, number, both, piece}
 use Rattle.format.specs.Message.{Message, message, readMessage, messageFields, noIndex, contentOf, edition, loginRequest, loginResponse, invocation, response, aLoginRequest, aLoginResponse, anInvocation, aResponse, loginRequest-of, loginResponse-of, invocation-of, response-of}
-use Rattle.format.proofs.Laws.{Lawful, lawful-number, lawful-ruled, lawful-both}
+use Rattle.format.proofs.Laws.{lawful-number, lawful-ruled, lawful-both}
 use Rattle.format.proofs.Formats.{lawful-loginRequest, lawful-loginResponse, lawful-invocation, lawful-response, lawful-contentOf}
 use Rattle.format.proofs.Demands.{accepted→passed}
 use Rattle.scan.proofs.Answers.{took}

@@ -1,7 +1,7 @@
 -- What a loop over some values keeps: what is left to read ends where all of them do, and its fields, after those listed, are all the fields.
-use Prim.Native.Nat.{ℕ, zero, suc, _+_, _-_, _≤_, _<_}
-use mathlib.Core.Path.{_≡_, refl, sym, _∙_, ap, subst}
-use mathlib.Core.List.{List, [], _∷_, _++_, map}
+use Prim.Native.Nat.{ℕ, suc, _+_, _-_, _≤_, _<_}
+use mathlib.Core.Path.{_≡_, refl, _∙_, ap, subst}
+use mathlib.Core.List.{List, [], _∷_, map}
 use lib.ListN.{length, replicate, getD}
 use native.Mathlib.Omega.{arith}
 use Rattle.format.specs.Result.{ok}

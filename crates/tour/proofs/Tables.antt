@@ -1,38 +1,33 @@
 -- The walks over rooms, tables and responses, each made from the walks over its parts; and where the types of a table's columns stand.
 use Prim.Native.Nat.{ℕ, zero, suc, _+_, _%_, _≤_, _<_}
 use mathlib.Core.Path.{_≡_, refl, sym, _∙_, ap, ap₂}
-use mathlib.Core.Bool.{Bool, true, false}
-use mathlib.Core.List.{List, [], _∷_, _++_, map}
-use mathlib.Core.Option.{Option, some, none}
+use mathlib.Core.Bool.{false}
+use mathlib.Core.List.{List, [], _∷_, map}
+use mathlib.Core.Option.{Option}
 use lib.ListN.{length, take, drop, getD, replicate, length-replicate, take-append-drop}
 use lib.Seq.{length-take-le, drop-cons}
 use lib.Dec.{leb, ltb, eqb, lit<}
 use native.Mathlib.Omega.{arith}
-use native.Mathlib.Nat.{add-zero}
-use native.Mathlib.Numerals.{add-one}
 use borrow.Author.Tests.{ltb-false}
-use Rattle.format.specs.declared.Fault.{Fault}
 use Rattle.format.specs.declared.Fault.the-variants.{WireType, Flags, Limit, Negative}
-use Rattle.format.specs.Result.{Res, ok, no, bind}
-use Rattle.format.specs.Number.{Bytes, half, numAt}
-use Rattle.format.specs.Format.{Format, Index, number, block, nothing, ruled, room, into, both, present, each}
-use Rattle.format.specs.Value.{string, ascii, anything, isColumn, Value, value}
-use Rattle.format.specs.Message.{count, columnType, list, third, mostColumns, unlimited, mostRow, Metadata, metadata, row, Table, table, second, first, flagged, Response, response, mostItems, text, nullText}
+use Rattle.format.specs.Result.{ok}
+use Rattle.format.specs.Number.{Bytes, half}
+use Rattle.format.specs.Format.{Format, Index, number, block, nothing, ruled, room, into, both, each}
+use Rattle.format.specs.Value.{string, ascii, isColumn, Value, value}
+use Rattle.format.specs.Message.{count, columnType, list, third, mostColumns, unlimited, mostRow, Metadata, metadata, row, table, second, first, response}
 use Rattle.format.proofs.Results.{ok-same, bound, spared, passed}
 use Rattle.format.proofs.Numbers.{Bytes-take}
 use Rattle.format.proofs.Laws.{Lawful, lawful-number, lawful-block, lawful-nothing, lawful-ruled, lawful-into, lawful-both, lawful-present, lawful-each, all-replicate, all-map, length-each}
-use Rattle.format.proofs.Lengths.{lawful-room}
 use Rattle.format.proofs.Looks.{looks-longer}
 use Rattle.format.proofs.Formats.{lawful-list, lawful-value, lawful-metadata, lawful-row, lawful-table}
 use Rattle.scan.proofs.Answers.{took}
 use Rattle.scan.proofs.Params.{byte-is}
 use Rattle.tour.specs.declared.Tour.{Tour}
 use Rattle.tour.specs.Tour.{Walked}
-use Rattle.tour.specs.Parts.{statuses, results}
+use Rattle.tour.specs.Parts.{statuses}
 use Rattle.tour.proofs.Visits.{visited-both}
-use Rattle.tour.proofs.Tours.{shows, walked-block, walked-ruled, walked-into}
+use Rattle.tour.proofs.Tours.{walked-ruled, walked-into}
 use Rattle.tour.proofs.Values.{lawful-string, lawful-count, ruled-read, count-read}
-use Rattle.tour.proofs.Contents.{walked-then, walked-by}
 
 -- how each format here is made
 ruleset laws = (lawful-number, lawful-block, lawful-nothing, lawful-ruled, lawful-into, lawful-both, lawful-present, lawful-each, lawful-string, lawful-count, lawful-list, lawful-value, lawful-metadata, lawful-row, lawful-table, all-replicate, all-map, lit<, tt)

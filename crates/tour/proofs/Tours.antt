@@ -1,9 +1,9 @@
 -- What a walk over a value lists, by how its format is made: each law here makes the walk over a format from walks over its parts.
-use Prim.Native.Nat.{ℕ, zero, suc, _+_, _-_, min, _≤_, _<_}
+use Prim.Native.Nat.{ℕ, suc, _+_, _-_, _≤_}
 use mathlib.Core.Path.{_≡_, refl, sym, _∙_, ap, subst}
 use mathlib.Core.Bool.{Bool, true, false, _&&_}
-use mathlib.Core.List.{List, [], _∷_, _++_}
-use mathlib.Core.Option.{Option, some, none, Option·getD}
+use mathlib.Core.List.{List, [], _∷_}
+use mathlib.Core.Option.{Option, some, none}
 use lib.ListN.{length, take, drop, getD, length-drop}
 use lib.Seq.{length-take-le}
 use lib.Dec.{leb, ltb, eqb}
@@ -13,14 +13,11 @@ use native.Mathlib.Omega.{arith}
 use borrow.Author.Tests.{leb-true, leb-false, ltb-false, eqb-true, le-leb}
 use Rattle.format.specs.declared.Fault.{Fault}
 use Rattle.format.specs.declared.Fault.the-variants.{Short, Negative, Limit}
-use Rattle.format.specs.Result.{Res, ok, no, bind, pick}
+use Rattle.format.specs.Result.{Res, ok, no, pick}
 use Rattle.format.specs.Number.{numAt, Bytes, half, null4}
-use Rattle.format.specs.Format.{Format, Index, Entry, piece, number, block, nothing, ruled, room, into, both, present, counted, Verdict, fine, bad, judged}
+use Rattle.format.specs.Format.{Format, Index, number, block, nothing, ruled, into, both, counted, Verdict, fine, bad, judged}
 use Rattle.format.proofs.Results.{ok-same, no-ok, passed, spared, bound, and-true-both}
-use Rattle.format.proofs.Numbers.{Bytes-take}
-use Rattle.format.proofs.Took.{took-fits}
 use Rattle.format.proofs.Laws.{Lawful}
-use Rattle.format.proofs.Looks.{looks-longer}
 use Rattle.format.specs.declared.Refusal.{Refusal}
 use Rattle.scan.specs.declared.Number.{Number}
 use Rattle.scan.specs.declared.Byte.{Byte}
@@ -29,7 +26,7 @@ use Rattle.scan.specs.Shown.{shownNumber, shownNext, shownByte}
 use Rattle.scan.proofs.Answers.{took}
 use Rattle.tour.specs.declared.Tour.{Tour}
 use Rattle.tour.specs.declared.Indices.{Indices}
-use Rattle.tour.specs.Tour.{State, stateOf, indexOf, visited, Listed, Walked}
+use Rattle.tour.specs.Tour.{stateOf, indexOf, visited, Listed, Walked}
 use Rattle.tour.proofs.Visits.{visited-both}
 
 module _ {A : Type 0} (f : Format A) (s : List ℕ) (ix : Index) (tour : Tour) (out : List ℕ) (after : Tour) (written : List ℕ) where

@@ -1,22 +1,21 @@
 -- The walks over values, arrays and parameters, each made from the walks over its parts.
-use Prim.Native.Nat.{ℕ, _+_, _-_, _/_, _^_, _≤_, _<_}
+use Prim.Native.Nat.{ℕ, _+_, _-_, _/_, _^_, _<_}
 use mathlib.Core.Path.{_≡_, refl, sym, _∙_, ap}
 use mathlib.Core.Bool.{Bool, true, false, _||_}
 use mathlib.Core.List.{List}
 use mathlib.Core.Logic.{_⊎_, inl, inr, ⊎-elim}
-use mathlib.Core.Option.{Option}
 use lib.ListN.{length, replicate, length-replicate}
 use lib.Dec.{leb, ltb, eqb, lit<}
 use native.Mathlib.Omega.{arith}
-use borrow.Author.Tests.{leb-true, ne-eqb}
+use borrow.Author.Tests.{ne-eqb}
 use Rattle.format.specs.declared.Fault.{Fault}
-use Rattle.format.specs.declared.Fault.the-variants.{Decimal, Point, Limit, Negative, WireType}
-use Rattle.format.specs.Result.{Res, ok, no, bind, pick}
-use Rattle.format.specs.Number.{numAt, Bytes, half}
-use Rattle.format.specs.Format.{Format, Index, Verdict, number, nothing, ruled, into, both, each, counted}
-use Rattle.format.specs.Value.{Value, fixed, body, number-of, body-of, value, string, anything, notEmpty, isCounted, isColumn, widthOf, fixedFine, mostBytes, tNull, tArray}
-use Rattle.format.specs.Message.{count, list, items, bytes, bytes-of, values, values-of, text, mostItems, second, columnType, argument, null, one, one-of, array, array-of, Items, Argument, Param, param}
-use Rattle.format.proofs.Results.{ok-same, no-ok, passed, spared, bound}
+use Rattle.format.specs.declared.Fault.the-variants.{Limit, Negative, WireType}
+use Rattle.format.specs.Result.{ok, pick}
+use Rattle.format.specs.Number.{Bytes, half}
+use Rattle.format.specs.Format.{Format, Index, Verdict, number, ruled, into, both, each}
+use Rattle.format.specs.Value.{Value, body, body-of, value, string, anything, notEmpty, isCounted, isColumn, widthOf, fixedFine, mostBytes, tNull, tArray}
+use Rattle.format.specs.Message.{count, list, items, bytes, bytes-of, values, values-of, text, mostItems, second, columnType, argument, null, one, one-of, array, array-of, param}
+use Rattle.format.proofs.Results.{ok-same, passed, bound}
 use Rattle.format.proofs.Laws.{Lawful, lawful-number, lawful-ruled, lawful-both, lawful-each, all-replicate, length-each}
 use Rattle.format.proofs.Lengths.{lawful-counted}
 use Rattle.format.proofs.Formats.{lawful-value, lawful-list, lawful-items, lawful-argument}
@@ -24,7 +23,7 @@ use Rattle.scan.proofs.Values.{value-fields}
 use Rattle.tour.specs.declared.Tour.{Tour}
 use Rattle.tour.specs.declared.Indices.{Indices}
 use Rattle.tour.specs.Tour.{stateOf, indexOf, visited, Listed, Walked}
-use Rattle.tour.proofs.Tours.{Shows, shows, walked-ruled, walked-into, walked-both, walked-nothing}
+use Rattle.tour.proofs.Tours.{walked-ruled, walked-into, walked-both, walked-nothing}
 
 pub lawful-string : (nullable : Bool) (rule : List ℕ → Verdict) (l b : ℕ) → Lawful (string nullable rule l b)
 lawful-string nullable rule l b = lawful-counted nullable mostBytes rule l b (lit< tt)

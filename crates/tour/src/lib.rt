@@ -36,6 +36,30 @@ pub enum Toured {
     No(Refusal),
 }
 
+// The tour over the fields of a message of a kind. It writes six numbers for each field from the first-th on that ends past an offset, while they fit.
+pub fn over(kind: u8, m: &[u8], out: &mut [u64], first: usize, offset: usize) -> Toured
+    ensures { λ r. ⌜ (toldToured r ≡ tourOf (fieldsOf kind (now (m .entry))) (length (now (m .entry))) (begun first offset (now (out .entry)))) × (now (out .exit) ≡ outOf (fieldsOf kind (now (m .entry))) (begun first offset (now (out .entry)))) ⌝ }
+{
+    let verdict = message::accept(kind, m);
+    let message::Verdict::Fine = verdict else {
+        return Toured::No(message::verdict_refusal(verdict));
+    };
+    Toured::Over(walk_message(kind, m, out, first, offset))
+}
+
+// The refusal of an answer that is one.
+pub fn toured_refusal(a: Toured) -> Refusal
+    ensures { λ r. ⌜ r ≡ touredNo a ⌝ }
+{
+    match a {
+        Toured::Over(_) => Refusal {
+            fault: Fault::Short,
+            place: 0,
+        },
+        Toured::No(r) => r,
+    }
+}
+
 // The three numbers that follow a field's number.
 pub struct Indices {
     pub i: usize,
@@ -555,28 +579,4 @@ fn walk_message(kind: u8, m: &[u8], out: &mut [u64], first: usize, offset: usize
     let version = byte_at(m, length.at);
     let content = walk_fixed(m, out, length, 1, 2, ix);
     walk_content(kind, m, out, content, version, ix)
-}
-
-// The tour over the fields of a message of a kind. It writes six numbers for each field from the first-th on that ends past an offset, while they fit.
-pub fn over(kind: u8, m: &[u8], out: &mut [u64], first: usize, offset: usize) -> Toured
-    ensures { λ r. ⌜ (toldToured r ≡ tourOf (fieldsOf kind (now (m .entry))) (length (now (m .entry))) (begun first offset (now (out .entry)))) × (now (out .exit) ≡ outOf (fieldsOf kind (now (m .entry))) (begun first offset (now (out .entry)))) ⌝ }
-{
-    let verdict = message::accept(kind, m);
-    let message::Verdict::Fine = verdict else {
-        return Toured::No(message::verdict_refusal(verdict));
-    };
-    Toured::Over(walk_message(kind, m, out, first, offset))
-}
-
-// The refusal of an answer that is one.
-pub fn toured_refusal(a: Toured) -> Refusal
-    ensures { λ r. ⌜ r ≡ touredNo a ⌝ }
-{
-    match a {
-        Toured::Over(_) => Refusal {
-            fault: Fault::Short,
-            place: 0,
-        },
-        Toured::No(r) => r,
-    }
 }

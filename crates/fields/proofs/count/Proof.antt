@@ -1,5 +1,5 @@
 -- `fields::count` meets its contract: the tour has seen each field once. Assumes nothing.
-use mathlib.Core.Path.{_≡_, refl, sym, _∙_, ap}
+use mathlib.Core.Path.{ap}
 use native.Mathlib.Omega.{arith}
 use Prim.Native.Nat.{_^_, _<_}
 use lib.ListN.{length, replicate}
@@ -28,16 +28,16 @@ toured-refusal-requires c κs = search needs
 
 returns : tie.Need-returns
 returns c =
-    let a = (c .before .before .before .before .before .before .before .args) in
+    let a = c .before .before .before .before .before .before .before .args in
     let s = begun 0 0 (replicate 6 0) in
-    rw (refuses (fieldsOf (a .kind) (a .m .now)) (length (a .m .now)) s ((c .before .before .before .before .over .ensures .0)) (c .before .enum-told .given .1) (c .toured-refusal .ensures))
+    rw (refuses (fieldsOf (a .kind) (a .m .now)) (length (a .m .now)) s (c .before .before .before .before .over .ensures .0) (c .before .enum-told .given .1) (c .toured-refusal .ensures))
 
 returns-2 : tie.Need-returns-2
 returns-2 c =
-    let a = (c .before .before .before .before .before .before .before .args) in
+    let a = c .before .before .before .before .before .before .before .args in
     let s = begun 0 0 (replicate 6 0) in
     let small : length (a .m .now) < 2 ^ 64 = omega arith in
-    let f = seen (a .kind) (a .m .now) (bytes-all (a .m .now) (c .before .before .before .before .before .before .shared-slice-known .given)) small (length (a .m .now)) s ((c .before .before .before .before .over .ensures)) (c .before .toured .given .1) in
+    let f = seen (a .kind) (a .m .now) (bytes-all (a .m .now) (c .before .before .before .before .before .before .shared-slice-known .given)) small (length (a .m .now)) s (c .before .before .before .before .over .ensures) (c .before .toured .given .1) in
     let w = seen-window 0 (replicate 6 0) f in
     rw (f .are) (ap ok (w .seen))
 

@@ -1,8 +1,9 @@
 -- `query::column` meets its contract: the table's refusal, or its column.
 use mathlib.Core.Path.{_∙_, sym, ap}
 use native.Mathlib.Omega.{arith}
-use Rattle.query.specs.Answers.{toldTable, columnOf}
-use Rattle.query.proofs.Opened.{bytes-all, opened, not-opened, asked, column-past, columns-are, types-at, names-at}
+use Rattle.query.specs.Answers.{toldTable, layoutOf, columnOf}
+use Rattle.query.specs.Places.{tablesOf, tableAt}
+use Rattle.query.proofs.Opened.{bytes-all, opened, not-found, asked, column-past, columns-are, types-at, names-at}
 use borrow.Author.Needs.{needs}
 use Rattle.query.proofs.column.Statement.{statement}
 use Rattle.query.proofs.column.Tie as tie
@@ -22,7 +23,7 @@ column-at-requires c κs = search needs
 returns : tie.Need-returns
 returns c =
     let a = c .before .before .before .before .before .args in
-    not-opened (a .m .now) (a .t) (λ at b. columnOf at b (a .c)) (sym (ap toldTable (c .before .answer .given .1)) ∙ c .before .before .before .table .ensures)
+    not-found 4 tablesOf tableAt (a .m .now) (a .t) layoutOf (λ at b. columnOf at b (a .c)) (sym (ap toldTable (c .before .answer .given .1)) ∙ c .before .before .before .table .ensures)
 
 returns-2 : tie.Need-returns-2
 returns-2 c =

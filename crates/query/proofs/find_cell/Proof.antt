@@ -2,8 +2,10 @@
 use mathlib.Core.Path.{_∙_, sym, ap}
 use native.Mathlib.Omega.{arith}
 use Rattle.format.specs.Result.{ok, bind}
-use Rattle.query.specs.Answers.{toldTable, cellHere, shownOf}
-use Rattle.query.proofs.Opened.{bytes-all, opened, not-opened, asked, row-past, cell-past, types-fit, rows-are, columns-are, types-at, rows-at}
+use Rattle.query.specs.Answers.{toldTable, layoutOf, cellHere}
+use Rattle.query.specs.Shown.{shownOf}
+use Rattle.query.specs.Places.{tablesOf, tableAt}
+use Rattle.query.proofs.Opened.{bytes-all, opened, not-found, asked, row-past, cell-past, types-fit, rows-are, columns-are, types-at, rows-at}
 use borrow.Author.Needs.{needs}
 use Rattle.query.proofs.find_cell.Statement.{statement}
 use Rattle.query.proofs.find_cell.Tie as tie
@@ -26,7 +28,7 @@ shown-at-requires c κs =
 returns : tie.Need-returns
 returns c =
     let a = c .before .before .before .before .before .args in
-    not-opened (a .m .now) (a .t) (λ at b. bind (cellHere at b (a .k) (a .c)) (λ h. ok (shownOf h))) (sym (ap toldTable (c .before .answer .given .1)) ∙ c .before .before .before .table .ensures)
+    not-found 4 tablesOf tableAt (a .m .now) (a .t) layoutOf (λ at b. bind (cellHere at b (a .k) (a .c)) (λ h. ok (shownOf h))) (sym (ap toldTable (c .before .answer .given .1)) ∙ c .before .before .before .table .ensures)
 
 returns-2 : tie.Need-returns-2
 returns-2 c =

@@ -1,8 +1,9 @@
 -- `query::find_column` meets its contract: the table's refusal, or the search of its names.
 use mathlib.Core.Path.{_∙_, sym, ap}
 use native.Mathlib.Omega.{arith}
-use Rattle.query.specs.Answers.{toldTable, firstNamed}
-use Rattle.query.proofs.Opened.{bytes-all, opened, not-opened, asked, named}
+use Rattle.query.specs.Answers.{toldTable, layoutOf, firstNamed}
+use Rattle.query.specs.Places.{tablesOf, tableAt}
+use Rattle.query.proofs.Opened.{bytes-all, opened, not-found, asked, named}
 use borrow.Author.Needs.{needs}
 use Rattle.query.proofs.find_column.Statement.{statement}
 use Rattle.query.proofs.find_column.Tie as tie
@@ -22,7 +23,7 @@ search-requires c κs = search needs
 returns : tie.Need-returns
 returns c =
     let a = c .before .before .before .before .before .before .args in
-    not-opened (a .m .now) (a .t) (λ at b. firstNamed (a .name .now) (b .metadata .names) 0) (sym (ap toldTable (c .before .answer .given .1)) ∙ c .before .before .before .table .ensures)
+    not-found 4 tablesOf tableAt (a .m .now) (a .t) layoutOf (λ at b. firstNamed (a .name .now) (b .metadata .names) 0) (sym (ap toldTable (c .before .answer .given .1)) ∙ c .before .before .before .table .ensures)
 
 returns-2 : tie.Need-returns-2
 returns-2 c =

@@ -1,5 +1,7 @@
 -- `query::part_of` meets its contract, case by case.
-use mathlib.Core.Path.{sym, ap}
+use mathlib.Core.Path.{_∙_, sym, ap}
+use Rattle.format.specs.Result.{no}
+use Rattle.format.specs.declared.Refusal.{Refusal}
 use Rattle.query.specs.Answers.{partOf}
 use Rattle.query.proofs.Parts.{other-cell}
 use borrow.Author.Needs.{needs}
@@ -24,6 +26,9 @@ enum-told-2 c = search needs
 enum-told-3 : tie.Need-enum-told-3
 enum-told-3 c = search needs
 
+wrong-type-requires : tie.Need-wrong-type-requires
+wrong-type-requires c κs = search needs
+
 returns : tie.Need-returns
 returns c = sym (ap (partOf _) (c .before .cell .given .1))
 
@@ -43,7 +48,7 @@ returns-6 : tie.Need-returns-6
 returns-6 c = search needs
 
 returns-7 : tie.Need-returns-7
-returns-7 c = other-cell (c .before .args .place) (c .before .args .cell) (c .match .keys7)
+returns-7 c = ap (λ (r : Refusal). no (r .fault) (r .place)) (c .wrong-type .ensures) ∙ other-cell (c .before .before .args .place) (c .before .before .args .cell) (c .before .match .keys7)
 
 pub part-of-spec : {M : Type 1} → statement M
 part-of-spec =
@@ -55,6 +60,7 @@ part-of-spec =
     enum-told
     enum-told-2
     enum-told-3
+    wrong-type-requires
     returns
     returns-2
     returns-3

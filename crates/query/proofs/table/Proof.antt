@@ -22,13 +22,13 @@ table-in-requires c κs = search needs
 returns : tie.Need-returns
 returns c =
     let a = c .before .before .before .before .before .args in
-    refused (a .m .now) (λ r. bind (entry (tablesOf r) (a .t)) (λ b. ok (layoutOf (tableAt r (a .t)) b))) (verdict-no _ (c .before .before .before .accept .ensures) (c .before .verdict .given .1))
+    refused 4 (a .m .now) (λ r. bind (entry (tablesOf r) (a .t)) (λ b. ok (layoutOf (tableAt r (a .t)) b))) (verdict-no _ (c .before .before .before .accept .ensures) (c .before .verdict .given .1))
 
 returns-2 : tie.Need-returns-2
 returns-2 c =
     let w = verdict-fine _ (c .before .before .before .accept .ensures) (c .before .enum-told .given .1) in
     let a = c .before .before .before .before .before .args in
-    admitted (a .m .now) (λ r. bind (entry (tablesOf r) (a .t)) (λ b. ok (layoutOf (tableAt r (a .t)) b))) (w .1) (c .table-in .ensures (w .0) (w .1))
+    admitted 4 (a .m .now) (λ r. bind (entry (tablesOf r) (a .t)) (λ b. ok (layoutOf (tableAt r (a .t)) b))) (w .1) (c .table-in .ensures (w .0) (w .1))
 
 pub table-spec : {M : Type 1} → statement M
 table-spec =

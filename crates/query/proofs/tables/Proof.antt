@@ -27,14 +27,14 @@ count-at-requires c κs = search needs
 returns : tie.Need-returns
 returns c =
     let a = c .before .before .before .before .before .args in
-    refused (a .m .now) (λ p. ok (length (tablesOf p))) (verdict-no _ (c .before .before .before .accept .ensures) (c .before .verdict .given .1))
+    refused 4 (a .m .now) (λ p. ok (length (tablesOf p))) (verdict-no _ (c .before .before .before .accept .ensures) (c .before .verdict .given .1))
 
 returns-2 : tie.Need-returns-2
 returns-2 c =
     let a = c .before .before .before .before .before .before .args in
     let w = verdict-fine _ (c .before .before .before .before .accept .ensures) (c .before .before .enum-told .given .1) in
     let all = bytes-all (a .m .now) (λ k. omega (arith, c .before .before .before .before .before .shared-slice-known .given k)) in
-    admitted (a .m .now) (λ p. ok (length (tablesOf p))) (w .1) (ap ok (tables-is (a .m .now) all (w .0) (w .1) (c .before .tables-counted .result) (c .before .tables-counted .ensures) (c .count-at .ensures)))
+    admitted 4 (a .m .now) (λ p. ok (length (tablesOf p))) (w .1) (ap ok (tables-is (a .m .now) all (w .0) (w .1) (c .before .tables-counted .result) (c .before .tables-counted .ensures) (c .count-at .ensures)))
 
 pub tables-spec : {M : Type 1} → statement M
 tables-spec =

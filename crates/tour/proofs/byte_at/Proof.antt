@@ -1,6 +1,6 @@
 -- `tour::byte_at` meets its contract, by what was read. Assumes nothing.
 use Prim.Native.Nat.{ℕ}
-use mathlib.Core.Path.{_≡_, sym, _∙_, ap}
+use mathlib.Core.Path.{sym, _∙_, ap}
 use Rattle.format.proofs.Results.{ok-same}
 use Rattle.scan.proofs.Answers.{byte-go}
 use Rattle.tour.proofs.Tours.{byte-none}

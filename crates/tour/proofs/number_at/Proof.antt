@@ -1,8 +1,7 @@
 -- `tour::number_at` meets its contract, by what was read. Assumes nothing.
 use Prim.Native.Nat.{ℕ}
-use mathlib.Core.Path.{_≡_, sym, _∙_, ap}
-use native.Mathlib.Omega.{arith}
-use Rattle.format.proofs.Results.{ok-same, no-ok}
+use mathlib.Core.Path.{sym, _∙_, ap}
+use Rattle.format.proofs.Results.{ok-same}
 use Rattle.scan.proofs.Answers.{number-go}
 use Rattle.tour.proofs.Tours.{number-none}
 use borrow.Author.Needs.{needs}

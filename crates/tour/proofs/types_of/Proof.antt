@@ -1,7 +1,7 @@
 -- `tour::types_of` meets its contract: the types stand after the count, 7 bytes into the metadata. Assumes nothing.
-use Prim.Native.Nat.{ℕ, _+_, _-_, _≤_, _<_}
-use mathlib.Core.Path.{_≡_, sym, _∙_, ap}
-use lib.ListN.{length, take, drop}
+use Prim.Native.Nat.{_+_, _-_, _≤_, _<_}
+use mathlib.Core.Path.{_≡_, sym, _∙_}
+use lib.ListN.{length}
 use native.Mathlib.Omega.{arith}
 use borrow.Author.Tests.{leb-true, leb-false, not-true, not-false}
 use Rattle.tour.proofs.Tours.{bytes-all}
@@ -34,7 +34,7 @@ part-result-end c = search needs
 returns : tie.Need-returns
 returns c =
     λ m next e.
-    let a = (c .before .before .before .before .before .before .before .args) in
+    let a = c .before .before .before .before .before .before .before .args in
     let w = found-columns (a .s .now) (bytes-all (a .s .now) (c .before .before .before .before .before .before .shared-slice-known .given)) (a .at) m next e (c .before .before .before .before .before .past .ensures) (c .before .before .before .before .past2 .ensures) (c .before .before .before .number-at .ensures) in
     let fit = w .0 in
     let over : length (a .s .now) < (c .before .before .before .before .past2 .result) + (c .before .before .before .number-at .result) = leb-false _ _ (sym (c .before .before .fits2 .ensures) ∙ not-true _ (c .before .if1 .taken)) in
@@ -54,14 +54,14 @@ part-result-start-2 c = search needs
 
 part-result-end-2 : tie.Need-part-result-end-2
 part-result-end-2 c =
-    let a = (c .before .before .before .before .before .before .args) in
+    let a = c .before .before .before .before .before .before .args in
     let fit : (c .before .before .before .past2 .result) + (c .before .before .number-at .result) ≤ length (a .s .now) = leb-true _ _ (sym (c .before .fits2 .ensures) ∙ not-false _ (c .if1 .left)) in
     fit
 
 returns-2 : tie.Need-returns-2
 returns-2 c =
     λ m next e.
-    let a = (c .before .before .before .before .before .before .before .args) in
+    let a = c .before .before .before .before .before .before .before .args in
     let w = found-columns (a .s .now) (bytes-all (a .s .now) (c .before .before .before .before .before .before .shared-slice-known .given)) (a .at) m next e (c .before .before .before .before .before .past .ensures) (c .before .before .before .before .past2 .ensures) (c .before .before .before .number-at .ensures) in
     let size : (c .before .before .before .before .past2 .result) + (c .before .before .before .number-at .result) - (c .before .before .before .before .past2 .result) ≡ (c .before .before .before .number-at .result) = omega arith in
     rw size (sym (w .1))

@@ -1,6 +1,6 @@
 -- `tour::value_end` meets its contract, by what was read. Assumes nothing.
 use Prim.Native.Nat.{ℕ}
-use mathlib.Core.Path.{_≡_, sym, _∙_, ap}
+use mathlib.Core.Path.{sym, _∙_, ap}
 use Rattle.format.specs.Value.{Value}
 use Rattle.format.proofs.Results.{ok-same}
 use Rattle.scan.proofs.Answers.{next-go}

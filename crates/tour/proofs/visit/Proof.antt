@@ -1,11 +1,6 @@
 -- `tour::visit` meets its contract: no field, one that isn't written, one that is. Assumes nothing.
-use mathlib.Core.Path.{_≡_, sym, _∙_, ap}
-use Prim.Native.Nat.{ℕ, _+_, _*_, _<_, _/_}
-use mathlib.Core.Bool.{true, false}
-use mathlib.Core.List.{List}
-use lib.ListN.{length}
 use native.Mathlib.Omega.{arith}
-use borrow.Author.Tests.{ltb-true, not-true, not-false}
+use borrow.Author.Tests.{not-true, not-false}
 use Rattle.tour.proofs.Visits.{visit-none, visit-room, visit-skip, visit-take}
 use borrow.Author.Needs.{needs}
 use Rattle.tour.proofs.visit.Statement.{statement}

@@ -9,7 +9,7 @@ use Rattle.tour.proofs.walk_argument.Statement.{statement}
 use Rattle.tour.proofs.walk_argument.Tie as tie
 
 returns : tie.Need-returns
-returns c = let a = (c .before .before .before .args) in walked-null-argument (a .s .now) (a .tour) (a .out .now) (a .t) (c .if1 .taken)
+returns c = let a = c .before .before .before .args in walked-null-argument (a .s .now) (a .tour) (a .out .now) (a .t) (c .if1 .taken)
 
 byte-at-requires : tie.Need-byte-at-requires
 byte-at-requires c κs = search needs
@@ -25,7 +25,7 @@ same-length c = search needs
 
 returns-2 : tie.Need-returns-2
 returns-2 c =
-    let a = (c .before .before .before .before .before .before .before .before .before .before .before .before .before .args) in
+    let a = c .before .before .before .before .before .before .before .before .before .before .before .before .before .args in
     let b = bytes-all (a .s .now) (c .before .before .before .before .before .before .before .before .before .before .before .before .shared-slice-known .given) in
     walked-array (a .s .now) b (a .t) (c .before .before .before .before .before .before .before .before .before .if2 .taken) (walked-typed isColumn WireType 25 items (a .s .now) b (c .before .before .before .before .before .before .before .before .byte-at .ensures) (c .before .before .before .before .before .before .walk-fixed .ensures) (c .before .before .walk-items .ensures))
 
@@ -36,7 +36,7 @@ same-length-2 : tie.Need-same-length-2
 same-length-2 c = search needs
 
 returns-3 : tie.Need-returns-3
-returns-3 c = let a = (c .before .before .before .before .before .before .before .before .args) in walked-one (a .s .now) (bytes-all (a .s .now) (c .before .before .before .before .before .before .before .shared-slice-known .given)) (a .t) (c .before .before .before .before .before .if1 .left) (c .before .before .before .before .if2 .left) (c .before .before .walk-value .ensures)
+returns-3 c = let a = c .before .before .before .before .before .before .before .before .args in walked-one (a .s .now) (bytes-all (a .s .now) (c .before .before .before .before .before .before .before .shared-slice-known .given)) (a .t) (c .before .before .before .before .before .if1 .left) (c .before .before .before .before .if2 .left) (c .before .before .walk-value .ensures)
 
 pub walk-argument-spec : {M : Type 1} → statement M
 walk-argument-spec =

@@ -14,7 +14,7 @@ same-length : tie.Need-same-length
 same-length c = search needs
 
 returns : tie.Need-returns
-returns c = let a = (c .before .before .before .before .before .before .before .args) in walked-number (a .s .now) (a .width) (a .field) (c .before .before .before .before .past .ensures) (c .before .before .visit .ensures)
+returns c = let a = c .before .before .before .before .before .before .before .args in walked-number (a .s .now) (a .width) (a .field) (c .before .before .before .before .past .ensures) (c .before .before .visit .ensures)
 
 pub walk-fixed-spec : {M : Type 1} → statement M
 walk-fixed-spec = tie.close (tie.spec past-requires visit-requires same-length returns)

@@ -31,7 +31,7 @@ same-length c = search needs
 
 returns : tie.Need-returns
 returns c =
-    let a = (c .before .before .before .before .before .before .before .before .before .before .before .before .before .before .before .before .before .before .before .args) in
+    let a = c .before .before .before .before .before .before .before .before .before .before .before .before .before .before .before .before .before .before .before .args in
     let s = a .s .now in
     let b = bytes-all (a .s .now) (c .before .before .before .before .before .before .before .before .before .before .before .before .before .before .before .before .before .before .shared-slice-known .given) in
     walked-invocation s b (walked-then s b (lawful-string false anything 20 21) ((c .before .before .before .before .before .before .before .before .before .before .before .before .before .before .before .walk-body .ensures) false anything) (walked-then s b (lawful-block 8 22) (walked-block s 8 22 (c .before .before .before .before .before .before .before .before .before .before .before .walk-fixed .ensures))

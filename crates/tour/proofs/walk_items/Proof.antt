@@ -1,6 +1,6 @@
 -- `tour::walk_items` meets its contract: bytes, or a count and values. Assumes nothing.
 use mathlib.Core.Bool.{false}
-use Rattle.format.specs.Value.{value, anything}
+use Rattle.format.specs.Value.{anything}
 use Rattle.format.specs.Message.{mostItems, second}
 use Rattle.format.proofs.Formats.{lawful-value}
 use Rattle.tour.proofs.Tours.{bytes-all}
@@ -16,7 +16,7 @@ same-length : tie.Need-same-length
 same-length c = search needs
 
 returns : tie.Need-returns
-returns c = let a = (c .before .before .before .before .before .before .before .args) in walked-bytes (a .s .now) (bytes-all (a .s .now) (c .before .before .before .before .before .before .shared-slice-known .given)) (a .t) (c .before .before .before .before .if1 .taken) ((c .before .before .walk-body .ensures) false anything)
+returns c = let a = c .before .before .before .before .before .before .before .args in walked-bytes (a .s .now) (bytes-all (a .s .now) (c .before .before .before .before .before .before .shared-slice-known .given)) (a .t) (c .before .before .before .before .if1 .taken) ((c .before .before .walk-body .ensures) false anything)
 
 number-at-requires : tie.Need-number-at-requires
 number-at-requires c κs = search needs
@@ -32,7 +32,7 @@ same-length-2 c = search needs
 
 returns-2 : tie.Need-returns-2
 returns-2 c =
-    let a = (c .before .before .before .before .before .before .before .before .before .before .before .before .args) in
+    let a = c .before .before .before .before .before .before .before .before .before .before .before .before .args in
     let b = bytes-all (a .s .now) (c .before .before .before .before .before .before .before .before .before .before .before .shared-slice-known .given) in
     walked-values (a .s .now) b (a .t) (c .before .before .before .before .before .before .before .before .before .if1 .left) (walked-list 2 mostItems 26 second (lawful-value 27 28 (a .t)) (a .s .now) b (c .before .before .before .before .before .before .before .before .number-at .ensures) (c .before .before .before .before .before .before .walk-fixed .ensures) (c .before .before .walk-values .ensures))
 

@@ -22,7 +22,7 @@ same-length c = search needs
 
 returns : tie.Need-returns
 returns c =
-    let a = (c .before .before .before .before .before .before .before .before .before .before .before .before .before .before .args) in
+    let a = c .before .before .before .before .before .before .before .before .before .before .before .before .before .before .args in
     let b = bytes-all (a .s .now) (c .before .before .before .before .before .before .before .before .before .before .before .before .before .shared-slice-known .given) in
     walked-then (a .s .now) b (lawful-string false anything 4 5) ((c .before .before .before .before .before .before .before .before .before .before .walk-body .ensures) false anything)
     (walked-then (a .s .now) b (lawful-string false anything 6 7) ((c .before .before .before .before .before .before .walk-body2 .ensures) false anything) (walked-block (a .s .now) (a .size) 8 (c .before .before .walk-fixed .ensures)))

@@ -1,9 +1,6 @@
 -- `tour::walk_login_response` meets its contract: a result, and a server after a result of 0. Assumes nothing.
-use Prim.Native.Nat.{ℕ}
-use lib.Dec.{eqb}
 use borrow.Author.Tests.{eq-eqb, ne-eqb}
-use Rattle.format.specs.Format.{Format, present}
-use Rattle.format.specs.Message.{Server, server, noServer}
+use Rattle.format.specs.Message.{server, noServer}
 use Rattle.format.proofs.Laws.{lawful-number}
 use Rattle.format.proofs.Formats.{lawful-server}
 use Rattle.tour.proofs.Tours.{bytes-all}
@@ -23,7 +20,7 @@ same-length c = search needs
 
 returns : tie.Need-returns
 returns c =
-    let a = (c .before .before .before .before .before .before .before .before .args) in
+    let a = c .before .before .before .before .before .before .before .before .args in
     let s = a .s .now in
     let b = bytes-all (a .s .now) (c .before .before .before .before .before .before .before .shared-slice-known .given) in
     walked-response s b (walked-by s b served (lawful-number 1 10) (number-told s 1 10 _ (c .before .before .before .before .before .byte-at .ensures)) (c .before .before .before .walk-fixed .ensures) (walked-absent noServer server s _ (ne-eqb _ 0 (c .if1 .taken)) _ _))
@@ -36,7 +33,7 @@ same-length-2 c = search needs
 
 returns-2 : tie.Need-returns-2
 returns-2 c =
-    let a = (c .before .before .before .before .before .before .before .before .before .before .before .before .args) in
+    let a = c .before .before .before .before .before .before .before .before .before .before .before .before .args in
     let s = a .s .now in
     let b = bytes-all (a .s .now) (c .before .before .before .before .before .before .before .before .before .before .before .shared-slice-known .given) in
     walked-response s b (walked-by s b served (lawful-number 1 10) (number-told s 1 10 _ (c .before .before .before .before .before .before .before .before .before .byte-at .ensures)) (c .before .before .before .before .before .before .before .walk-fixed .ensures) (walked-present noServer server s _ (eq-eqb _ 0 (c .before .before .before .before .if1 .left)) b lawful-server (c .before .before .walk-server .ensures)))

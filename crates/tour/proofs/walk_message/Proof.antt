@@ -27,7 +27,7 @@ same-length c = search needs
 
 returns : tie.Need-returns
 returns c =
-    let a = (c .before .before .before .before .before .before .before .before .before .before .before .before .before .before .before .args) in
+    let a = c .before .before .before .before .before .before .before .before .before .before .before .before .before .before .before .args in
     let m = a .m .now in
     let b = bytes-all m (c .before .before .before .before .before .before .before .before .before .before .before .before .before .before .shared-slice-known .given) in
     record { goes = walked-whole (a .kind) m b refl (c .before .before .before .before .before .before .before .before .before .before .before .walk-fixed .ensures) (walked-typed (λ n. leb n 1) Version 2 (contentOf (a .kind)) m b (c .before .before .before .before .before .before .before .before .byte-at .ensures) (c .before .before .before .before .before .before .walk-fixed2 .ensures) (c .before .before .walk-content .ensures)) }

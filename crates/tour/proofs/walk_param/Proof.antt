@@ -21,7 +21,7 @@ same-length c = search needs
 
 returns : tie.Need-returns
 returns c =
-    let a = (c .before .before .before .before .before .before .before .before .before .before .before .args) in
+    let a = c .before .before .before .before .before .before .before .before .before .before .before .args in
     let b = bytes-all (a .s .now) (c .before .before .before .before .before .before .before .before .before .before .shared-slice-known .given) in
     walked-param (a .s .now) b (walked-typed isParam WireType 24 argument (a .s .now) b (c .before .before .before .before .before .before .before .before .byte-at .ensures) (c .before .before .before .before .before .before .walk-fixed .ensures) (c .before .before .walk-argument .ensures))
 

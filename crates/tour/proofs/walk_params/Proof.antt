@@ -1,6 +1,5 @@
 -- `tour::walk_params` meets its contract: what is left, after what was listed, is the whole. Assumes nothing.
-use Prim.Native.Nat.{ℕ, _+_, _-_, _<_, _≤_}
-use mathlib.Core.Path.{_≡_}
+use Prim.Native.Nat.{_-_}
 use native.Mathlib.Omega.{arith}
 use Rattle.format.specs.Message.{first, param}
 use Rattle.format.proofs.Formats.{lawful-param}
@@ -27,12 +26,12 @@ add-i : tie.Need-add-i Inv-loop μ-loop
 add-i c = let few = c .before .before .before .before .loop-test .taken in omega arith
 
 loop-less : tie.Need-loop-less Inv-loop μ-loop
-loop-less c = let few = (c .before .before .before .before .loop-test .taken) in omega arith
+loop-less c = let few = c .before .before .before .before .loop-test .taken in omega arith
 
 loop-again : tie.Need-loop-again Inv-loop μ-loop
 loop-again c =
-    let a = (c .before .before .before .before .before .before .before .before .args) in
-    let l = (c .before .before .before .before .before .loop) in
+    let a = c .before .before .before .before .before .before .before .before .args in
+    let l = c .before .before .before .before .before .loop in
     round-next first (λ m. param) (λ m. lawful-param) (a .s .now) (bytes-all (a .s .now) (c .before .before .before .before .before .before .before .shared-slice-known .given)) (indexOf (a .ix)) (a .n) (l .i) (c .before .before .before .before .loop-test .taken) (l .inv) (c .before .before .walk-param .ensures) (c .before .before .walk-param .kept .1 .0)
 
 same-length : tie.Need-same-length Inv-loop μ-loop
@@ -40,7 +39,7 @@ same-length c = (c .before .loop .inv .long)
 
 returns : tie.Need-returns Inv-loop μ-loop
 returns c =
-    let a = (c .before .before .before .before .args) in
+    let a = c .before .before .before .before .args in
     all-same first (a .s .now) param (a .n) (round-last first (λ m. param) _ _ _ _ _ (c .loop-test .left) (c .before .loop .inv))
 
 pub walk-params-spec : {M : Type 1} → statement M

@@ -1,14 +1,11 @@
 -- `tour::walk_results` meets its contract: field after field. Assumes nothing.
-use mathlib.Core.Path.{_≡_}
 use mathlib.Core.Bool.{false}
 use mathlib.Core.Option.{none}
-use Rattle.format.specs.Format.{present}
-use Rattle.format.specs.Value.{anything}
 use Rattle.format.specs.Message.{text, mostItems, first}
-use Rattle.format.proofs.Laws.{lawful-number, lawful-present}
+use Rattle.format.proofs.Laws.{lawful-number}
 use Rattle.format.proofs.Formats.{lawful-table}
 use Rattle.tour.proofs.Tours.{bytes-all}
-use Rattle.tour.proofs.Values.{lawful-string, walked-list}
+use Rattle.tour.proofs.Values.{walked-list}
 use Rattle.tour.proofs.Contents.{walked-then, lawful-optional, walked-if}
 use borrow.Author.Needs.{needs}
 use Rattle.tour.proofs.walk_results.Statement.{statement}
@@ -37,7 +34,7 @@ same-length c = search needs
 
 returns : tie.Need-returns
 returns c =
-    let a = (c .before .before .before .before .before .before .before .before .before .before .before .before .before .before .before .before .before .before .before .before .args) in
+    let a = c .before .before .before .before .before .before .before .before .before .before .before .before .before .before .before .before .before .before .before .before .args in
     let s = a .s .now in
     let b = bytes-all (a .s .now) (c .before .before .before .before .before .before .before .before .before .before .before .before .before .before .before .before .before .before .before .shared-slice-known .given) in
     walked-then s b (lawful-number 4 37) (c .before .before .before .before .before .before .before .before .before .before .before .before .before .before .before .before .walk-fixed .ensures) (walked-then s b (lawful-optional _ false 38 39) (walked-if none (text 38 39) (c .before .before .before .before .before .before .before .before .before .before .before .before .is-flagged .ensures) ((c .before .before .before .before .before .before .before .before .before .before .before .walk-optional .ensures) false))

@@ -15,7 +15,7 @@ same-length : tie.Need-same-length
 same-length c = search needs
 
 returns : tie.Need-returns
-returns c = let a = (c .before .before .before .before .before .before .before .before .before .before .before .args) in walked-row (a .s .now) (bytes-all (a .s .now) (c .before .before .before .before .before .before .before .before .before .before .shared-slice-known .given)) (a .types .now) (c .before .before .before .before .before .before .walk-fixed .ensures) (c .before .before .walk-cells .ensures)
+returns c = let a = c .before .before .before .before .before .before .before .before .before .before .before .args in walked-row (a .s .now) (bytes-all (a .s .now) (c .before .before .before .before .before .before .before .before .before .before .shared-slice-known .given)) (a .types .now) (c .before .before .before .before .before .before .walk-fixed .ensures) (c .before .before .walk-cells .ensures)
 
 pub walk-row-spec : {M : Type 1} → statement M
 walk-row-spec = tie.close (tie.spec walk-fixed-requires walk-cells-requires same-length returns)

@@ -1,6 +1,5 @@
 -- `tour::walk_rows` meets its contract: what is left, after what was listed, is the whole. Assumes nothing.
-use Prim.Native.Nat.{ℕ, _+_, _-_, _<_, _≤_}
-use mathlib.Core.Path.{_≡_}
+use Prim.Native.Nat.{_-_}
 use native.Mathlib.Omega.{arith}
 use Rattle.format.specs.Message.{second, row}
 use Rattle.format.proofs.Formats.{lawful-row}
@@ -18,7 +17,7 @@ abbrev μ-loop : tie.MeasureT-loop
 μ-loop s out₀ types n ix tour₀ j₀ out tour j = n - j
 
 loop-holds : tie.Need-loop-holds Inv-loop μ-loop
-loop-holds c = let a = (c .before .before .before .args) in round-first second (λ m. row (a .types .now)) _ _ _ _ _
+loop-holds c = let a = c .before .before .before .args in round-first second (λ m. row (a .types .now)) _ _ _ _ _
 
 walk-row-requires : tie.Need-walk-row-requires Inv-loop μ-loop
 walk-row-requires c κs = search needs
@@ -27,20 +26,20 @@ add-j : tie.Need-add-j Inv-loop μ-loop
 add-j c = let few = c .before .before .before .before .loop-test .taken in omega arith
 
 loop-less : tie.Need-loop-less Inv-loop μ-loop
-loop-less c = let few = (c .before .before .before .before .loop-test .taken) in omega arith
+loop-less c = let few = c .before .before .before .before .loop-test .taken in omega arith
 
 loop-again : tie.Need-loop-again Inv-loop μ-loop
 loop-again c =
-    let a = (c .before .before .before .before .before .before .before .before .before .args) in
-    let l = (c .before .before .before .before .before .loop) in
-    round-next second (λ m. row (a .types .now)) (λ m. lawful-row (a .types .now)) (a .s .now) (bytes-all (a .s .now) (c .before .before .before .before .before .before .before .before .shared-slice-known .given)) (indexOf (a .ix)) (a .n) (l .j) (c .before .before .before .before .loop-test .taken) (l .inv) ((c .before .before .walk-row .ensures)) (c .before .before .walk-row .kept .1 .0)
+    let a = c .before .before .before .before .before .before .before .before .before .args in
+    let l = c .before .before .before .before .before .loop in
+    round-next second (λ m. row (a .types .now)) (λ m. lawful-row (a .types .now)) (a .s .now) (bytes-all (a .s .now) (c .before .before .before .before .before .before .before .before .shared-slice-known .given)) (indexOf (a .ix)) (a .n) (l .j) (c .before .before .before .before .loop-test .taken) (l .inv) (c .before .before .walk-row .ensures) (c .before .before .walk-row .kept .1 .0)
 
 same-length : tie.Need-same-length Inv-loop μ-loop
 same-length c = (c .before .loop .inv .long)
 
 returns : tie.Need-returns Inv-loop μ-loop
 returns c =
-    let a = (c .before .before .before .before .before .args) in
+    let a = c .before .before .before .before .before .args in
     all-same second (a .s .now) (row (a .types .now)) (a .n) (round-last second (λ m. row (a .types .now)) _ _ _ _ _ (c .loop-test .left) (c .before .loop .inv))
 
 pub walk-rows-spec : {M : Type 1} → statement M

@@ -29,7 +29,7 @@ same-length c = (c .before .before .walk-body .kept .1 .0) ∙ ((c .before .befo
 
 returns : tie.Need-returns
 returns c =
-    let a = (c .before .before .before .before .before .before .before .before .before .before .before .before .before .before .before .before .before .before .before .before .before .before .args) in
+    let a = c .before .before .before .before .before .before .before .before .before .before .before .before .before .before .before .before .before .before .before .before .before .before .args in
     let s = a .s .now in
     let b = bytes-all (a .s .now) (c .before .before .before .before .before .before .before .before .before .before .before .before .before .before .before .before .before .before .before .before .before .shared-slice-known .given) in
     walked-server s b (walked-then s b (lawful-number 4 11) (c .before .before .before .before .before .before .before .before .before .before .before .before .before .before .before .before .before .before .walk-fixed .ensures) (walked-then s b (lawful-number 8 12) (c .before .before .before .before .before .before .before .before .before .before .before .before .before .before .walk-fixed2 .ensures)

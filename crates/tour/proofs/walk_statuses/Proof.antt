@@ -1,5 +1,5 @@
 -- `tour::walk_statuses` meets its contract: field after field. Assumes nothing.
-use mathlib.Core.Path.{_≡_, _∙_}
+use mathlib.Core.Path.{_∙_}
 use mathlib.Core.Option.{none}
 use mathlib.Core.Bool.{true}
 use Rattle.format.specs.Message.{nullText}
@@ -36,7 +36,7 @@ same-length c = (c .before .before .walk-results .kept .1 .0) ∙ ((c .before .b
 
 returns : tie.Need-returns
 returns c =
-    let a = (c .before .before .before .before .before .before .before .before .before .before .before .before .before .before .before .before .before .before .before .before .before .before .before .before .args) in
+    let a = c .before .before .before .before .before .before .before .before .before .before .before .before .before .before .before .before .before .before .before .before .before .before .before .before .args in
     let s = a .s .now in
     let b = bytes-all (a .s .now) (c .before .before .before .before .before .before .before .before .before .before .before .before .before .before .before .before .before .before .before .before .before .before .before .shared-slice-known .given) in
     walked-then s b (lawful-number 1 31) (c .before .before .before .before .before .before .before .before .before .before .before .before .before .before .before .before .before .before .before .before .walk-fixed .ensures) (walked-then s b (lawful-optional _ true 32 33) (walked-if none (nullText 32 33) (c .before .before .before .before .before .before .before .before .before .before .before .before .before .before .before .before .is-flagged .ensures) ((c .before .before .before .before .before .before .before .before .before .before .before .before .before .before .before .walk-optional .ensures) true))

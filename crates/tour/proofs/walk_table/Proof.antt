@@ -1,6 +1,6 @@
 -- `tour::walk_table` meets its contract: a room, the metadata in it, and the rows by its types. Assumes nothing.
-use mathlib.Core.Path.{_≡_, _∙_}
-use Rattle.format.specs.Message.{second, unlimited, row}
+use mathlib.Core.Path.{_∙_}
+use Rattle.format.specs.Message.{second, unlimited}
 use Rattle.format.proofs.Formats.{lawful-metadata, lawful-row}
 use Rattle.tour.proofs.Tours.{bytes-all, walked-both}
 use Rattle.tour.proofs.Values.{walked-list}
@@ -32,7 +32,7 @@ same-length c = (c .before .before .walk-rows .kept .1 .0) ∙ ((c .before .befo
 
 returns : tie.Need-returns
 returns c =
-    let a = (c .before .before .before .before .before .before .before .before .before .before .before .before .before .before .before .before .before .before .before .before .args) in
+    let a = c .before .before .before .before .before .before .before .before .before .before .before .before .before .before .before .before .before .before .before .before .args in
     let s = a .s .now in
     let b = bytes-all (a .s .now) (c .before .before .before .before .before .before .before .before .before .before .before .before .before .before .before .before .before .before .before .shared-slice-known .given) in
     walked-table s b (c .before .before .before .before .before .before .before .before .before .before .before .before .before .before .before .before .walk-fixed .ensures) (walked-both b {g = rows} lawful-metadata (c .before .before .before .before .before .before .before .before .before .before .before .walk-metadata .ensures) (λ m next e.

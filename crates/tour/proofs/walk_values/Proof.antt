@@ -1,6 +1,5 @@
 -- `tour::walk_values` meets its contract: what is left, after what was listed, is the whole. Assumes nothing.
-use Prim.Native.Nat.{ℕ, _+_, _-_, _<_, _≤_}
-use mathlib.Core.Path.{_≡_}
+use Prim.Native.Nat.{_-_}
 use native.Mathlib.Omega.{arith}
 use Rattle.format.specs.Value.{value}
 use Rattle.format.specs.Message.{second}
@@ -28,12 +27,12 @@ add-j : tie.Need-add-j Inv-loop μ-loop
 add-j c = let few = c .before .before .before .before .loop-test .taken in omega arith
 
 loop-less : tie.Need-loop-less Inv-loop μ-loop
-loop-less c = let few = (c .before .before .before .before .loop-test .taken) in omega arith
+loop-less c = let few = c .before .before .before .before .loop-test .taken in omega arith
 
 loop-again : tie.Need-loop-again Inv-loop μ-loop
 loop-again c =
-    let a = (c .before .before .before .before .before .before .before .before .args) in
-    let l = (c .before .before .before .before .before .loop) in
+    let a = c .before .before .before .before .before .before .before .before .args in
+    let l = c .before .before .before .before .before .loop in
     round-next second (λ m. value 27 28 (a .t)) (λ m. lawful-value 27 28 (a .t)) (a .s .now) (bytes-all (a .s .now) (c .before .before .before .before .before .before .before .shared-slice-known .given)) (indexOf (a .ix)) (a .n) (l .j) (c .before .before .before .before .loop-test .taken) (l .inv) (c .before .before .walk-value .ensures) (c .before .before .walk-value .kept .1 .0)
 
 same-length : tie.Need-same-length Inv-loop μ-loop
@@ -41,7 +40,7 @@ same-length c = (c .before .loop .inv .long)
 
 returns : tie.Need-returns Inv-loop μ-loop
 returns c =
-    let a = (c .before .before .before .before .args) in
+    let a = c .before .before .before .before .args in
     all-same second (a .s .now) (value 27 28 (a .t)) (a .n) (round-last second (λ m. value 27 28 (a .t)) _ _ _ _ _ (c .loop-test .left) (c .before .loop .inv))
 
 pub walk-values-spec : {M : Type 1} → statement M

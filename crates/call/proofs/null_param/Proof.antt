@@ -1,0 +1,75 @@
+-- `call::null_param` meets its contract: its tests give its plan's answer, and what it writes is its plan's. Assumes nothing.
+use Prim.Native.Nat.{ℕ, _+_, _*_, _-_, _^_, _≤_}
+use mathlib.Core.Path.{_≡_, refl, sym, ap, _∙_}
+use mathlib.Core.Bool.{Bool}
+use mathlib.Core.List.{List, _++_}
+use native.Mathlib.Omega.{arith}
+use lib.ListN.{length}
+use Rattle.format.specs.declared.Fault.the-variants.{WireType}
+use Rattle.format.specs.Number.{numBytes}
+use Rattle.format.specs.Message.{mostItems, unlimited}
+use Rattle.format.proofs.Numbers.{length-numBytes}
+use Rattle.put.specs.Put.{put, optional, sized}
+use Rattle.put.proofs.Laws.{put-nothing, puts, puts-number, puts-both}
+use Rattle.write.specs.declared.Stage.the-variants.{Call, Array, Reply, Table, Row}
+use Rattle.write.specs.State.{isElement}
+use Rattle.write.specs.Shown.{seen}
+use Rattle.write.proofs.Taken.{step-refused, step-accepted, step-taken, room, counts}
+use Rattle.write.proofs.Sound.{at-stage, between-call, between-reply, within, around, along, outer-places}
+use Rattle.write.specs.Steps.{nullParam}
+use Rattle.call.proofs.Written.{null-bytes}
+use Rattle.call.proofs.Answers.{null-answer}
+use borrow.Author.Needs.{needs}
+use Rattle.call.proofs.null_param.Statement.{statement}
+use Rattle.call.proofs.null_param.Tie as tie
+
+at-call-requires : tie.Need-at-call-requires
+at-call-requires c κs = tt
+
+one-more-requires : tie.Need-one-more-requires
+one-more-requires c κs = tt
+
+judge-requires : tie.Need-judge-requires
+judge-requires c κs = tt
+
+enum-known-a : tie.Need-enum-known-a
+enum-known-a c = search needs
+
+enum-told : tie.Need-enum-told
+enum-told c = search needs
+
+returns : tie.Need-returns
+returns c = step-refused (nullParam) (c .before .before .before .before .before .before .args .st) (c .before .before .before .before .before .before .args .out .now) (c .before .before .before .before .before .before .args .st .columns .types) (null-answer (seen (c .before .before .before .before .before .before .args .st)) (length (c .before .before .before .before .before .before .args .out .now)) (c .before .before .before .before .at-call .ensures) (c .before .before .before .one-more .ensures) (c .before .before .judge .ensures)) (c .enum-told .given .1)
+
+number-at-requires : tie.Need-number-at-requires
+number-at-requires c κs = room (step-accepted (nullParam) (c .before .before .before .before .before .before .before .before .args .st) (c .before .before .before .before .before .before .before .before .args .out .now) (c .before .before .before .before .before .before .before .before .args .st .columns .types) (null-answer (seen (c .before .before .before .before .before .before .before .before .args .st)) (length (c .before .before .before .before .before .before .before .before .args .out .now)) (c .before .before .before .before .before .before .at-call .ensures) (c .before .before .before .before .before .one-more .ensures) (c .before .before .before .before .judge .ensures)) (c .before .before .a .given .1)) (ap length null-bytes ∙ length-numBytes 1 1)
+
+add-between : tie.Need-add-between
+add-between c =
+    let h : c .before .before .before .before .before .before .before .before .before .before .before .before .args .st .count + 1 ≤ mostItems = counts (c .before .before .before .before .before .before .before .before .before .before .before .before .args .st .count) mostItems (step-accepted (nullParam) (c .before .before .before .before .before .before .before .before .before .before .before .before .args .st) (c .before .before .before .before .before .before .before .before .before .before .before .before .args .out .now) (c .before .before .before .before .before .before .before .before .before .before .before .before .args .st .columns .types) (null-answer (seen (c .before .before .before .before .before .before .before .before .before .before .before .before .args .st)) (length (c .before .before .before .before .before .before .before .before .before .before .before .before .args .out .now)) (c .before .before .before .before .before .before .before .before .before .before .at-call .ensures) (c .before .before .before .before .before .before .before .before .before .one-more .ensures) (c .before .before .before .before .before .before .before .before .judge .ensures)) (c .before .before .before .before .before .before .a .given .1)) refl in
+    omega arith
+
+between-requires : tie.Need-between-requires
+between-requires c κs = tt
+
+same-length : tie.Need-same-length
+same-length c = search needs
+
+returns-2 : tie.Need-returns-2
+returns-2 c = step-taken (nullParam) (c .before .before .before .before .before .before .before .before .before .before .before .before .before .args .st) (c .before .before .before .before .before .before .before .before .before .before .before .before .before .args .out .now) (c .before .before .before .before .before .before .before .before .before .before .before .before .before .args .st .columns .types) (null-answer (seen (c .before .before .before .before .before .before .before .before .before .before .before .before .before .args .st)) (length (c .before .before .before .before .before .before .before .before .before .before .before .before .before .args .out .now)) (c .before .before .before .before .before .before .before .before .before .before .before .at-call .ensures) (c .before .before .before .before .before .before .before .before .before .before .one-more .ensures) (c .before .before .before .before .before .before .before .before .before .judge .ensures)) (c .before .before .before .before .before .before .before .a .given .1) (c .between .ensures) (c .before .before .before .before .number-at .ensures .1 ∙ sym (ap (λ (bs : List ℕ). put (c .before .before .before .before .before .before .before .before .before .before .before .before .before .args .out .now) (c .before .before .before .before .before .before .before .before .before .before .before .before .before .args .st .position) bs) null-bytes))
+
+pub null-param-spec : {M : Type 1} → statement M
+null-param-spec =
+    tie.close
+    (tie.spec
+    at-call-requires
+    one-more-requires
+    judge-requires
+    enum-known-a
+    enum-told
+    returns
+    number-at-requires
+    add-between
+    between-requires
+    same-length
+    returns-2)

@@ -1,0 +1,109 @@
+// Leaf writers. Each writes into the part of the output that it is lent, from the part's start; the functions at a place lend that part.
+ghost use mathlib.Core.Path.{_≡_};
+ghost use Prim.Native.Nat.{_+_, _*_, _^_, _≤_};
+ghost use mathlib.Core.List.{_++_};
+ghost use lib.ListN.{length, drop};
+ghost use Rattle.format.specs.Number.{numBytes};
+ghost use Rattle.format.specs.Value.{widthOf};
+ghost use Rattle.put.specs.Put.{put, optional, sized};
+
+const NULL: u64 = 0xffff_ffff;
+
+// Writes the k bytes of a number.
+pub fn put_number(out: &mut [u8], n: u64, k: usize)
+    requires { ⌜ k ≤ length (now out) ⌝ }
+    ensures { λ _. ⌜ now (out .exit) ≡ numBytes k n ++ drop k (now (out .entry)) ⌝ }
+{
+    let mut rest = n;
+    let mut i = k;
+    while 0 < i {
+        i -= 1;
+        out[i] = (rest % 256) as u8;
+        rest = rest / 256;
+    }
+}
+
+// Writes bytes as they are.
+pub fn put_bytes(out: &mut [u8], s: &[u8])
+    requires { ⌜ length (now s) ≤ length (now out) ⌝ }
+    ensures { λ _. ⌜ now (out .exit) ≡ now (s .entry) ++ drop (length (now (s .entry))) (now (out .entry)) ⌝ }
+{
+    let mut i = 0;
+    while i < s.len() {
+        out[i] = s[i];
+        i += 1;
+    }
+}
+
+// Writes a value of a fixed size, by its upper and lower 64 bits.
+pub fn put_fixed(out: &mut [u8], t: u8, upper: u64, lower: u64)
+    requires { ⌜ widthOf t ≤ length (now out) ⌝ }
+    ensures { λ _. ⌜ now (out .exit) ≡ numBytes (widthOf t) (upper * 2 ^ 64 + lower) ++ drop (widthOf t) (now (out .entry)) ⌝ }
+{
+    let width = scan::width_of(t);
+    if width == 16 {
+        put_number(out, upper, 8);
+        put_number(&mut out[8..], lower, 8);
+        return;
+    }
+    put_number(out, lower, width);
+}
+
+// Writes a length and so many bytes, or -1 for null.
+pub fn put_text(out: &mut [u8], null: bool, s: &[u8])
+    requires { ⌜ length (sized (optional null (now s))) ≤ length (now out) ⌝ }
+    ensures { λ _. ⌜ now (out .exit) ≡ sized (optional null (now (s .entry))) ++ drop (length (sized (optional null (now (s .entry))))) (now (out .entry)) ⌝ }
+{
+    if null {
+        put_number(out, NULL, 4);
+        return;
+    }
+    put_number(out, s.len() as u64, 4);
+    put_bytes(&mut out[4..], s);
+}
+
+// Writes the k bytes of a number at a place, and says where they end.
+pub fn number_at(out: &mut [u8], at: usize, n: u64, k: usize) -> usize
+    requires { ⌜ at + k ≤ length (now out) ⌝ }
+    ensures { λ r. ⌜ (r ≡ at + k) × (now (out .exit) ≡ put (now (out .entry)) at (numBytes k n)) ⌝ }
+{
+    put_number(&mut out[at..], n, k);
+    at + k
+}
+
+// Writes bytes at a place, and says where they end.
+pub fn bytes_at(out: &mut [u8], at: usize, s: &[u8]) -> usize
+    requires { ⌜ at + length (now s) ≤ length (now out) ⌝ }
+    ensures { λ r. ⌜ (r ≡ at + length (now (s .entry))) × (now (out .exit) ≡ put (now (out .entry)) at (now (s .entry))) ⌝ }
+{
+    put_bytes(&mut out[at..], s);
+    at + s.len()
+}
+
+// Writes a value of a fixed size at a place, and says where it ends.
+pub fn fixed_at(out: &mut [u8], at: usize, t: u8, upper: u64, lower: u64) -> usize
+    requires { ⌜ at + widthOf t ≤ length (now out) ⌝ }
+    ensures { λ r. ⌜ (r ≡ at + widthOf t) × (now (out .exit) ≡ put (now (out .entry)) at (numBytes (widthOf t) (upper * 2 ^ 64 + lower))) ⌝ }
+{
+    put_fixed(&mut out[at..], t, upper, lower);
+    at + scan::width_of(t)
+}
+
+// How many bytes a length and its bytes have.
+pub fn text_size(null: bool, s: &[u8]) -> usize
+    ensures { λ r. ⌜ r ≡ length (sized (optional null (now (s .entry)))) ⌝ }
+{
+    if null {
+        return 4;
+    }
+    4 + s.len()
+}
+
+// Writes a length and so many bytes, or -1 for null, at a place, and says where they end.
+pub fn text_at(out: &mut [u8], at: usize, null: bool, s: &[u8]) -> usize
+    requires { ⌜ at + length (sized (optional null (now s))) ≤ length (now out) ⌝ }
+    ensures { λ r. ⌜ (r ≡ at + length (sized (optional null (now (s .entry))))) × (now (out .exit) ≡ put (now (out .entry)) at (sized (optional null (now (s .entry))))) ⌝ }
+{
+    put_text(&mut out[at..], null, s);
+    at + text_size(null, s)
+}

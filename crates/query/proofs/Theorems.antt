@@ -1,0 +1,117 @@
+-- What the definitions of specs/Answers.antt amount to: an answer is decided by what it says, a search finds the first equal name, and a cell is the
+-- bytes that stand at its place. (proofs/Listed.antt has the same beside the field list.)
+use Prim.Native.Nat.{ℕ, zero, suc, _+_, _<_}
+use mathlib.Core.Path.{_≡_, refl, sym, _∙_, ap}
+use mathlib.Core.Bool.{Bool, true, false, false≢true, true≢false}
+use mathlib.Core.List.{List, [], _∷_, _++_}
+use mathlib.Core.Option.{Option, some, none}
+use lib.ListN.{length, take, drop}
+use lib.Seq.{take-at, drop-at}
+use native.Mathlib.Omega.{arith}
+use Rattle.format.specs.declared.Fault.{Fault}
+use Rattle.format.specs.declared.Refusal.{Refusal}
+use Rattle.format.specs.Result.{Res, ok, no, pick}
+use Rattle.format.specs.Value.{Value, value, body}
+use Rattle.format.proofs.Results.{ok-same, no-ok}
+use Rattle.scan.specs.Shown.{refusal}
+use Rattle.show.specs.declared.Cell.{Cell}
+use Rattle.query.specs.declared.Count.{Count}
+use Rattle.query.specs.declared.TableLayout.{TableLayout}
+use Rattle.query.specs.declared.TableAnswer.{TableAnswer}
+use Rattle.query.specs.declared.ColumnLayout.{ColumnLayout}
+use Rattle.query.specs.declared.ColumnAnswer.{ColumnAnswer}
+use Rattle.query.specs.declared.Position.{Position}
+use Rattle.query.specs.declared.CellAnswer.{CellAnswer}
+use Rattle.query.specs.declared.Part.{Part}
+use Rattle.query.specs.declared.Argued.{Argued}
+use Rattle.query.specs.Answers.{Here, Given, entry, same, isNamed, firstNamed, shownHere, partOf, partIn, toldCount, toldTable, toldColumn, toldPosition, toldCell, toldPart, toldArgument}
+use Rattle.query.proofs.Names.{same-yes, same-true}
+use Rattle.query.proofs.Parts.{part-stands}
+use Rattle.query.proofs.Opened.{Shows}
+
+-- ---- two answers that say the same are the same: what each says can be told back
+module _ {A B : Type 0} (told : A → B) (back : B → A) (is : (a : A) → back (told a) ≡ a) where
+  once : (a b : A) → told a ≡ told b → a ≡ b
+  once a b e = sym (is a) ∙ ap back e ∙ is b
+
+module _ {A B : Type 0} (yes : B → A) (not : Refusal → A) where
+  abbrev answer : Res B → A
+  answer (ok b) = yes b
+  answer (no f p) = not (refusal f p)
+
+pub count-once : (a b : Count) → toldCount a ≡ toldCount b → a ≡ b
+count-once = once toldCount (answer Count.Is Count.No) (elim [ Count.Is n ↦ refl | Count.No r ↦ refl ])
+
+pub table-once : (a b : TableAnswer) → toldTable a ≡ toldTable b → a ≡ b
+table-once = once toldTable (answer TableAnswer.Is TableAnswer.No) (elim [ TableAnswer.Is l ↦ refl | TableAnswer.No r ↦ refl ])
+
+pub column-once : (a b : ColumnAnswer) → toldColumn a ≡ toldColumn b → a ≡ b
+column-once = once toldColumn (answer ColumnAnswer.Is ColumnAnswer.No) (elim [ ColumnAnswer.Is l ↦ refl | ColumnAnswer.No r ↦ refl ])
+
+pub position-once : (a b : Position) → toldPosition a ≡ toldPosition b → a ≡ b
+position-once = once toldPosition (answer Position.At Position.No) (elim [ Position.At i ↦ refl | Position.No r ↦ refl ])
+
+pub cell-once : (a b : CellAnswer) → toldCell a ≡ toldCell b → a ≡ b
+cell-once = once toldCell (answer CellAnswer.Is CellAnswer.No) (elim [ CellAnswer.Is c ↦ refl | CellAnswer.No r ↦ refl ])
+
+abbrev spanned : Option (ℕ × ℕ) → Part
+spanned none = Part.Null
+spanned (some p) = Part.Is (p .0) (p .1)
+
+pub part-once : (a b : Part) → toldPart a ≡ toldPart b → a ≡ b
+part-once = once toldPart (answer spanned Part.No) (elim [ Part.Is start size ↦ refl | Part.Null ↦ refl | Part.No r ↦ refl ])
+
+abbrev argued : Given → Argued
+argued Given.nothing = Argued.Null
+argued (Given.value c) = Argued.One c
+argued (Given.list t n) = Argued.Array t n
+
+pub argument-once : (a b : Argued) → toldArgument a ≡ toldArgument b → a ≡ b
+argument-once = once toldArgument (answer argued Argued.No) (elim [ Argued.Null ↦ refl | Argued.One c ↦ refl | Argued.Array t n ↦ refl | Argued.No r ↦ refl ])
+
+-- ---- a search finds the first equal name, and fails only where there is none
+module _ (name : List ℕ) where
+  named-is : (n : Option (List ℕ)) → isNamed name n ≡ true → n ≡ some name
+  named-is none e = absurd (false≢true e)
+  named-is (some bs) e = ap some (same-true bs name e)
+
+  named-not : (n : Option (List ℕ)) → isNamed name n ≡ false → ok n ≡ ok (some name) → ⊥
+  named-not n e f = true≢false (sym (same-yes name) ∙ (sym (ap (isNamed name) (ok-same f)) ∙ e))
+
+  pub record First (ns : List (Option (List ℕ))) (l : ℕ) : Type 0 where
+    pub there : entry ns l ≡ ok (some name)
+    pub none-before : (k : ℕ) → k < l → entry ns k ≡ ok (some name) → ⊥
+
+  first-from : (ns : List (Option (List ℕ))) (i j : ℕ) → firstNamed name ns i ≡ ok j → (l : ℕ) × (j ≡ i + l) × First ns l
+  unfolding firstNamed
+  first-from [] i j e = absurd (no-ok e)
+  first-from (n ∷ ns) i j e = by-name (λ h. first-from ns (i + 1) j h) (isNamed name n) refl e
+    where
+      by-name : (firstNamed name ns (i + 1) ≡ ok j → (l : ℕ) × (j ≡ i + 1 + l) × First ns l) → (b : Bool) → isNamed name n ≡ b → pick b (ok i) (firstNamed name ns (i + 1)) ≡ ok j → (l : ℕ) × (j ≡ i + l) × First (n ∷ ns) l
+      by-name others true is h = (0, omega (arith, ok-same h), record { there = ap ok (named-is n is); none-before = λ k l. absurd (omega arith) })
+      by-name others false is h =
+          let w = others h in
+          (suc (w .0), omega (arith, w .1), record { there = w .2 .there; none-before = elim [ zero ↦ λ l f. named-not n is f | suc k ↦ λ l f. w .2 .none-before k (omega arith) f ] })
+
+  pub finds-first : (ns : List (Option (List ℕ))) (j : ℕ) → firstNamed name ns 0 ≡ ok j → First ns j
+  finds-first ns j e = let w = first-from ns 0 j e in let same : j ≡ w .0 = omega (arith, w .1) in rw same (w .2)
+
+  pub finds-none : (ns : List (Option (List ℕ))) (i : ℕ) {f : Fault} {p : ℕ} → firstNamed name ns i ≡ no f p → (k : ℕ) → entry ns k ≡ ok (some name) → ⊥
+  unfolding firstNamed
+  finds-none [] i e k h = no-ok h
+  finds-none (n ∷ ns) i {f} {p} e k h = by-name (λ g. finds-none ns (i + 1) g) (isNamed name n) refl e k h
+    where
+      by-name : (firstNamed name ns (i + 1) ≡ no f p → (k : ℕ) → entry ns k ≡ ok (some name) → ⊥) → (b : Bool) → isNamed name n ≡ b → pick b (ok i) (firstNamed name ns (i + 1)) ≡ no f p → (k : ℕ) → entry (n ∷ ns) k ≡ ok (some name) → ⊥
+      by-name others true is h k there = no-ok (sym h)
+      by-name others false is h zero there = named-not n is there
+      by-name others false is h (suc k) there = others h k there
+
+-- ---- a cell, a parameter's value or an element is the bytes at its place, and a part of it is its body
+module _ (m : List ℕ) (h : Here) (w : Shows m h) where
+  pub bytes-there : take (length (value (w .length-field) (w .body-field) (h .type) .bytes (h .value))) (drop (h .at) m) ≡ value (w .length-field) (w .body-field) (h .type) .bytes (h .value)
+  bytes-there =
+      let d = w .stands in
+      rw (← d .whole, drop-at (d .before) (value (w .length-field) (w .body-field) (h .type) .bytes (h .value) ++ d .after) (h .at) (d .start), take-at (value (w .length-field) (w .body-field) (h .type) .bytes (h .value)) (d .after) _ refl)
+
+  pub part-is-value : (p : ℕ × ℕ) → partOf (h .type-at) (shownHere h) ≡ ok (some p) → h .value ≡ body (some (partIn m (ok (some p))))
+  part-is-value p e = part-stands (w .length-field) (w .body-field) (h .type) (h .type-at) (h .value) (w .stands) e .1

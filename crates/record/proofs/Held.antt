@@ -1,0 +1,146 @@
+-- Where an accepted message's strings and blocks are shown, their bytes stand. The numbers are shown as the signed numbers of their fields by definition.
+use Prim.Native.Nat.{ℕ, _+_, _%_}
+use mathlib.Core.Path.{_≡_, sym, _∙_, ap, subst}
+use mathlib.Core.Bool.{Bool, true, false}
+use mathlib.Core.List.{List}
+use mathlib.Core.Option.{Option, some, none}
+use lib.ListN.{length, take, drop}
+use lib.Dec.{eqb}
+use Rattle.format.specs.declared.Fault.the-variants.{Flags}
+use Rattle.format.specs.Result.{ok}
+use Rattle.format.specs.Number.{Bytes, numBytes}
+use Rattle.format.specs.Format.{number, block, ruled, both, present, nothing}
+use Rattle.format.specs.Message as wire
+use Rattle.format.specs.Message.{Message, Server, contentOf, readMessage, loginRequest, loginResponse, server, noServer, invocation, response, text, edition, flagged, list, mostItems, first, param}
+use Rattle.format.proofs.Numbers.{numBytes-numAt}
+use Rattle.format.proofs.Results.{ok-same}
+use Rattle.scan.proofs.Answers.{took}
+use Rattle.record.specs.Places.{afterText, afterNote, afterByte}
+use Rattle.record.specs.Records.{loginRequestOf, loginResponseOf, invocationOf, responseOf}
+use Rattle.record.proofs.Holds.{Holds, HoldsNote, text-held, block-held}
+use Rattle.record.proofs.Says.{both-parts, into-parts, ruled-part, number-says, number-both, ruled-both, block-both, text-both, note-both, said}
+use Rattle.record.proofs.Records.{Tables, Excepted, Tripped, Applied, Stated, Flagged, Rest}
+
+-- ---- kind 1
+abbrev pub LoginRequestHeld : List ℕ → ℕ → wire.LoginRequest → Type 0
+LoginRequestHeld m v l = Holds m (loginRequestOf v l .service) (l .service) × Holds m (loginRequestOf v l .user) (l .user) × Holds m (loginRequestOf v l .hash) (some (l .hash))
+
+module _ (m : List ℕ) where
+  byte-ends : (t : Bool) (h : Option ℕ) (mid : ℕ) → present t 0 (edition 3) .read m 5 ≡ ok (h, mid) → mid ≡ afterByte 5 h
+  unfolding present nothing
+  byte-ends true h mid e =
+      let p = into-parts m some _ (edition 3) 5 h mid e in
+      number-says m 5 1 3 (p .0) mid (ruled-part m _ _ (number 1 3) 5 (p .0) mid (p .1)) .1 ∙ ap (afterByte 5) (p .2)
+  byte-ends false h mid e =
+      let same = ok-same e in
+      sym (ap (λ (w : Option ℕ × ℕ). w .1) same) ∙ ap (λ (w : Option ℕ × ℕ). afterByte 5 (w .0)) same
+
+  login-held : (v : ℕ) (l : wire.LoginRequest) (end : ℕ) → loginRequest v .read m 5 ≡ ok (l, end) → LoginRequestHeld m v l
+  unfolding loginRequest
+  login-held v l end e =
+      let p = into-parts m _ _ (both (present (eqb v 1) 0 (edition 3)) Rest) 5 l end e in
+      let h = p .0 .0 in
+      let a = p .0 .1 in
+      let q = both-parts m (present (eqb v 1) 0 (edition 3)) Rest 5 (p .0) end (p .1) in
+      let at = afterByte 5 h in
+      let rest = ap (λ (n : ℕ). Rest h .read m n) (sym (byte-ends (eqb v 1) h (q .0) (q .1))) ∙ q .2 in
+      let q₁ = text-both m at false 4 5 (λ s. both (text 6 7) (λ u. block (wire.hashSize h) 8)) a end rest in
+      let q₂ = text-both m (afterText at (a .0)) false 6 7 (λ u. block (wire.hashSize h) 8) (a .1) end (q₁ .1) in
+      let q₃ = block-held m (afterText (afterText at (a .0)) (a .1 .0)) (wire.hashSize h) 8 (a .1 .1) end (q₂ .1) in
+      subst (LoginRequestHeld m v) (p .2) (q₁ .2, q₂ .2, q₃)
+
+  pub login-request-held : (r : Message) → readMessage 1 m ≡ ok r → LoginRequestHeld m (r .version) (wire.loginRequest-of (r .content))
+  unfolding contentOf
+  login-request-held r e =
+      let p = into-parts m wire.aLoginRequest _ (loginRequest (r .version)) 5 (r .content) (length m) (said 1 m r e .content) in
+      subst (λ (c : wire.Content). LoginRequestHeld m (r .version) (wire.loginRequest-of c)) (p .2) (login-held (r .version) (p .0) (length m) (p .1))
+
+-- ---- kind 2: after a result of 0 the leader and the build string
+abbrev pub ServerHeld : List ℕ → ℕ → ℕ → Option Server → Type 0
+ServerHeld m v r none = Unit
+ServerHeld m v r (some x) = (take 4 (drop 26 m) ≡ loginResponseOf v r (some x) .leader) × Holds m (loginResponseOf v r (some x) .build) (x .build)
+
+module _ (m : List ℕ) (bytes : Bytes m) where
+  server-held : (v r : ℕ) (x : Server) (end : ℕ) → server .read m 6 ≡ ok (x, end) → ServerHeld m v r (some x)
+  unfolding server
+  server-held v r x end e =
+      let p = into-parts m _ _ (both (number 4 11) (λ a. both (number 8 12) (λ b. both (number 8 13) (λ c. both (number 4 14) (λ d. text 15 16))))) 6 x end e in
+      let a = p .0 in
+      let q₁ = number-both m 6 4 11 (λ a. both (number 8 12) (λ b. both (number 8 13) (λ c. both (number 4 14) (λ d. text 15 16)))) a end (p .1) in
+      let q₂ = number-both m 10 8 12 (λ b. both (number 8 13) (λ c. both (number 4 14) (λ d. text 15 16))) (a .1) end (q₁ .1) in
+      let q₃ = number-both m 18 8 13 (λ c. both (number 4 14) (λ d. text 15 16)) (a .1 .1) end (q₂ .1) in
+      let q₄ = both-parts m (number 4 14) (λ d. text 15 16) 26 (a .1 .1 .1) end (q₃ .1) in
+      let t = took 4 14 m 26 (a .1 .1 .1 .0) (q₄ .0) (q₄ .1) in
+      let leader : take 4 (drop 26 m) ≡ numBytes 4 (a .1 .1 .1 .0) = sym (ap (numBytes 4) (t .value) ∙ numBytes-numAt 4 m bytes 26 (t .fit)) in
+      let build = ap (λ (n : ℕ). text 15 16 .read m n) (sym (t .place)) ∙ q₄ .2 in
+      subst (λ (y : Server). ServerHeld m v r (some y)) (p .2) (leader, text-held m 30 false 15 16 (a .1 .1 .1 .1) end build)
+
+  result-held : (t : Bool) (v r : ℕ) (o : Option Server) (end : ℕ) → present t noServer server .read m 6 ≡ ok (o, end) → ServerHeld m v r o
+  unfolding present nothing
+  result-held true v r o end e =
+      let p = into-parts m some _ server 6 o end e in
+      subst (ServerHeld m v r) (p .2) (server-held v r (p .0) end (p .1))
+  result-held false v r o end e = subst (ServerHeld m v r) (ap (λ (w : Option Server × ℕ). w .0) (ok-same e)) tt
+
+  pub login-response-held : (r : Message) → readMessage 2 m ≡ ok r → ServerHeld m (r .version) (wire.loginResponse-of (r .content) .result) (wire.loginResponse-of (r .content) .server)
+  unfolding contentOf loginResponse
+  login-response-held r e =
+      let p = into-parts m wire.aLoginResponse _ loginResponse 5 (r .content) (length m) (said 2 m r e .content) in
+      let w = into-parts m _ _ (both (number 1 10) (λ r. present (eqb r 0) noServer server)) 5 (p .0) (length m) (p .1) in
+      let q = number-both m 5 1 10 (λ r. present (eqb r 0) noServer server) (w .0) (length m) (w .1) in
+      subst (λ (c : wire.Content). ServerHeld m (r .version) (wire.loginResponse-of c .result) (wire.loginResponse-of c .server)) (p .2)
+      (subst (λ (l : wire.LoginResponse). ServerHeld m (r .version) (l .result) (l .server)) (w .2)
+      (result-held (eqb (w .0 .0) 0) (r .version) (w .0 .0) (w .0 .1) (length m) (q .1)))
+
+-- ---- kind 3
+abbrev pub InvocationHeld : List ℕ → ℕ → wire.Invocation → Type 0
+InvocationHeld m v l = Holds m (invocationOf v l .procedure) (l .procedure) × (take (length (l .client)) (drop (afterText 5 (l .procedure)) m) ≡ l .client)
+
+-- ---- kind 4
+abbrev pub ResponseHeld : List ℕ → ℕ → wire.Response → Type 0
+ResponseHeld m v l =
+    (take (length (l .client)) (drop 5 m) ≡ l .client)
+    × HoldsNote m (responseOf v l .«status_string») (l .statusString)
+    × HoldsNote m (responseOf v l .«app_string») (l .appString)
+    × HoldsNote m (responseOf v l .exception) (l .exception)
+
+module _ (m : List ℕ) where
+  call-held : (v : ℕ) (l : wire.Invocation) (end : ℕ) → invocation .read m 5 ≡ ok (l, end) → InvocationHeld m v l
+  unfolding invocation
+  call-held v l end e =
+      let p = into-parts m _ _ (both (text 20 21) (λ p. both (block 8 22) (λ c. list 2 mostItems 23 first param))) 5 l end e in
+      let a = p .0 in
+      let q₁ = text-both m 5 false 20 21 (λ p. both (block 8 22) (λ c. list 2 mostItems 23 first param)) a end (p .1) in
+      let q₂ = block-both m (afterText 5 (a .0)) 22 (λ c. list 2 mostItems 23 first param) (a .1) end (q₁ .1) in
+      subst (InvocationHeld m v) (p .2) (q₁ .2, q₂ .2)
+
+  pub invocation-held : (r : Message) → readMessage 3 m ≡ ok r → InvocationHeld m (r .version) (wire.invocation-of (r .content))
+  unfolding contentOf
+  invocation-held r e =
+      let p = into-parts m wire.anInvocation _ invocation 5 (r .content) (length m) (said 3 m r e .content) in
+      subst (λ (c : wire.Content). InvocationHeld m (r .version) (wire.invocation-of c)) (p .2) (call-held (r .version) (p .0) (length m) (p .1))
+
+  reply-held : (v : ℕ) (l : wire.Response) (end : ℕ) → response .read m 5 ≡ ok (l, end) → ResponseHeld m v l
+  unfolding response
+  reply-held v l end e =
+      let p = into-parts m _ _ (both (block 8 22) (λ c. both (ruled (λ n. eqb (n % 32) 0) Flags (number 1 30)) Flagged)) 5 l end e in
+      let a = p .0 in
+      let c = block-both m 5 22 (λ c. both (ruled (λ n. eqb (n % 32) 0) Flags (number 1 30)) Flagged) a end (p .1) in
+      let f = ruled-both m 13 (λ n. eqb (n % 32) 0) Flags 1 30 Flagged (a .1) end (c .1) in
+      let flags = a .1 .0 in
+      let s = number-both m 14 1 31 (λ s. Stated flags) (a .1 .1) end (f .1) in
+      let w = a .1 .1 .1 in
+      let t = note-both m 15 (flagged 32 flags) true 32 33 (λ t. both (number 1 34) (λ a. Applied flags)) w end (s .1) in
+      let app = afterNote 15 (w .0) in
+      let b = number-both m app 1 34 (λ a. Applied flags) (w .1) end (t .1) in
+      let u = note-both m (app + 1) (flagged 128 flags) true 35 36 (λ u. Tripped flags) (w .1 .1) end (b .1) in
+      let trip = afterNote (app + 1) (w .1 .1 .0) in
+      let r = number-both m trip 4 37 (λ r. Excepted flags) (w .1 .1 .1) end (u .1) in
+      let x = note-both m (trip + 4) (flagged 64 flags) false 38 39 (λ x. Tables) (w .1 .1 .1 .1) end (r .1) in
+      subst (ResponseHeld m v) (p .2) (c .2, t .2, u .2, x .2)
+
+  pub response-held : (r : Message) → readMessage 4 m ≡ ok r → ResponseHeld m (r .version) (wire.response-of (r .content))
+  unfolding contentOf
+  response-held r e =
+      let p = into-parts m wire.aResponse _ response 5 (r .content) (length m) (said 4 m r e .content) in
+      subst (λ (c : wire.Content). ResponseHeld m (r .version) (wire.response-of c)) (p .2) (reply-held (r .version) (p .0) (length m) (p .1))

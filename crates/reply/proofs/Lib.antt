@@ -1,0 +1,2 @@
+-- The proofs. Where the steps that close fill (Closings).
+pub mod Closings

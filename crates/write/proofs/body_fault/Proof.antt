@@ -1,0 +1,55 @@
+-- `write::body_fault` meets its contract: the type, the length's limit, then a geography's rule. Assumes nothing.
+use Prim.Native.Nat.{ℕ, _+_, _*_, _^_}
+use mathlib.Core.Path.{_≡_, refl, sym, ap, ap₂, _∙_}
+use mathlib.Core.Bool.{Bool, true, false, not, _||_}
+use mathlib.Core.Logic.{⊎-elim, inl, inr}
+use lib.ListN.{length}
+use lib.Dec.{leb, eqb}
+use borrow.Author.Tests.{ne-eqb, eq-eqb}
+use Rattle.format.specs.declared.Fault.the-variants.{Limit, WireType, Decimal, Point, Geography}
+use Rattle.format.specs.Result.{pick}
+use Rattle.format.specs.Format.{Verdict, fine}
+use Rattle.format.specs.Value.{isCounted, widthOf, fixedFine, decimalFine, pointFine, mostBytes, tDecimal}
+use Rattle.write.specs.Steps.{test, also, valueFault}
+use Rattle.write.specs.Shown.{emptyFault}
+use Rattle.write.proofs.Bytes.{text-limit, body-fault, empty-is}
+use borrow.Author.Needs.{needs}
+use Rattle.write.proofs.body_fault.Statement.{statement}
+use Rattle.write.proofs.body_fault.Tie as tie
+
+is-counted-requires : tie.Need-is-counted-requires
+is-counted-requires c κs = search needs
+
+test-requires : tie.Need-test-requires
+test-requires c κs = search needs
+
+null-text-fault-requires : tie.Need-null-text-fault-requires
+null-text-fault-requires c κs = search needs
+
+empty-fault-requires : tie.Need-empty-fault-requires
+empty-fault-requires c κs = search needs
+
+also-requires : tie.Need-also-requires
+also-requires c κs = search needs
+
+also-requires-2 : tie.Need-also-requires-2
+also-requires-2 c κs = search needs
+
+returns : tie.Need-returns
+unfolding valueFault
+returns c =
+    let a = c .before .before .before .before .before .before .before .args in
+    c .also2 .ensures ∙ ap₂ also (c .before .before .before .before .test .ensures ∙ ap (λ (b : Bool). test b WireType (a .at)) (c .before .before .before .before .before .is-counted .ensures))
+    (c .before .also .ensures ∙ ap₂ also (c .before .before .before .null-text-fault .ensures) (c .before .before .empty-fault .ensures) ∙ sym (body-fault (a .at) (a .t) (a .null) (a .s .now)))
+
+pub body-fault-spec : {M : Type 1} → statement M
+body-fault-spec =
+    tie.close
+    (tie.spec
+    is-counted-requires
+    test-requires
+    null-text-fault-requires
+    empty-fault-requires
+    also-requires
+    also-requires-2
+    returns)
