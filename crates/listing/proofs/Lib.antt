@@ -1,1 +1,2 @@
+-- The proofs: numbers as text.
 pub mod Spelled

@@ -1,3 +1,4 @@
+-- The proofs: values that stand at places, lists of them, layouts, names, and what each question finds.
 pub mod Stands
 pub mod Lists
 pub mod Layouts

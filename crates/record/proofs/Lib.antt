@@ -1,3 +1,4 @@
+-- The proofs: what is read at a place, what a record says, that shown places hold their bytes, and that contracts decide.
 pub mod Fields
 pub mod Holds
 pub mod Says

@@ -1,3 +1,4 @@
+-- The proofs: floats, ranges, bodies, and that a shown value keeps every bit.
 pub mod Floats
 pub mod Range
 pub mod Bodies

@@ -1,0 +1,145 @@
+/* Proved against plain C: both run in turn, in one process, on the same buffers, and have to answer alike.
+
+     bench short    a few runs at small sizes
+     bench table    each shape at its full size: time of both and their ratio
+     bench sweep    each shape from 1 KB to 4 MB: time per byte of both */
+#include "plain_rules.h"
+#include "shapes.h"
+#include <chaloenpik.h>
+#include <stdio.h>
+#include <stdlib.h>
+#include <time.h>
+
+enum { MOST_SIZE = MOST_MESSAGE + 4, MOST_RUNS = 31, LEAST_BYTES_A_RUN = 1 << 20 };
+
+/* The longest list is one of cells of one byte, with a row length for each. */
+enum { MOST_NUMBERS = 6 * 2200000 };
+
+static uint8_t message[MOST_SIZE];
+static uint64_t plain_list[MOST_NUMBERS], proved_list[MOST_NUMBERS];
+
+static double now_ns(void) {
+    struct timespec t;
+    clock_gettime(CLOCK_MONOTONIC, &t);
+    return (double)t.tv_sec * 1e9 + (double)t.tv_nsec;
+}
+
+/* One thing to ask of a message, of the plain program and of the proved one. The answers must be equal, and so must what they wrote. */
+typedef struct {
+    const char *name;
+    uint64_t (*plain)(const uint8_t *m, size_t size);
+    uint64_t (*proved)(const uint8_t *m, size_t size);
+    bool (*alike)(uint64_t answer);
+} question;
+
+static uint64_t packed(plain_refusal no) { return no.number + ((uint64_t)no.place << 8); }
+
+static uint64_t accept_plain(const uint8_t *m, size_t size) { return packed(plain_accept(m, size)); }
+
+static uint64_t accept_proved(const uint8_t *m, size_t size) { return chaloenpik_accept(CHALOENPIK_RESPONSE, m, size); }
+
+/* The whole list in one window. */
+static uint64_t list_plain(const uint8_t *m, size_t size) {
+    size_t taken = 0;
+    plain_refusal no = plain_fields(m, size, 0, plain_list, MOST_NUMBERS, &taken);
+    return no.number != 0 ? packed(no) : (uint64_t)taken << 8;
+}
+
+static uint64_t list_proved(const uint8_t *m, size_t size) {
+    return chaloenpik_fields(CHALOENPIK_RESPONSE, m, size, 0, proved_list, MOST_NUMBERS);
+}
+
+static bool nothing_written(uint64_t answer) {
+    (void)answer;
+    return true;
+}
+
+static bool lists_alike(uint64_t answer) {
+    if (chaloenpik_refusal(answer) != 0) return true;
+    return memcmp(plain_list, proved_list, chaloenpik_value(answer) * 6 * sizeof *plain_list) == 0;
+}
+
+static const question questions[] = {
+    {"accept", accept_plain, accept_proved, nothing_written},
+    {"list", list_plain, list_proved, lists_alike},
+};
+
+static int by_size(const void *a, const void *b) {
+    double x = *(const double *)a, y = *(const double *)b;
+    return (x > y) - (x < y);
+}
+
+static double median(double *times, size_t count) {
+    qsort(times, count, sizeof *times, by_size);
+    return times[count / 2];
+}
+
+/* Nanoseconds of one call, as the mean of so many. */
+static double timed(uint64_t (*ask)(const uint8_t *, size_t), size_t size, size_t calls, uint64_t *answer) {
+    double start = now_ns();
+    for (size_t n = 0; n < calls; n++) {
+        *answer = ask(message, size);
+        __asm__ volatile("" : : "r"(*answer) : "memory"); /* each call is carried out */
+    }
+    return (now_ns() - start) / (double)calls;
+}
+
+typedef struct {
+    double plain, proved, ratio;
+} times;
+
+/* Medians of runs that take turns, and of the ratios of neighbouring runs. Ends the program if the answers differ. */
+static times measured(const question *q, const shape *s, size_t size, size_t runs) {
+    double plain[MOST_RUNS], proved[MOST_RUNS], ratio[MOST_RUNS];
+    size_t calls = 1 + LEAST_BYTES_A_RUN / (size + 1);
+    for (size_t n = 0; n < runs; n++) {
+        uint64_t a, b;
+        plain[n] = timed(q->plain, size, calls, &a);
+        proved[n] = timed(q->proved, size, calls, &b);
+        if (a != b) {
+            fprintf(stderr, "bench: %s of %s, %zu bytes: plain C answers %lu, the proved library %lu\n", q->name, s->name, size, a, b);
+            exit(1);
+        }
+        if (!q->alike(a)) {
+            fprintf(stderr, "bench: %s of %s, %zu bytes: what was written differs\n", q->name, s->name, size);
+            exit(1);
+        }
+        ratio[n] = proved[n] / plain[n];
+    }
+    times both = {median(plain, runs), median(proved, runs), median(ratio, runs)};
+    return both;
+}
+
+static void print_table(size_t most, size_t runs) {
+    printf("%-8s %-12s %9s %12s %12s %7s\n", "question", "shape", "bytes", "plain ns", "proved ns", "ratio");
+    for (size_t k = 0; k < sizeof questions / sizeof *questions; k++)
+        for (size_t n = 0; n < shape_count; n++) {
+            size_t size = shapes[n].make(message, most);
+            times t = measured(&questions[k], &shapes[n], size, runs);
+            printf("%-8s %-12s %9zu %12.0f %12.0f %7.2f\n", questions[k].name, shapes[n].name, size, t.plain, t.proved, t.ratio);
+        }
+}
+
+static void print_sweep(size_t runs) {
+    printf("%-8s %-12s %9s %13s %13s %7s\n", "question", "shape", "bytes", "plain ns/byte", "proved ns/b.", "ratio");
+    for (size_t k = 0; k < sizeof questions / sizeof *questions; k++)
+        for (size_t n = 0; n < shape_count; n++)
+            for (size_t most = 1024; most <= MOST_MESSAGE; most *= 4) {
+                size_t size = shapes[n].make(message, most);
+                times t = measured(&questions[k], &shapes[n], size, runs);
+                double bytes = (double)size;
+                printf("%-8s %-12s %9zu %13.3f %13.3f %7.2f\n", questions[k].name, shapes[n].name, size, t.plain / bytes, t.proved / bytes, t.ratio);
+            }
+}
+
+int main(int count, char **words) {
+    const char *what = count == 2 ? words[1] : "";
+    if (strcmp(what, "short") == 0) print_table(64 * 1024, 5);
+    else if (strcmp(what, "table") == 0) print_table(MOST_SIZE, 15);
+    else if (strcmp(what, "sweep") == 0) print_sweep(9);
+    else {
+        fprintf(stderr, "usage: bench short|table|sweep\n");
+        return 2;
+    }
+    return 0;
+}

@@ -1,0 +1,72 @@
+/* A plain reader and writer of invocation responses (kind 4), by paper 01, as one would write them in C without proofs.
+   They are what the proved library is held against: same answers, same order of refusals. */
+#pragma once
+#include <stdbool.h>
+#include <stddef.h>
+#include <stdint.h>
+
+/* The number and place of a refusal; number 0: none. */
+typedef struct {
+    uint32_t number;
+    size_t place;
+} plain_refusal;
+
+enum {
+    PLAIN_TINYINT = 3, PLAIN_SMALLINT = 4, PLAIN_INTEGER = 5, PLAIN_BIGINT = 6, PLAIN_FLOAT = 8, PLAIN_STRING = 9, PLAIN_TIMESTAMP = 11,
+    PLAIN_DECIMAL = 22, PLAIN_VARBINARY = 25, PLAIN_POINT = 26, PLAIN_GEOGRAPHY = 27
+};
+
+/* Whether a message is a response. */
+plain_refusal plain_accept(const uint8_t *message, size_t length);
+
+/* A cell: its column's type and where its bytes stand. A counted one's are its body's, and null is told apart. */
+typedef struct {
+    uint8_t type;
+    bool null;
+    size_t offset;
+    size_t size;
+} plain_cell;
+
+/* Finds a cell of an accepted message; else the message's refusal, or 11 at 0 for an index past the end. */
+plain_refusal plain_find_cell(const uint8_t *message, size_t length, size_t table, size_t row, size_t column, plain_cell *cell);
+
+/* Writes entries of the field list, from number `first` on, as many as fit, six numbers each: offset, size, field, three
+   indices. `taken` is how many were written. 11 at 0 if there is no entry `first`. */
+plain_refusal plain_fields(const uint8_t *message, size_t length, size_t first, uint64_t *out, size_t room, size_t *taken);
+
+/* The writer: a response is begun, tables and rows are opened and closed, cells are put, and it is finished. */
+typedef enum { PLAIN_CLOSED, PLAIN_REPLY, PLAIN_TABLE, PLAIN_ROW } plain_stage;
+
+typedef struct {
+    uint8_t *buffer;
+    size_t size;
+    size_t at;
+    plain_stage stage;
+    size_t count_at, table_at, rows_at, row_at;
+    uint32_t tables, rows, cells, columns;
+    uint8_t types[64];
+} plain_writer;
+
+typedef struct {
+    uint8_t client[8];
+    uint8_t flags, status, app_status;
+    bool status_null, app_null;
+    const uint8_t *status_string, *app_string, *exception;
+    size_t status_size, app_size, exception_size;
+    int32_t round_trip;
+} plain_opening;
+
+typedef struct {
+    uint8_t type;
+    size_t name, name_size; /* in the buffer of names */
+} plain_column;
+
+plain_refusal plain_begin(plain_writer *w, uint8_t *buffer, size_t size, uint8_t version, const plain_opening *fields);
+plain_refusal plain_open_table(plain_writer *w, uint8_t status, const plain_column *columns, size_t count, const uint8_t *names, size_t names_size);
+plain_refusal plain_open_row(plain_writer *w);
+plain_refusal plain_put_number(plain_writer *w, uint8_t type, uint64_t bits);
+plain_refusal plain_put_pair(plain_writer *w, uint8_t type, uint64_t first, uint64_t second);
+plain_refusal plain_put_body(plain_writer *w, uint8_t type, bool null, const uint8_t *bytes, size_t size);
+plain_refusal plain_close_row(plain_writer *w);
+plain_refusal plain_close_table(plain_writer *w);
+plain_refusal plain_finish(plain_writer *w);

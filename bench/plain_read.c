@@ -1,0 +1,225 @@
+/* The plain reader: one walk over the message, which checks each field in wire order and, if asked, lists it. */
+#include "plain_rules.h"
+
+typedef struct {
+    const uint8_t *m;
+    size_t at;
+    plain_refusal no;
+} reader;
+
+/* What is to be listed: entries from `first` on, as long as `out` has room. */
+typedef struct {
+    size_t first, seen, taken, room;
+    uint64_t *out;
+} lister;
+
+/* Inlined, so that the walk that lists nothing has no trace of the lister. */
+#define INLINE static inline __attribute__((always_inline))
+#define WALK INLINE bool
+
+static bool refuse(reader *r, uint32_t number, size_t place) {
+    r->no.number = number;
+    r->no.place = place;
+    return false;
+}
+
+INLINE void list(lister *l, size_t offset, size_t size, unsigned field, size_t i, size_t j, size_t k) {
+    if (l == NULL || l->seen++ < l->first || l->room - l->taken * 6 < 6) return;
+    uint64_t *entry = l->out + l->taken++ * 6;
+    entry[0] = offset, entry[1] = size, entry[2] = field;
+    entry[3] = i, entry[4] = j, entry[5] = k;
+}
+
+/* A field of fixed size. `end` is where its room ends. */
+WALK block(reader *r, size_t end, size_t size, lister *l, unsigned field, size_t i, size_t j, size_t k) {
+    if (end - r->at < size) return refuse(r, NO_ROOM, r->at);
+    list(l, r->at, size, field, i, j, k);
+    r->at += size;
+    return true;
+}
+
+/* A length of 4 bytes: does it fit, its sign, its limit, does its body fit. */
+WALK length(reader *r, size_t end, uint32_t most, lister *l, unsigned field, size_t i, size_t j, size_t k, uint32_t *is) {
+    size_t at = r->at;
+    if (!block(r, end, 4, l, field, i, j, k)) return false;
+    uint32_t n = load32(r->m + at);
+    if (n > INT32_MAX) return refuse(r, BAD_SIGN, at);
+    if (n > most) return refuse(r, LIMIT, at);
+    if (n > end - r->at) return refuse(r, NO_ROOM, at);
+    *is = n;
+    return true;
+}
+
+/* A counted body. `field` is its length's number; the body's is the next. */
+WALK counted(reader *r, size_t end, bool nullable, lister *l, unsigned field, size_t i, size_t j, size_t k) {
+    if (nullable && end - r->at >= 4 && load32(r->m + r->at) == UINT32_MAX) return block(r, end, 4, l, field, i, j, k);
+    uint32_t n;
+    if (!length(r, end, MOST_BODY, l, field, i, j, k, &n)) return false;
+    if (n > 0) list(l, r->at, n, field + 1, i, j, k);
+    r->at += n;
+    return true;
+}
+
+WALK count(reader *r, size_t end, uint32_t most, lister *l, unsigned field, size_t i, size_t *is) {
+    size_t at = r->at;
+    if (!block(r, end, 2, l, field, i, 0, 0)) return false;
+    uint32_t n = load16(r->m + at);
+    if (n > 32767) return refuse(r, BAD_SIGN, at);
+    if (n > most) return refuse(r, LIMIT, at);
+    *is = n;
+    return true;
+}
+
+WALK name(reader *r, size_t end, lister *l, size_t i, size_t k) {
+    size_t at = r->at;
+    if (!counted(r, end, false, l, 46, i, 0, k)) return false;
+    for (size_t p = at + 4; p < r->at; p++)
+        if (r->m[p] > 127) return refuse(r, BAD_VALUE, p);
+    return true;
+}
+
+WALK cell(reader *r, size_t end, uint8_t type, lister *l, size_t i, size_t j, size_t k) {
+    size_t at = r->at;
+    switch (type) {
+    case PLAIN_TINYINT: return block(r, end, 1, l, 51, i, j, k);
+    case PLAIN_SMALLINT: return block(r, end, 2, l, 51, i, j, k);
+    case PLAIN_INTEGER: return block(r, end, 4, l, 51, i, j, k);
+    case PLAIN_BIGINT: case PLAIN_FLOAT: case PLAIN_TIMESTAMP: return block(r, end, 8, l, 51, i, j, k);
+    case PLAIN_DECIMAL:
+        if (!block(r, end, 16, l, 51, i, j, k)) return false;
+        return decimal_fine(load64(r->m + at), load64(r->m + at + 8)) || refuse(r, BAD_VALUE, at);
+    case PLAIN_POINT:
+        if (!block(r, end, 16, l, 51, i, j, k)) return false;
+        return point_fine(load64(r->m + at), load64(r->m + at + 8)) || refuse(r, BAD_VALUE, at);
+    default:
+        if (!counted(r, end, true, l, 50, i, j, k)) return false;
+        return type != PLAIN_GEOGRAPHY || load32(r->m + at) != 0 || refuse(r, BAD_VALUE, at);
+    }
+}
+
+WALK row(reader *r, size_t table_end, const uint8_t *types, size_t columns, lister *l, size_t i, size_t j) {
+    uint32_t size;
+    if (!length(r, table_end, MOST_ROW, l, 49, i, j, 0, &size)) return false;
+    size_t end = r->at + size;
+    for (size_t k = 0; k < columns; k++)
+        if (!cell(r, end, types[k], l, i, j, k)) return false;
+    return r->at == end || refuse(r, LEFT_OVER, r->at);
+}
+
+WALK metadata(reader *r, size_t table_end, lister *l, size_t i, const uint8_t **types, size_t *columns) {
+    uint32_t size;
+    if (!length(r, table_end, INT32_MAX, l, 42, i, 0, 0, &size)) return false;
+    size_t end = r->at + size;
+    if (!block(r, end, 1, l, 43, i, 0, 0)) return false;
+    if (!count(r, end, MOST_COLUMNS, l, 44, i, columns)) return false;
+    *types = r->m + r->at;
+    for (size_t k = 0; k < *columns; k++) {
+        if (!block(r, end, 1, l, 45, i, 0, k)) return false;
+        if (!is_column_type(r->m[r->at - 1])) return refuse(r, BAD_TYPE, r->at - 1);
+    }
+    for (size_t k = 0; k < *columns; k++)
+        if (!name(r, end, l, i, k)) return false;
+    return r->at == end || refuse(r, LEFT_OVER, r->at);
+}
+
+WALK table(reader *r, size_t message_end, lister *l, size_t i) {
+    uint32_t size;
+    const uint8_t *types;
+    size_t columns;
+    if (!length(r, message_end, INT32_MAX, l, 41, i, 0, 0, &size)) return false;
+    size_t end = r->at + size;
+    if (!metadata(r, end, l, i, &types, &columns)) return false;
+    size_t at = r->at;
+    if (!block(r, end, 4, l, 48, i, 0, 0)) return false;
+    uint32_t rows = load32(r->m + at);
+    if (rows > INT32_MAX) return refuse(r, BAD_SIGN, at);
+    for (size_t j = 0; j < rows; j++)
+        if (!row(r, end, types, columns, l, i, j)) return false;
+    return r->at == end || refuse(r, LEFT_OVER, r->at);
+}
+
+/* Up to the table count, which is `tables`. */
+WALK head(reader *r, size_t end, lister *l, size_t *tables) {
+    if (!block(r, end, 1, l, 2, 0, 0, 0)) return false;
+    if (r->m[4] > 1) return refuse(r, BAD_VERSION, 4);
+    if (!block(r, end, 8, l, 22, 0, 0, 0) || !block(r, end, 1, l, 30, 0, 0, 0)) return false;
+    uint8_t flags = r->m[13];
+    if (flags & OTHER_FLAGS) return refuse(r, BAD_VALUE, 13);
+    if (!block(r, end, 1, l, 31, 0, 0, 0)) return false;
+    if (flags & FLAG_STATUS && !counted(r, end, true, l, 32, 0, 0, 0)) return false;
+    if (!block(r, end, 1, l, 34, 0, 0, 0)) return false;
+    if (flags & FLAG_APPLICATION && !counted(r, end, true, l, 35, 0, 0, 0)) return false;
+    if (!block(r, end, 4, l, 37, 0, 0, 0)) return false;
+    if (flags & FLAG_EXCEPTION && !counted(r, end, false, l, 38, 0, 0, 0)) return false;
+    return count(r, end, MOST_ITEMS, l, 40, 0, tables);
+}
+
+WALK message_length(reader *r, size_t size, lister *l) {
+    if (!block(r, size, 4, l, 1, 0, 0, 0)) return false;
+    uint32_t n = load32(r->m);
+    if (n == 0 || n > INT32_MAX) return refuse(r, BAD_SIGN, 0);
+    if (n > MOST_MESSAGE) return refuse(r, LIMIT, 0);
+    if (n > size - 4) return refuse(r, NO_ROOM, 0);
+    return n == size - 4 || refuse(r, LEFT_OVER, 4 + (size_t)n);
+}
+
+WALK response(reader *r, size_t size, lister *l) {
+    size_t tables;
+    if (!message_length(r, size, l) || !head(r, size, l, &tables)) return false;
+    for (size_t i = 0; i < tables; i++)
+        if (!table(r, size, l, i)) return false;
+    return r->at == size || refuse(r, LEFT_OVER, r->at);
+}
+
+plain_refusal plain_accept(const uint8_t *message, size_t size) {
+    reader r = {message, 0, {0, 0}};
+    response(&r, size, NULL);
+    return r.no;
+}
+
+/* A list of a message that turns out to be refused is no list: so the message is checked before anything is written. */
+plain_refusal plain_fields(const uint8_t *message, size_t size, size_t first, uint64_t *out, size_t room, size_t *taken) {
+    plain_refusal no = plain_accept(message, size);
+    if (no.number != 0) return no;
+    reader r = {message, 0, {0, 0}};
+    lister l = {first, 0, 0, room, out};
+    response(&r, size, &l);
+    *taken = l.taken;
+    if (l.seen <= first) no.number = PAST_END;
+    return no;
+}
+
+/* Past a value of an accepted message. */
+static size_t past_cell(const uint8_t *m, size_t at, uint8_t type) {
+    size_t fixed = fixed_size(type);
+    if (fixed != 0) return at + fixed;
+    uint32_t n = load32(m + at);
+    return at + 4 + (n == UINT32_MAX ? 0 : n);
+}
+
+plain_refusal plain_find_cell(const uint8_t *m, size_t size, size_t table, size_t row, size_t column, plain_cell *found) {
+    const plain_refusal past_end = {PAST_END, 0};
+    plain_refusal no = plain_accept(m, size);
+    if (no.number != 0) return no;
+    reader r = {m, 4, {0, 0}};
+    size_t tables;
+    head(&r, size, NULL, &tables);
+    if (table >= tables) return past_end;
+    size_t at = r.at;
+    for (size_t i = 0; i < table; i++) at += 4 + load32(m + at);
+    size_t columns = load16(m + at + 9);
+    const uint8_t *types = m + at + 11;
+    at += 8 + load32(m + at + 4);
+    size_t rows = load32(m + at);
+    if (row >= rows || column >= columns) return past_end;
+    at += 4;
+    for (size_t j = 0; j < row; j++) at += 4 + load32(m + at);
+    at += 4;
+    for (size_t k = 0; k < column; k++) at = past_cell(m, at, types[k]);
+    size_t prefix = fixed_size(types[column]) == 0 ? 4 : 0;
+    found->type = types[column];
+    found->null = prefix != 0 && load32(m + at) == UINT32_MAX;
+    found->offset = at + prefix;
+    found->size = past_cell(m, at, types[column]) - found->offset;
+    return no;
+}

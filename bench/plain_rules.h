@@ -1,0 +1,71 @@
+/* What the plain reader and the plain writer share: numbers, limits and the rules of values. */
+#pragma once
+#include "plain.h"
+#include <string.h>
+
+enum { NO_ROOM = 1, BAD_SIGN = 2, LIMIT = 3, LEFT_OVER = 4, BAD_VERSION = 5, BAD_TYPE = 6, BAD_VALUE = 7, OUTPUT = 8, PAST_END = 11, STAGE = 13 };
+
+enum { MOST_MESSAGE = 4194304, MOST_BODY = 1048576, MOST_ROW = 2097152, MOST_COLUMNS = 64, MOST_ITEMS = 32767 };
+
+enum { FLAG_STATUS = 32, FLAG_EXCEPTION = 64, FLAG_APPLICATION = 128, OTHER_FLAGS = 31 };
+
+static inline uint32_t load16(const uint8_t *p) { return (uint32_t)p[0] << 8 | p[1]; }
+
+static inline uint32_t load32(const uint8_t *p) {
+    uint32_t bits;
+    memcpy(&bits, p, 4);
+    return __builtin_bswap32(bits);
+}
+
+static inline uint64_t load64(const uint8_t *p) {
+    uint64_t bits;
+    memcpy(&bits, p, 8);
+    return __builtin_bswap64(bits);
+}
+
+static inline void store16(uint8_t *p, uint32_t n) {
+    p[0] = (uint8_t)(n >> 8);
+    p[1] = (uint8_t)n;
+}
+
+static inline void store32(uint8_t *p, uint32_t n) {
+    n = __builtin_bswap32(n);
+    memcpy(p, &n, 4);
+}
+
+static inline void store64(uint8_t *p, uint64_t n) {
+    n = __builtin_bswap64(n);
+    memcpy(p, &n, 8);
+}
+
+/* The size of a value of a fixed type; 0 for a counted or unknown one. */
+static inline size_t fixed_size(uint8_t type) {
+    switch (type) {
+    case PLAIN_TINYINT: return 1;
+    case PLAIN_SMALLINT: return 2;
+    case PLAIN_INTEGER: return 4;
+    case PLAIN_BIGINT: case PLAIN_FLOAT: case PLAIN_TIMESTAMP: return 8;
+    case PLAIN_DECIMAL: case PLAIN_POINT: return 16;
+    default: return 0;
+    }
+}
+
+static inline bool is_counted(uint8_t type) { return type == PLAIN_STRING || type == PLAIN_VARBINARY || type == PLAIN_GEOGRAPHY; }
+
+static inline bool is_column_type(uint8_t type) { return fixed_size(type) != 0 || is_counted(type); }
+
+static inline bool decimal_fine(uint64_t upper, uint64_t lower) {
+    __extension__ typedef __int128 wide;
+    __extension__ typedef unsigned __int128 bits;
+    const wide ten_to_19 = 10000000000000000000ULL, most = ten_to_19 * ten_to_19 - 1;
+    wide units = (wide)((bits)upper << 64 | lower);
+    bool is_null = upper == (uint64_t)1 << 63 && lower == 0;
+    return (-most <= units && units <= most) || is_null;
+}
+
+static inline bool point_fine(uint64_t first, uint64_t second) {
+    double longitude, latitude;
+    memcpy(&longitude, &first, 8);
+    memcpy(&latitude, &second, 8);
+    return -180.0 <= longitude && longitude <= 180.0 && -90.0 <= latitude && latitude <= 90.0;
+}

@@ -1,0 +1,160 @@
+/* Replies of many shapes, made with the plain writer; the damaged ones are made from sound ones by hand. */
+#include "shapes.h"
+#include "plain_rules.h"
+
+static const uint8_t letters[] = "ABCDEFGHIJKLMNOPQRSTUVWXYZ ABCDEFGHIJKLMNOPQRSTUVWXYZ ABCDEFGHIJKLMNOPQRSTUVWXYZ";
+
+/* Numbers that look made up, the same in every run. */
+static uint64_t made_up(uint64_t *state) {
+    *state = *state * 6364136223846793005ULL + 1442695040888963407ULL;
+    return *state >> 11;
+}
+
+static void begin(plain_writer *w, uint8_t *buffer, size_t size) {
+    plain_opening fields = {.client = {0, 1, 2, 3, 4, 5, 6, 7}, .status = 1, .round_trip = 3};
+    plain_begin(w, buffer, size, 1, &fields);
+}
+
+static void open_table(plain_writer *w, const uint8_t *types, size_t count, size_t name_size) {
+    plain_column columns[64];
+    for (size_t k = 0; k < count; k++) {
+        columns[k].type = types[k];
+        columns[k].name = k % 26;
+        columns[k].name_size = name_size;
+    }
+    plain_open_table(w, 0, columns, count, letters, sizeof letters - 1);
+}
+
+static plain_refusal put_any(plain_writer *w, uint8_t type, uint64_t *state) {
+    uint64_t n = made_up(state);
+    switch (type) {
+    case PLAIN_DECIMAL: return plain_put_pair(w, type, n % 2 ? 0 : ~(uint64_t)0, n * 1000);
+    case PLAIN_POINT: return plain_put_pair(w, type, 0x405e81b089a02752, 0xc042741ecd4aa10e);
+    case PLAIN_STRING: case PLAIN_VARBINARY: return plain_put_body(w, type, n % 8 == 0, letters + n % 27, n % 40);
+    case PLAIN_GEOGRAPHY: return plain_put_body(w, type, false, letters + n % 27, 1 + n % 30);
+    default: return plain_put_number(w, type, n);
+    }
+}
+
+/* Rows of some types until the buffer is full. The row that doesn't fit any more is taken back. */
+static size_t fill(uint8_t *buffer, size_t size, const uint8_t *types, size_t count) {
+    plain_writer w;
+    uint64_t state = 1;
+    begin(&w, buffer, size);
+    open_table(&w, types, count, 6);
+    for (;;) {
+        plain_writer before = w;
+        bool whole = plain_open_row(&w).number == 0;
+        for (size_t k = 0; whole && k < count; k++) whole = put_any(&w, types[k], &state).number == 0;
+        if (!whole) {
+            w = before;
+            break;
+        }
+        plain_close_row(&w);
+    }
+    plain_close_table(&w);
+    plain_finish(&w);
+    return w.at;
+}
+
+static size_t bigints(uint8_t *buffer, size_t size) {
+    const uint8_t types[] = {PLAIN_BIGINT, PLAIN_BIGINT, PLAIN_BIGINT, PLAIN_BIGINT, PLAIN_BIGINT, PLAIN_BIGINT, PLAIN_BIGINT, PLAIN_BIGINT};
+    return fill(buffer, size, types, sizeof types);
+}
+
+static size_t strings(uint8_t *buffer, size_t size) {
+    const uint8_t types[] = {PLAIN_STRING, PLAIN_STRING, PLAIN_STRING, PLAIN_STRING};
+    return fill(buffer, size, types, sizeof types);
+}
+
+static size_t decimals(uint8_t *buffer, size_t size) {
+    const uint8_t types[] = {PLAIN_DECIMAL, PLAIN_DECIMAL, PLAIN_DECIMAL, PLAIN_DECIMAL};
+    return fill(buffer, size, types, sizeof types);
+}
+
+static size_t tinyints(uint8_t *buffer, size_t size) {
+    const uint8_t types[] = {PLAIN_TINYINT};
+    return fill(buffer, size, types, sizeof types);
+}
+
+/* 64 columns, of every type in turn. */
+static size_t mixed(uint8_t *buffer, size_t size) {
+    const uint8_t cycle[] = {PLAIN_INTEGER, PLAIN_STRING, PLAIN_DECIMAL, PLAIN_TIMESTAMP, PLAIN_POINT, PLAIN_TINYINT, PLAIN_VARBINARY, PLAIN_BIGINT, PLAIN_FLOAT, PLAIN_SMALLINT, PLAIN_GEOGRAPHY};
+    uint8_t types[64];
+    for (size_t k = 0; k < sizeof types; k++) types[k] = cycle[k % sizeof cycle];
+    return fill(buffer, size, types, sizeof types);
+}
+
+/* Tables of one bigint, as many as there may be. */
+static size_t tables(uint8_t *buffer, size_t size) {
+    const uint8_t types[] = {PLAIN_BIGINT};
+    const size_t one = 4 + 4 + 3 + 1 + 4 + 6 + 4 + 4 + 8;
+    plain_writer w;
+    begin(&w, buffer, size);
+    while (w.tables < MOST_ITEMS && w.at + one <= size) {
+        open_table(&w, types, 1, 6);
+        plain_open_row(&w);
+        plain_put_number(&w, PLAIN_BIGINT, w.tables);
+        plain_close_row(&w);
+        plain_close_table(&w);
+    }
+    plain_finish(&w);
+    return w.at;
+}
+
+/* Rows of no columns, 4 bytes each. */
+static size_t empty_rows(uint8_t *buffer, size_t size) { return fill(buffer, size, NULL, 0); }
+
+/* The same with a row count of 2^31 - 1: refused where the next row would stand. */
+static size_t count_too_large(uint8_t *buffer, size_t size) {
+    size_t taken = empty_rows(buffer, size), count_at = 22 + 11;
+    store32(buffer + count_at, INT32_MAX);
+    return taken;
+}
+
+/* Mixed rows with one byte more than the tables have: refused at the last byte. */
+static size_t last_byte(uint8_t *buffer, size_t size) {
+    size_t taken = mixed(buffer, size - 1);
+    buffer[taken++] = 0;
+    store32(buffer, (uint32_t)(taken - 4));
+    return taken;
+}
+
+/* A few long names instead of rows: each byte has to be looked at. */
+static size_t names(uint8_t *buffer, size_t size) {
+    const size_t before = 22 + 4 + 4 + 3 + 4, each = (size - before - 4) / 4 - 5;
+    uint8_t *p = buffer + before - 4;
+    size_t name_size = each < MOST_BODY ? each : MOST_BODY, metadata = 3 + 4 + 4 * (4 + name_size);
+    plain_writer w;
+    begin(&w, buffer, size);
+    memset(p, PLAIN_STRING, 4);
+    p += 4;
+    for (size_t k = 0; k < 4; k++, p += 4 + name_size) {
+        store32(p, (uint32_t)name_size);
+        memset(p + 4, 'N', name_size);
+    }
+    store32(p, 0);
+    p += 4;
+    store16(buffer + 20, 1);
+    store32(buffer + 22, (uint32_t)(4 + metadata + 4));
+    store32(buffer + 26, (uint32_t)metadata);
+    buffer[30] = 0;
+    store16(buffer + 31, 4);
+    store32(buffer, (uint32_t)(p - buffer - 4));
+    return (size_t)(p - buffer);
+}
+
+const shape shapes[] = {
+    {"bigints", "rows of 8 bigints", bigints},
+    {"tinyints", "rows of one tinyint", tinyints},
+    {"strings", "rows of 4 strings, some null", strings},
+    {"decimals", "rows of 4 decimals", decimals},
+    {"mixed", "rows of 64 columns of all types", mixed},
+    {"tables", "tables of one bigint, at most 32767", tables},
+    {"names", "4 columns with long names", names},
+    {"empty rows", "rows of no columns", empty_rows},
+    {"row count", "the same, the count 2^31 - 1: refused", count_too_large},
+    {"last byte", "mixed, refused at the last byte", last_byte},
+};
+
+const size_t shape_count = sizeof shapes / sizeof *shapes;

@@ -1,0 +1,13 @@
+/* The messages that are measured: one maker for each shape, for any size. */
+#pragma once
+#include <stddef.h>
+#include <stdint.h>
+
+typedef struct {
+    const char *name;
+    const char *what;
+    size_t (*make)(uint8_t *buffer, size_t size); /* at most `size` bytes; gives how many */
+} shape;
+
+extern const shape shapes[];
+extern const size_t shape_count;

@@ -1,0 +1,2 @@
+-- The proofs: answers packed into a number.
+pub mod Packs

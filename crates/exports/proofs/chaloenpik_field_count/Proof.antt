@@ -1,0 +1,18 @@
+-- `exports::chaloenpik_field_count` meets its contract: what the list answers, packed.
+use mathlib.Core.Path.{ap, _∙_}
+use Rattle.exports.specs.Packed.{packed, itself}
+use borrow.Author.Needs.{needs}
+use Rattle.exports.proofs.chaloenpik_field_count.Statement.{statement}
+use Rattle.exports.proofs.chaloenpik_field_count.Tie as tie
+
+count-requires : tie.Need-count-requires
+count-requires c κs = search needs
+
+pack-counted-requires : tie.Need-pack-counted-requires
+pack-counted-requires c κs = search needs
+
+returns : tie.Need-returns
+returns c = c .pack-counted .ensures ∙ ap (packed itself) (c .before .count .ensures)
+
+pub chaloenpik-field-count-spec : {M : Type 1} → statement M
+chaloenpik-field-count-spec = tie.close (tie.spec count-requires pack-counted-requires returns)

@@ -1,0 +1,22 @@
+-- `exports::chaloenpik_fields` meets its contract: what the window answers, packed, and what it wrote.
+use mathlib.Core.Path.{ap, _∙_}
+use Rattle.exports.specs.Packed.{packed, itself}
+use borrow.Author.Needs.{needs}
+use Rattle.exports.proofs.chaloenpik_fields.Statement.{statement}
+use Rattle.exports.proofs.chaloenpik_fields.Tie as tie
+
+window-requires : tie.Need-window-requires
+window-requires c κs = search needs
+
+pack-written-requires : tie.Need-pack-written-requires
+pack-written-requires c κs = search needs
+
+same-length : tie.Need-same-length
+same-length c = search needs
+
+returns : tie.Need-returns
+returns c = (c .pack-written .ensures ∙ ap (packed itself) (c .before .before .before .window .ensures .0), c .before .before .before .window .ensures .1)
+
+pub chaloenpik-fields-spec : {M : Type 1} → statement M
+chaloenpik-fields-spec =
+    tie.close (tie.spec window-requires pack-written-requires same-length returns)

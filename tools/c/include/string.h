@@ -1,0 +1,7 @@
+#pragma once
+#include <stddef.h>
+void *memcpy(void *restrict to, const void *restrict from, size_t size);
+void *memset(void *to, int byte, size_t size);
+int memcmp(const void *a, const void *b, size_t size);
+int strcmp(const char *a, const char *b);
+size_t strlen(const char *text);

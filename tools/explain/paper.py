@@ -1,0 +1,86 @@
+"""The words of the paper: what its numbers are called and what they mean."""
+
+KINDS = {1: "login request", 2: "login response", 3: "invocation", 4: "invocation response"}
+
+# Field number: its name, and how its bytes are to be shown (a function of fields.py goes by this word).
+FIELDS = {
+    1: ("message length", "length"),
+    2: ("version", "number"),
+    3: ("hash version", "hash version"),
+    4: ("service length", "length"),
+    5: ("service", "text"),
+    6: ("user length", "length"),
+    7: ("user", "text"),
+    8: ("hash", "opaque"),
+    10: ("result", "result"),
+    11: ("host", "number"),
+    12: ("connection", "number"),
+    13: ("start", "milliseconds"),
+    14: ("leader", "address"),
+    15: ("build length", "length"),
+    16: ("build", "text"),
+    20: ("procedure length", "length"),
+    21: ("procedure", "text"),
+    22: ("client data", "opaque"),
+    23: ("parameter count", "number"),
+    24: ("wire type", "type"),
+    25: ("element type", "type"),
+    26: ("element count", "element count"),
+    27: ("value length", "length"),
+    28: ("value", "value"),
+    30: ("flags", "flags"),
+    31: ("status", "status"),
+    32: ("status string length", "length"),
+    33: ("status string", "text"),
+    34: ("application status", "number"),
+    35: ("application string length", "length"),
+    36: ("application string", "text"),
+    37: ("round trip", "duration"),
+    38: ("exception length", "length"),
+    39: ("exception", "opaque"),
+    40: ("table count", "number"),
+    41: ("table length", "length"),
+    42: ("metadata length", "length"),
+    43: ("table status", "number"),
+    44: ("column count", "number"),
+    45: ("column type", "type"),
+    46: ("column name length", "length"),
+    47: ("column name", "text"),
+    48: ("row count", "number"),
+    49: ("row length", "length"),
+    50: ("cell length", "length"),
+    51: ("cell", "value"),
+}
+
+# The fields that the indices are told for, and those that this tool looks up.
+PARAMETER_FIELDS = range(24, 29)
+TABLE_FIELDS = range(41, 52)
+PARAMETER_TYPE, ELEMENT_TYPE, ELEMENT_COUNT, VALUE_LENGTH, VALUE = 24, 25, 26, 27, 28
+COLUMN_TYPE, COLUMN_NAME_LENGTH, COLUMN_NAME, ROW_COUNT, ROW_LENGTH, CELL_LENGTH, CELL = 45, 46, 47, 48, 49, 50, 51
+TABLE_COUNT = 40
+
+ARRAY, NULL, TINYINT, STRING, DECIMAL, FLOAT, TIMESTAMP, VARBINARY, POINT, GEOGRAPHY = -99, 1, 3, 9, 22, 8, 11, 25, 26, 27
+TYPES = {
+    ARRAY: "array", NULL: "null", TINYINT: "tinyint", 4: "smallint", 5: "integer", 6: "bigint", FLOAT: "float", STRING: "string",
+    TIMESTAMP: "timestamp", DECIMAL: "decimal", VARBINARY: "varbinary", POINT: "point", GEOGRAPHY: "geography",
+}
+
+FLAGS = {32: "status string", 64: "exception", 128: "application string"}
+RESULTS = {0: "accepted", 1: "too many connections", 2: "the client took too long", 3: "corrupt or invalid login"}
+STATUSES = {1: "success", -1: "user abort", -2: "graceful failure", -3: "unexpected failure", -4: "connection lost"}
+HASHES = {0: "SHA-1", 1: "SHA-256"}
+
+# Refusal number: when it is given, and what its place is.
+REFUSALS = {
+    1: ("a field, or a counted body, doesn't fit its room", "the field; for a body, its length field"),
+    2: ("a length or count is negative and not a permitted -1, or the message length is 0", "that length or count"),
+    3: ("a limit is passed", "that length or count"),
+    4: ("bytes are left in a room after its last field", "the first such byte"),
+    5: ("the version byte or the hash version is not 0 or 1", "that byte"),
+    6: ("the wire type is unknown or not permitted there, or there is no such kind", "that byte; 0 for a kind"),
+    7: ("a decimal, point, flag byte, column name or empty geography breaks its rule",
+        "the value; a name's first byte above 127; an empty geography's length field"),
+}
+
+# The longest message that the listing program takes; a longer one is refused 3 at 0.
+MOST_LISTED = 65_536

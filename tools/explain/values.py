@@ -1,0 +1,113 @@
+"""One value's bytes as plain text. Nothing is rounded: what is shown tells the bytes apart."""
+
+import datetime
+import math
+import struct
+
+from . import paper
+
+DECIMAL_PLACES = 12
+NULL_DECIMAL = -(2**127)
+MOST_SHOWN = 60  # characters of a text, and bytes of a binary value, before they are cut
+
+EPOCH = datetime.datetime(1970, 1, 1)
+MICROSECONDS_IN_400_YEARS = 146_097 * 86_400 * 1_000_000  # the calendar repeats after these
+
+
+def signed(raw):
+    return int.from_bytes(raw, "big", signed=True)
+
+
+def value_text(wire_type, raw):
+    """A value of a column type, without its length."""
+    shown = {
+        paper.FLOAT: float_text,
+        paper.STRING: quoted,
+        paper.TIMESTAMP: lambda r: utc(signed(r)),
+        paper.DECIMAL: decimal,
+        paper.VARBINARY: hexadecimal,
+        paper.POINT: point,
+        paper.GEOGRAPHY: opaque,
+    }
+    return shown.get(wire_type, lambda r: str(signed(r)))(raw)
+
+
+def quoted(raw):
+    """Text in quotes. Bytes that are no UTF-8, and characters that can't be printed, are escaped."""
+    text = raw.decode("utf-8", errors="surrogateescape")
+    shown = "".join(map(one_character, text[:MOST_SHOWN]))
+    return '"%s"' % shown if len(text) <= MOST_SHOWN else '"%s.." (%s)' % (shown, count_of(len(raw), "byte"))
+
+
+def one_character(character):
+    if character in '"\\':
+        return "\\" + character
+    if character.isprintable():
+        return character
+    number = ord(character)
+    if 0xDC80 <= number <= 0xDCFF:
+        return "\\x%02x" % (number - 0xDC00)
+    return "\\u{%x}" % number
+
+
+def decimal(raw):
+    units = signed(raw)
+    if units == NULL_DECIMAL:
+        return "null"
+    whole, rest = divmod(abs(units), 10**DECIMAL_PLACES)
+    return "%s%d.%0*d" % ("-" if units < 0 else "", whole, DECIMAL_PLACES, rest)
+
+
+def utc(microseconds):
+    """A moment in UTC, in every year that the number can reach."""
+    cycles, rest = divmod(microseconds, MICROSECONDS_IN_400_YEARS)
+    moment = EPOCH + datetime.timedelta(microseconds=rest)
+    return "%04d-%s UTC" % (moment.year + 400 * cycles, moment.strftime("%m-%d %H:%M:%S.%f"))
+
+
+def float_text(raw):
+    number = struct.unpack(">d", raw)[0]
+    if math.isnan(number):
+        return "NaN (bits %s)" % raw.hex()
+    return repr(number)
+
+
+def point(raw):
+    longitude, latitude = struct.unpack(">dd", raw)
+    return "longitude %s, latitude %s" % (degrees(longitude, "E", "W"), degrees(latitude, "N", "S"))
+
+
+def degrees(number, positive, negative):
+    backward = math.copysign(1, number) < 0
+    return "%r° %s" % (abs(number), negative if backward else positive)
+
+
+def address(raw):
+    return ".".join(map(str, raw))
+
+
+def hexadecimal(raw):
+    if len(raw) <= MOST_SHOWN:
+        return "0x" + raw.hex()
+    return "0x%s.. (%s)" % (raw[:MOST_SHOWN].hex(), count_of(len(raw), "byte"))
+
+
+def opaque(raw):
+    return "%s, not looked into" % count_of(len(raw), "byte")
+
+
+def length(number):
+    return "null" if number == -1 else count_of(number, "byte")
+
+
+def count_of(number, thing):
+    return "%d %s" % (number, thing if number == 1 else thing + "s")
+
+
+def named(number, names):
+    return "%d: %s" % (number, names[number]) if number in names else str(number)
+
+
+def flags(number):
+    set_ones = [name for bit, name in paper.FLAGS.items() if number & bit]
+    return "%d: %s" % (number, ", ".join(set_ones) or "none")
