@@ -4,10 +4,10 @@ use Rattle.tour.proofs.is_wanted.Statement.{statement}
 use Rattle.tour.proofs.is_wanted.Tie as tie
 
 returns : tie.Need-returns
-returns c = simp (lt-leb _ _ (c .if1 .taken))
+returns c = rw (lt-leb _ _ (c .if1 .taken))
 
 returns-2 : tie.Need-returns-2
-returns-2 c = simp (le-leb _ _ (c .before .before .if1 .left), le-ltb _ _ (c .if2 .taken))
+returns-2 c = rw (le-leb _ _ (c .before .before .if1 .left), le-ltb _ _ (c .if2 .taken))
 
 returns-3 : tie.Need-returns-3
 returns-3 c = rw (le-leb _ _ (c .before .before .before .if1 .left), lt-ltb _ _ (c .before .if2 .left))
