@@ -8,7 +8,7 @@ use Rattle.format.specs.Message.{Message, readMessage}
 use Rattle.message.specs.declared.Verdict.{Verdict}
 use Rattle.message.specs.Verdict.{toldVerdict, verdictOf, verdictNo}
 use Rattle.message.proofs.Accepted.{verdict-go, verdict-stop}
-use Rattle.exports.specs.Packed.{packed, packedNo, nothing}
+use Rattle.numbers.specs.Packed.{packed, packedNo, nothing}
 
 module _ (kind : ℕ) (m : List ℕ) {a : Verdict} (e : toldVerdict a ≡ verdictOf (readMessage kind m)) where
   pub packs-fine : a ≡ Verdict.Fine → _≡_ {A = ℕ} 0 (packed nothing (readMessage kind m))

@@ -1,15 +1,10 @@
 // The C interface: numbers and slices of numbers only. include/chaloenpik.h declares it.
-// Each function answers one number: what was found, or the refusal's number and place (specs/Packed.antt).
-use fields::Counted;
-use fields::Owned;
-use fields::Written;
-use format::Refusal;
+// Each function answers one number: what was found, or the refusal's number and place (numbers/specs/Packed.antt).
 use message::Verdict;
-use query::ColumnAnswer;
-use query::Count;
-use query::Position;
-use query::TableAnswer;
 ghost use mathlib.Core.Path.{_≡_};
+ghost use Prim.Native.Nat.{_+_, _*_, _^_};
+ghost use Rattle.format.specs.Value.{fixed, body};
+ghost use Rattle.put.specs.Put.{optional};
 ghost use lib.ListN.{length};
 ghost use Rattle.format.specs.Result.{ok, bind};
 ghost use Rattle.format.specs.Message.{readMessage};
@@ -18,7 +13,10 @@ ghost use Rattle.fields.specs.Questions.{ownerOf, windowCount, windowOut};
 ghost use Rattle.fields.specs.Told.{toldCounted, toldOwned, toldWritten};
 ghost use Rattle.query.specs.Answers.{ofTable, layoutOf, columnOf, firstNamed, toldCount, toldTable, toldColumn, toldPosition};
 ghost use Rattle.query.specs.Places.{tablesOf};
-ghost use Rattle.exports.specs.Packed.{above, packed, packedNo, nothing, itself, numberIn, rowsOf, columnsOf, typeOf};
+ghost use Rattle.write.specs.Steps.{nullParam, oneParam, bytesParam, openArray, element, closeArray, finishCall, openRow, closeRow, closeTable, finishReply, loginRequest, loginResponse};
+ghost use Rattle.login.specs.Told.{welcome};
+ghost use Rattle.numbers.specs.Stored.{Wrote, WroteLogin};
+ghost use Rattle.numbers.specs.Packed.{above, packed, packedNo, nothing, itself, numberIn, rowsOf, columnsOf, typeOf};
 
 // Whether a message of a kind is accepted.
 #[no_mangle]
@@ -29,7 +27,7 @@ pub extern "C" fn chaloenpik_accept(kind: u8, m: &[u8]) -> u64
     let Verdict::No(refusal) = verdict else {
         return 0;
     };
-    refused(refusal)
+    numbers::refused(refusal)
 }
 
 // How many fields a message of a kind has.
@@ -37,7 +35,7 @@ pub extern "C" fn chaloenpik_accept(kind: u8, m: &[u8]) -> u64
 pub extern "C" fn chaloenpik_field_count(kind: u8, m: &[u8]) -> u64
     ensures { λ r. ⌜ r ≡ packed itself (bind (fieldsOf kind (now (m .entry))) (λ es. ok (length es))) ⌝ }
 {
-    pack_counted(fields::count(kind, m))
+    numbers::pack_counted(fields::count(kind, m))
 }
 
 // The entries of the field list from number `first` on, six numbers for each, as many as fit a lent list.
@@ -45,7 +43,7 @@ pub extern "C" fn chaloenpik_field_count(kind: u8, m: &[u8]) -> u64
 pub extern "C" fn chaloenpik_fields(kind: u8, m: &[u8], first: usize, out: &mut [u64]) -> u64
     ensures { λ r. ⌜ (r ≡ packed itself (bind (fieldsOf kind (now (m .entry))) (λ es. windowCount es first (length (now (out .entry)))))) × (now (out .exit) ≡ windowOut (fieldsOf kind (now (m .entry))) first (now (out .entry))) ⌝ }
 {
-    pack_written(fields::window(kind, m, first, out))
+    numbers::pack_written(fields::window(kind, m, first, out))
 }
 
 // The number in the field list of the entry that owns a byte.
@@ -53,7 +51,7 @@ pub extern "C" fn chaloenpik_fields(kind: u8, m: &[u8], first: usize, out: &mut 
 pub extern "C" fn chaloenpik_owner(kind: u8, m: &[u8], offset: usize) -> u64
     ensures { λ r. ⌜ r ≡ packed numberIn (bind (fieldsOf kind (now (m .entry))) (λ es. ownerOf es offset)) ⌝ }
 {
-    pack_owned(fields::owner(kind, m, offset))
+    numbers::pack_owned(fields::owner(kind, m, offset))
 }
 
 // How many tables a response has.
@@ -61,7 +59,7 @@ pub extern "C" fn chaloenpik_owner(kind: u8, m: &[u8], offset: usize) -> u64
 pub extern "C" fn chaloenpik_tables(m: &[u8]) -> u64
     ensures { λ r. ⌜ r ≡ packed itself (bind (readMessage 4 (now (m .entry))) (λ p. ok (length (tablesOf p)))) ⌝ }
 {
-    pack_count(query::tables(m))
+    numbers::pack_count(query::tables(m))
 }
 
 // How many rows table t of a response has.
@@ -69,7 +67,7 @@ pub extern "C" fn chaloenpik_tables(m: &[u8]) -> u64
 pub extern "C" fn chaloenpik_rows(m: &[u8], t: usize) -> u64
     ensures { λ r. ⌜ r ≡ packed rowsOf (ofTable (now (m .entry)) t (λ at b. ok (layoutOf at b))) ⌝ }
 {
-    pack_rows(query::table(m, t))
+    numbers::pack_rows(query::table(m, t))
 }
 
 // How many columns table t of a response has.
@@ -77,7 +75,7 @@ pub extern "C" fn chaloenpik_rows(m: &[u8], t: usize) -> u64
 pub extern "C" fn chaloenpik_columns(m: &[u8], t: usize) -> u64
     ensures { λ r. ⌜ r ≡ packed columnsOf (ofTable (now (m .entry)) t (λ at b. ok (layoutOf at b))) ⌝ }
 {
-    pack_columns(query::table(m, t))
+    numbers::pack_columns(query::table(m, t))
 }
 
 // The wire type of column c of table t of a response.
@@ -85,7 +83,7 @@ pub extern "C" fn chaloenpik_columns(m: &[u8], t: usize) -> u64
 pub extern "C" fn chaloenpik_column_type(m: &[u8], t: usize, c: usize) -> u64
     ensures { λ r. ⌜ r ≡ packed typeOf (ofTable (now (m .entry)) t (λ at b. columnOf at b c)) ⌝ }
 {
-    pack_type(query::column(m, t, c))
+    numbers::pack_type(query::column(m, t, c))
 }
 
 // The position of the first column of table t of a response whose name is equal.
@@ -93,92 +91,244 @@ pub extern "C" fn chaloenpik_column_type(m: &[u8], t: usize, c: usize) -> u64
 pub extern "C" fn chaloenpik_find_column(m: &[u8], t: usize, name: &[u8]) -> u64
     ensures { λ r. ⌜ r ≡ packed itself (ofTable (now (m .entry)) t (λ at b. firstNamed (now (name .entry)) (b .metadata .names) 0)) ⌝ }
 {
-    pack_position(query::find_column(m, t, name))
+    numbers::pack_position(query::find_column(m, t, name))
 }
 
-// A place or a number found, above the low 8 bits.
-fn above(value: usize) -> u64
-    ensures { λ r. ⌜ r ≡ above value ⌝ }
+// ---- The writer: a step each, over a state in numbers, the types of the open table and a buffer.
+
+// Writes a null parameter.
+#[no_mangle]
+pub extern "C" fn chaloenpik_null_param(
+    out: &mut [u8],
+    state: &mut [u64; 11],
+    types: &[u8; 64],
+) -> u64
+    ensures { λ r. ⌜ Wrote nullParam (now (state .entry)) (now (types .entry)) (now (out .entry)) r (now (state .exit)) (now (out .exit)) ⌝ }
 {
-    (value as u64) << 8
+    let st = numbers::load(state, types);
+    let step = call::null_param(out, st);
+    numbers::keep(state, step)
 }
 
-fn refused(refusal: Refusal) -> u64
-    ensures { λ r. ⌜ r ≡ packedNo (refusal .fault) (refusal .place) ⌝ }
+// Writes a parameter of a fixed size: its type, and its value by its upper and lower 64 bits.
+#[no_mangle]
+pub extern "C" fn chaloenpik_fixed_param(
+    out: &mut [u8],
+    state: &mut [u64; 11],
+    types: &[u8; 64],
+    t: u8,
+    upper: u64,
+    lower: u64,
+) -> u64
+    ensures { λ r. ⌜ Wrote (oneParam t (fixed (upper * 2 ^ 64 + lower))) (now (state .entry)) (now (types .entry)) (now (out .entry)) r (now (state .exit)) (now (out .exit)) ⌝ }
 {
-    let fault = refusal.fault;
-    let place = refusal.place;
-    above(place) + format::number_of(fault) as u64
+    let st = numbers::load(state, types);
+    let step = call::fixed_param(out, st, t, upper, lower);
+    numbers::keep(state, step)
 }
 
-fn pack_counted(answer: Counted) -> u64
-    ensures { λ r. ⌜ r ≡ packed itself (toldCounted answer) ⌝ }
+// Writes a text or binary parameter: its type, and its bytes or null.
+#[no_mangle]
+pub extern "C" fn chaloenpik_body_param(
+    out: &mut [u8],
+    state: &mut [u64; 11],
+    types: &[u8; 64],
+    t: u8,
+    null: bool,
+    s: &[u8],
+) -> u64
+    ensures { λ r. ⌜ Wrote (oneParam t (body (optional null (now (s .entry))))) (now (state .entry)) (now (types .entry)) (now (out .entry)) r (now (state .exit)) (now (out .exit)) ⌝ }
 {
-    match answer {
-        Counted::Is(n) => above(n),
-        Counted::No(refusal) => refused(refusal),
-    }
+    let st = numbers::load(state, types);
+    let step = call::body_param(out, st, t, null, s);
+    numbers::keep(state, step)
 }
 
-fn pack_written(answer: Written) -> u64
-    ensures { λ r. ⌜ r ≡ packed itself (toldWritten answer) ⌝ }
+// Writes an array of bytes.
+#[no_mangle]
+pub extern "C" fn chaloenpik_bytes_param(
+    out: &mut [u8],
+    state: &mut [u64; 11],
+    types: &[u8; 64],
+    s: &[u8],
+) -> u64
+    ensures { λ r. ⌜ Wrote (bytesParam (now (s .entry))) (now (state .entry)) (now (types .entry)) (now (out .entry)) r (now (state .exit)) (now (out .exit)) ⌝ }
 {
-    match answer {
-        Written::Is(n) => above(n),
-        Written::No(refusal) => refused(refusal),
-    }
+    let st = numbers::load(state, types);
+    let step = call::bytes_param(out, st, s);
+    numbers::keep(state, step)
 }
 
-fn pack_owned(answer: Owned) -> u64
-    ensures { λ r. ⌜ r ≡ packed numberIn (toldOwned answer) ⌝ }
+// Opens an array of elements of a type.
+#[no_mangle]
+pub extern "C" fn chaloenpik_open_array(
+    out: &mut [u8],
+    state: &mut [u64; 11],
+    types: &[u8; 64],
+    t: u8,
+) -> u64
+    ensures { λ r. ⌜ Wrote (openArray t) (now (state .entry)) (now (types .entry)) (now (out .entry)) r (now (state .exit)) (now (out .exit)) ⌝ }
 {
-    match answer {
-        Owned::By(_, n) => above(n),
-        Owned::No(refusal) => refused(refusal),
-    }
+    let st = numbers::load(state, types);
+    let step = call::open_array(out, st, t);
+    numbers::keep(state, step)
 }
 
-fn pack_count(answer: Count) -> u64
-    ensures { λ r. ⌜ r ≡ packed itself (toldCount answer) ⌝ }
+// Writes an element of a fixed size into the open array.
+#[no_mangle]
+pub extern "C" fn chaloenpik_fixed_element(
+    out: &mut [u8],
+    state: &mut [u64; 11],
+    types: &[u8; 64],
+    t: u8,
+    upper: u64,
+    lower: u64,
+) -> u64
+    ensures { λ r. ⌜ Wrote (element t (fixed (upper * 2 ^ 64 + lower))) (now (state .entry)) (now (types .entry)) (now (out .entry)) r (now (state .exit)) (now (out .exit)) ⌝ }
 {
-    match answer {
-        Count::Is(n) => above(n),
-        Count::No(refusal) => refused(refusal),
-    }
+    let st = numbers::load(state, types);
+    let step = call::fixed_element(out, st, t, upper, lower);
+    numbers::keep(state, step)
 }
 
-fn pack_position(answer: Position) -> u64
-    ensures { λ r. ⌜ r ≡ packed itself (toldPosition answer) ⌝ }
+// Writes a text or binary element into the open array.
+#[no_mangle]
+pub extern "C" fn chaloenpik_body_element(
+    out: &mut [u8],
+    state: &mut [u64; 11],
+    types: &[u8; 64],
+    t: u8,
+    null: bool,
+    s: &[u8],
+) -> u64
+    ensures { λ r. ⌜ Wrote (element t (body (optional null (now (s .entry))))) (now (state .entry)) (now (types .entry)) (now (out .entry)) r (now (state .exit)) (now (out .exit)) ⌝ }
 {
-    match answer {
-        Position::At(n) => above(n),
-        Position::No(refusal) => refused(refusal),
-    }
+    let st = numbers::load(state, types);
+    let step = call::body_element(out, st, t, null, s);
+    numbers::keep(state, step)
 }
 
-fn pack_rows(answer: TableAnswer) -> u64
-    ensures { λ r. ⌜ r ≡ packed rowsOf (toldTable answer) ⌝ }
+// Closes the open array, and fills its count.
+#[no_mangle]
+pub extern "C" fn chaloenpik_close_array(
+    out: &mut [u8],
+    state: &mut [u64; 11],
+    types: &[u8; 64],
+) -> u64
+    ensures { λ r. ⌜ Wrote closeArray (now (state .entry)) (now (types .entry)) (now (out .entry)) r (now (state .exit)) (now (out .exit)) ⌝ }
 {
-    match answer {
-        TableAnswer::Is(layout) => above(layout.rows),
-        TableAnswer::No(refusal) => refused(refusal),
-    }
+    let st = numbers::load(state, types);
+    let step = call::close_array(out, st);
+    numbers::keep(state, step)
 }
 
-fn pack_columns(answer: TableAnswer) -> u64
-    ensures { λ r. ⌜ r ≡ packed columnsOf (toldTable answer) ⌝ }
+// Finishes the invocation: its length and its parameter count are filled.
+#[no_mangle]
+pub extern "C" fn chaloenpik_finish_call(
+    out: &mut [u8],
+    state: &mut [u64; 11],
+    types: &[u8; 64],
+) -> u64
+    ensures { λ r. ⌜ Wrote finishCall (now (state .entry)) (now (types .entry)) (now (out .entry)) r (now (state .exit)) (now (out .exit)) ⌝ }
 {
-    match answer {
-        TableAnswer::Is(layout) => above(layout.columns),
-        TableAnswer::No(refusal) => refused(refusal),
-    }
+    let st = numbers::load(state, types);
+    let step = call::finish_call(out, st);
+    numbers::keep(state, step)
 }
 
-fn pack_type(answer: ColumnAnswer) -> u64
-    ensures { λ r. ⌜ r ≡ packed typeOf (toldColumn answer) ⌝ }
+// Opens a row.
+#[no_mangle]
+pub extern "C" fn chaloenpik_open_row(
+    out: &mut [u8],
+    state: &mut [u64; 11],
+    types: &[u8; 64],
+) -> u64
+    ensures { λ r. ⌜ Wrote openRow (now (state .entry)) (now (types .entry)) (now (out .entry)) r (now (state .exit)) (now (out .exit)) ⌝ }
 {
-    match answer {
-        ColumnAnswer::Is(layout) => above(layout.wire_type as usize),
-        ColumnAnswer::No(refusal) => refused(refusal),
-    }
+    let st = numbers::load(state, types);
+    let step = reply::open_row(out, st);
+    numbers::keep(state, step)
+}
+
+// Closes the open row, and fills its length.
+#[no_mangle]
+pub extern "C" fn chaloenpik_close_row(
+    out: &mut [u8],
+    state: &mut [u64; 11],
+    types: &[u8; 64],
+) -> u64
+    ensures { λ r. ⌜ Wrote closeRow (now (state .entry)) (now (types .entry)) (now (out .entry)) r (now (state .exit)) (now (out .exit)) ⌝ }
+{
+    let st = numbers::load(state, types);
+    let step = reply::close_row(out, st);
+    numbers::keep(state, step)
+}
+
+// Closes the open table, and fills its length and its row count.
+#[no_mangle]
+pub extern "C" fn chaloenpik_close_table(
+    out: &mut [u8],
+    state: &mut [u64; 11],
+    types: &[u8; 64],
+) -> u64
+    ensures { λ r. ⌜ Wrote closeTable (now (state .entry)) (now (types .entry)) (now (out .entry)) r (now (state .exit)) (now (out .exit)) ⌝ }
+{
+    let st = numbers::load(state, types);
+    let step = reply::close_table(out, st);
+    numbers::keep(state, step)
+}
+
+// Finishes the response: its length and its table count are filled.
+#[no_mangle]
+pub extern "C" fn chaloenpik_finish_reply(
+    out: &mut [u8],
+    state: &mut [u64; 11],
+    types: &[u8; 64],
+) -> u64
+    ensures { λ r. ⌜ Wrote finishReply (now (state .entry)) (now (types .entry)) (now (out .entry)) r (now (state .exit)) (now (out .exit)) ⌝ }
+{
+    let st = numbers::load(state, types);
+    let step = reply::finish_reply(out, st);
+    numbers::keep(state, step)
+}
+
+// Writes a login request. In version 0 the hash version, here `hashing`, is ignored.
+#[no_mangle]
+pub extern "C" fn chaloenpik_write_login_request(
+    out: &mut [u8],
+    version: u8,
+    hashing: u8,
+    service: &[u8],
+    user: &[u8],
+    hash: &[u8],
+) -> u64
+    ensures { λ r. ⌜ WroteLogin (loginRequest version hashing (now (service .entry)) (now (user .entry)) (now (hash .entry)) (now (out .entry))) r (now (out .exit)) ⌝ }
+{
+    numbers::pack_answer(login::login_request(out, version, hashing, service, user, hash))
+}
+
+// Writes a login response, its numbers without a sign. With a result other than 0 all that follows it is ignored.
+#[no_mangle]
+pub extern "C" fn chaloenpik_write_login_response(
+    out: &mut [u8],
+    version: u8,
+    result: u8,
+    host: u32,
+    connection: u64,
+    start: u64,
+    leader: u32,
+    build: &[u8],
+) -> u64
+    ensures { λ r. ⌜ WroteLogin (loginResponse version result (welcome host connection start leader (now (build .entry))) (now (out .entry))) r (now (out .exit)) ⌝ }
+{
+    numbers::pack_answer(login::login_response(
+        out,
+        version,
+        result,
+        host,
+        connection,
+        start,
+        leader,
+        build,
+    ))
 }

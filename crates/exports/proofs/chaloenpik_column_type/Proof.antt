@@ -1,6 +1,6 @@
 -- `exports::chaloenpik_column_type` meets its contract: what the query answers, packed.
 use mathlib.Core.Path.{ap, _∙_}
-use Rattle.exports.specs.Packed.{packed, typeOf}
+use Rattle.numbers.specs.Packed.{packed, typeOf}
 use borrow.Author.Needs.{needs}
 use Rattle.exports.proofs.chaloenpik_column_type.Statement.{statement}
 use Rattle.exports.proofs.chaloenpik_column_type.Tie as tie

@@ -1,6 +1,6 @@
 -- `exports::chaloenpik_columns` meets its contract: what the query answers, packed.
 use mathlib.Core.Path.{ap, _∙_}
-use Rattle.exports.specs.Packed.{packed, columnsOf}
+use Rattle.numbers.specs.Packed.{packed, columnsOf}
 use borrow.Author.Needs.{needs}
 use Rattle.exports.proofs.chaloenpik_columns.Statement.{statement}
 use Rattle.exports.proofs.chaloenpik_columns.Tie as tie

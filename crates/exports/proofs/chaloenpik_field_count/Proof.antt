@@ -1,6 +1,6 @@
 -- `exports::chaloenpik_field_count` meets its contract: what the list answers, packed.
 use mathlib.Core.Path.{ap, _∙_}
-use Rattle.exports.specs.Packed.{packed, itself}
+use Rattle.numbers.specs.Packed.{packed, itself}
 use borrow.Author.Needs.{needs}
 use Rattle.exports.proofs.chaloenpik_field_count.Statement.{statement}
 use Rattle.exports.proofs.chaloenpik_field_count.Tie as tie

@@ -1,6 +1,6 @@
 -- `exports::chaloenpik_fields` meets its contract: what the window answers, packed, and what it wrote.
 use mathlib.Core.Path.{ap, _∙_}
-use Rattle.exports.specs.Packed.{packed, itself}
+use Rattle.numbers.specs.Packed.{packed, itself}
 use borrow.Author.Needs.{needs}
 use Rattle.exports.proofs.chaloenpik_fields.Statement.{statement}
 use Rattle.exports.proofs.chaloenpik_fields.Tie as tie

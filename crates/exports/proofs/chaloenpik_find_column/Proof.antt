@@ -1,6 +1,6 @@
 -- `exports::chaloenpik_find_column` meets its contract: what the query answers, packed.
 use mathlib.Core.Path.{ap, _∙_}
-use Rattle.exports.specs.Packed.{packed, itself}
+use Rattle.numbers.specs.Packed.{packed, itself}
 use borrow.Author.Needs.{needs}
 use Rattle.exports.proofs.chaloenpik_find_column.Statement.{statement}
 use Rattle.exports.proofs.chaloenpik_find_column.Tie as tie

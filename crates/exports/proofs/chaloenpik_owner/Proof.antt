@@ -1,6 +1,6 @@
 -- `exports::chaloenpik_owner` meets its contract: what the list answers, packed.
 use mathlib.Core.Path.{ap, _∙_}
-use Rattle.exports.specs.Packed.{packed, numberIn}
+use Rattle.numbers.specs.Packed.{packed, numberIn}
 use borrow.Author.Needs.{needs}
 use Rattle.exports.proofs.chaloenpik_owner.Statement.{statement}
 use Rattle.exports.proofs.chaloenpik_owner.Tie as tie

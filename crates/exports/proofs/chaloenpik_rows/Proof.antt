@@ -1,6 +1,6 @@
 -- `exports::chaloenpik_rows` meets its contract: what the query answers, packed.
 use mathlib.Core.Path.{ap, _∙_}
-use Rattle.exports.specs.Packed.{packed, rowsOf}
+use Rattle.numbers.specs.Packed.{packed, rowsOf}
 use borrow.Author.Needs.{needs}
 use Rattle.exports.proofs.chaloenpik_rows.Statement.{statement}
 use Rattle.exports.proofs.chaloenpik_rows.Tie as tie

@@ -1,0 +1,2 @@
+-- The proofs: what a step leaves, in numbers (Kept).
+pub mod Kept

@@ -1,0 +1,60 @@
+-- `numbers::keep_all` meets its contract, case by case. Assumes nothing.
+use mathlib.Core.Path.{sym, ap, _∙_}
+use Rattle.write.specs.declared.Answer.{Answer}
+use Rattle.numbers.specs.Packed.{packed, itself}
+use Rattle.numbers.specs.Stored.{toldAnswer, kept, keptTypes}
+use borrow.Author.Needs.{needs}
+use Rattle.numbers.proofs.keep_all.Statement.{statement}
+use Rattle.numbers.proofs.keep_all.Tie as tie
+use Rattle.numbers.proofs.keep_all.Reads as reads
+use Rattle.numbers.proofs.keep_all.Lts as lts
+use Rattle.numbers.proofs.above.Reads as above-reads
+use Rattle.numbers.proofs.refused.Reads as refused-reads
+use Rattle.numbers.proofs.save.Reads as save-reads
+
+enum-known-answer : tie.Need-enum-known-answer
+enum-known-answer c = search needs
+
+save-requires : tie.Need-save-requires
+save-requires c κs = search needs
+
+above-requires : tie.Need-above-requires
+above-requires c κs = search needs
+
+enum-known-answer-2 : tie.Need-enum-known-answer-2
+enum-known-answer-2 c = search needs
+
+refused-requires : tie.Need-refused-requires
+refused-requires c κs = search needs
+
+returns : tie.Need-returns
+returns c =
+    let told = c .before .before .before .before .before .before .answer .given .1 in
+    let a = c .before .before .before .before .before .before .before .before .before .args in
+    let s = a .step .state in (
+      c .above .ensures ∙ sym (ap (λ (z : Answer). packed itself (toldAnswer z)) told),
+      c .before .save .ensures ∙ sym (ap (λ (z : Answer). kept (a .numbers .now) z s) told),
+      sym (ap (λ (z : Answer). keptTypes (a .types .now) z (s .columns .types)) told),
+    )
+
+returns-2 : tie.Need-returns-2
+returns-2 c =
+    let told = c .before .before .answer2 .given .1 in
+    let a = c .before .before .before .before .before .args in
+    let s = a .step .state in (
+      c .refused .ensures ∙ sym (ap (λ (z : Answer). packed itself (toldAnswer z)) told),
+      sym (ap (λ (z : Answer). kept (a .numbers .now) z s) told),
+      sym (ap (λ (z : Answer). keptTypes (a .types .now) z (s .columns .types)) told),
+    )
+
+pub keep-all-spec : {M : Type 1} → statement M
+keep-all-spec =
+    tie.close
+    (tie.spec
+    enum-known-answer
+    save-requires
+    above-requires
+    enum-known-answer-2
+    refused-requires
+    returns
+    returns-2)

@@ -1,0 +1,37 @@
+-- `numbers::pack_owned` meets its contract, case by case.
+use mathlib.Core.Path.{sym, ap, _∙_}
+use Rattle.fields.specs.declared.Owned.{Owned}
+use Rattle.fields.specs.Told.{toldOwned}
+use Rattle.numbers.specs.Packed.{packed, numberIn}
+use borrow.Author.Needs.{needs}
+use Rattle.numbers.proofs.pack_owned.Statement.{statement}
+use Rattle.numbers.proofs.pack_owned.Tie as tie
+
+enum-known-answer : tie.Need-enum-known-answer
+enum-known-answer c = search needs
+
+above-requires : tie.Need-above-requires
+above-requires c κs = search needs
+
+enum-known-answer-2 : tie.Need-enum-known-answer-2
+enum-known-answer-2 c = search needs
+
+refused-requires : tie.Need-refused-requires
+refused-requires c κs = search needs
+
+returns : tie.Need-returns
+returns c = c .above .ensures ∙ sym (ap (λ (a : Owned). packed numberIn (toldOwned a)) (c .before .before .answer .given .1))
+
+returns-2 : tie.Need-returns-2
+returns-2 c = c .refused .ensures ∙ sym (ap (λ (a : Owned). packed numberIn (toldOwned a)) (c .before .before .answer2 .given .1))
+
+pub pack-owned-spec : {M : Type 1} → statement M
+pack-owned-spec =
+    tie.close
+    (tie.spec
+    enum-known-answer
+    above-requires
+    enum-known-answer-2
+    refused-requires
+    returns
+    returns-2)

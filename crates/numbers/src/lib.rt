@@ -1,0 +1,226 @@
+// Answers and the writer's state as numbers, for the C interface, which takes and gives nothing else.
+use fields::Counted;
+use fields::Owned;
+use fields::Written;
+use format::Refusal;
+use query::ColumnAnswer;
+use query::Count;
+use query::Position;
+use query::TableAnswer;
+use write::Answer;
+use write::Columns;
+use write::Stage;
+use write::State;
+use write::Step;
+ghost use mathlib.Core.Path.{_≡_};
+ghost use Rattle.fields.specs.Told.{toldCounted, toldOwned, toldWritten};
+ghost use Rattle.query.specs.Answers.{toldCount, toldTable, toldColumn, toldPosition};
+ghost use Rattle.write.specs.State.{stageNumber};
+ghost use Rattle.numbers.specs.Packed.{above, packed, packedNo, itself, numberIn, rowsOf, columnsOf, typeOf};
+ghost use Rattle.numbers.specs.Stored.{stageOf, byteOf, stateOf, numbersOf, toldAnswer, kept, keptTypes};
+
+// A place or a number found, above the low 8 bits.
+pub fn above(value: usize) -> u64
+    ensures { λ r. ⌜ r ≡ above value ⌝ }
+{
+    (value as u64) << 8
+}
+
+pub fn refused(refusal: Refusal) -> u64
+    ensures { λ r. ⌜ r ≡ packedNo (refusal .fault) (refusal .place) ⌝ }
+{
+    let fault = refusal.fault;
+    let place = refusal.place;
+    above(place) + format::number_of(fault) as u64
+}
+
+pub fn pack_counted(answer: Counted) -> u64
+    ensures { λ r. ⌜ r ≡ packed itself (toldCounted answer) ⌝ }
+{
+    match answer {
+        Counted::Is(n) => above(n),
+        Counted::No(refusal) => refused(refusal),
+    }
+}
+
+pub fn pack_written(answer: Written) -> u64
+    ensures { λ r. ⌜ r ≡ packed itself (toldWritten answer) ⌝ }
+{
+    match answer {
+        Written::Is(n) => above(n),
+        Written::No(refusal) => refused(refusal),
+    }
+}
+
+pub fn pack_owned(answer: Owned) -> u64
+    ensures { λ r. ⌜ r ≡ packed numberIn (toldOwned answer) ⌝ }
+{
+    match answer {
+        Owned::By(_, n) => above(n),
+        Owned::No(refusal) => refused(refusal),
+    }
+}
+
+pub fn pack_count(answer: Count) -> u64
+    ensures { λ r. ⌜ r ≡ packed itself (toldCount answer) ⌝ }
+{
+    match answer {
+        Count::Is(n) => above(n),
+        Count::No(refusal) => refused(refusal),
+    }
+}
+
+pub fn pack_position(answer: Position) -> u64
+    ensures { λ r. ⌜ r ≡ packed itself (toldPosition answer) ⌝ }
+{
+    match answer {
+        Position::At(n) => above(n),
+        Position::No(refusal) => refused(refusal),
+    }
+}
+
+pub fn pack_rows(answer: TableAnswer) -> u64
+    ensures { λ r. ⌜ r ≡ packed rowsOf (toldTable answer) ⌝ }
+{
+    match answer {
+        TableAnswer::Is(layout) => above(layout.rows),
+        TableAnswer::No(refusal) => refused(refusal),
+    }
+}
+
+pub fn pack_columns(answer: TableAnswer) -> u64
+    ensures { λ r. ⌜ r ≡ packed columnsOf (toldTable answer) ⌝ }
+{
+    match answer {
+        TableAnswer::Is(layout) => above(layout.columns),
+        TableAnswer::No(refusal) => refused(refusal),
+    }
+}
+
+pub fn pack_type(answer: ColumnAnswer) -> u64
+    ensures { λ r. ⌜ r ≡ packed typeOf (toldColumn answer) ⌝ }
+{
+    match answer {
+        ColumnAnswer::Is(layout) => above(layout.wire_type as usize),
+        ColumnAnswer::No(refusal) => refused(refusal),
+    }
+}
+
+fn stage_of(n: u64) -> Stage
+    ensures { λ r. ⌜ r ≡ stageOf n ⌝ }
+{
+    match n {
+        1 => Stage::Call,
+        2 => Stage::Array,
+        3 => Stage::Reply,
+        4 => Stage::Table,
+        5 => Stage::Row,
+        _ => Stage::Closed,
+    }
+}
+
+fn stage_number(s: Stage) -> u64
+    ensures { λ r. ⌜ r ≡ stageNumber s ⌝ }
+{
+    match s {
+        Stage::Closed => 0,
+        Stage::Call => 1,
+        Stage::Array => 2,
+        Stage::Reply => 3,
+        Stage::Table => 4,
+        Stage::Row => 5,
+    }
+}
+
+// A number as a byte; one that is no byte is 0, which is no type.
+fn byte_of(n: u64) -> u8
+    ensures { λ r. ⌜ r ≡ byteOf n ⌝ }
+{
+    if n < 256 { n as u8 } else { 0 }
+}
+
+// The state that numbers and types say.
+pub fn load(numbers: &[u64; 11], types: &[u8; 64]) -> State
+    ensures { λ r. ⌜ r ≡ stateOf (now (numbers .entry)) (now (types .entry)) ⌝ }
+{
+    State {
+        stage: stage_of(numbers[0]),
+        position: numbers[1] as usize,
+        count_at: numbers[2] as usize,
+        count: numbers[3] as usize,
+        inner_at: numbers[4] as usize,
+        inner_type: byte_of(numbers[5]),
+        inner_count: numbers[6] as usize,
+        table_at: numbers[7] as usize,
+        rows_at: numbers[8] as usize,
+        rows: numbers[9] as usize,
+        columns: Columns {
+            n: numbers[10] as usize,
+            types: *types,
+        },
+    }
+}
+
+// The numbers of a state.
+pub fn save(numbers: &mut [u64; 11], st: State)
+    ensures { λ _. ⌜ now (numbers .exit) ≡ numbersOf st ⌝ }
+{
+    let stage = st.stage;
+    let columns = st.columns;
+    *numbers = [
+        stage_number(stage),
+        st.position as u64,
+        st.count_at as u64,
+        st.count as u64,
+        st.inner_at as u64,
+        st.inner_type as u64,
+        st.inner_count as u64,
+        st.table_at as u64,
+        st.rows_at as u64,
+        st.rows as u64,
+        columns.n as u64,
+    ];
+}
+
+// Packs a step's answer, and keeps the state that it leaves; a refusal leaves the numbers as they were.
+pub fn keep(numbers: &mut [u64; 11], step: Step) -> u64
+    ensures { λ r. ⌜ (r ≡ packed itself (toldAnswer (step .answer))) × (now (numbers .exit) ≡ kept (now (numbers .entry)) (step .answer) (step .state)) ⌝ }
+{
+    let answer = step.answer;
+    let state = step.state;
+    match answer {
+        Answer::Reached(n) => {
+            save(numbers, state);
+            above(n)
+        }
+        Answer::No(refusal) => refused(refusal),
+    }
+}
+
+// The same for a step that also sets the types of the columns.
+pub fn keep_all(numbers: &mut [u64; 11], types: &mut [u8; 64], step: Step) -> u64
+    ensures { λ r. ⌜ (r ≡ packed itself (toldAnswer (step .answer))) × (now (numbers .exit) ≡ kept (now (numbers .entry)) (step .answer) (step .state)) × (now (types .exit) ≡ keptTypes (now (types .entry)) (step .answer) (step .state .columns .types)) ⌝ }
+{
+    let answer = step.answer;
+    let state = step.state;
+    match answer {
+        Answer::Reached(n) => {
+            let columns = state.columns;
+            let set = columns.types;
+            *types = set;
+            save(numbers, state);
+            above(n)
+        }
+        Answer::No(refusal) => refused(refusal),
+    }
+}
+
+// The answer of a call that has no state, packed.
+pub fn pack_answer(answer: Answer) -> u64
+    ensures { λ r. ⌜ r ≡ packed itself (toldAnswer answer) ⌝ }
+{
+    match answer {
+        Answer::Reached(n) => above(n),
+        Answer::No(refusal) => refused(refusal),
+    }
+}
