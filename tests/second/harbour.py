@@ -1,5 +1,7 @@
 #!/usr/bin/env python3
-"""Makes samples/: messages of a made-up harbour whose engine control asks a database for the limits of its engines."""
+"""Makes samples/: messages of a made-up harbour whose engine control asks a database for the limits of its engines; and, for the
+program `limit`, its input and what it prints: the sample reply, the same with a row more, three in which the limit's column is no
+longer what it was, and one that lacks a later column."""
 
 import pathlib
 
@@ -33,9 +35,57 @@ MESSAGES = {
                           "status_string": b"ok", "application": -128, "round_trip": 2, "tables": [ENGINES]}),
 }
 
+
+
+def without(table, column):
+    """The table with a column dropped."""
+    at = table["names"].index(column)
+    def drop(entries):
+        return entries[:at] + entries[at + 1:]
+    return dict(table, types=drop(table["types"]), names=drop(table["names"]), rows=[drop(row) for row in table["rows"]])
+
+
+def changed(table, column, **changes):
+    """The table with a column's type, name or values changed."""
+    at = table["names"].index(column)
+    rows = [row[:at] + [changes.get("value", row[at])] + row[at + 1:] for row in table["rows"]]
+    return dict(table, rows=rows, **{key: table[key][:at] + [new] + table[key][at + 1:] for key, new in changes.items() if key in table})
+
+
+def replies():
+    more = dict(ENGINES, rows=[[5, b"Clam", None, 500_000_000_000, 0, (0.0, 0.0), 0]] + ENGINES["rows"])
+    tables = [ENGINES, more, without(ENGINES, b"VESSEL"), changed(ENGINES, b"THROTTLE_LIMIT", names=b"THROTTLE_LIMITS"),
+              changed(ENGINES, b"THROTTLE_LIMIT", types=VARBINARY, value=None), without(ENGINES, b"SERVICED")]
+    return [encode(REPLY, dict(MESSAGES["4-engines"][1], tables=[table])) for table in tables]
+
+
+def limits(messages):
+    """What the program `limit` prints for these replies, by the second reader."""
+    lines, card = [], None
+    for message in messages:
+        record, fields = read(REPLY, message)
+        table = record["tables"][0]
+        columns = list(zip(table["types"], table["names"]))
+        if card is None:
+            position = table["names"].index(b"THROTTLE_LIMIT")
+            card = position, columns[position]
+        position = card[0]
+        if columns[position:position + 1] != [card[1]]:
+            lines.append("card refused 10 0")
+            continue
+        row = [row[table["names"].index(b"ENGINE_ID")] for row in table["rows"]].index(2)
+        offset, size = next(field[:2] for field in fields if field[2:] == (51, 0, row, position))
+        lines.append("limit %d x 10^-12, column %d, row %d: %d bytes from %d; byte %d is of field 51, table 0, row %d, column %d"
+                     % (table["rows"][row][position], position, row, size, offset, offset, row, position))
+    return "".join(line + "\n" for line in lines)
+
+
 if __name__ == "__main__":
     SAMPLES.mkdir(exist_ok=True)
     for name, (kind, record) in MESSAGES.items():
         message = encode(kind, record)
         assert read(kind, message)[0] == record
         (SAMPLES / (name + ".bin")).write_bytes(message)
+    program, messages = SAMPLES.parent / "crates" / "limit", replies()
+    (program / "stdin").write_bytes(b"".join(len(reply).to_bytes(4, "big") + reply for reply in messages))
+    (program / "stdout").write_text(limits(messages))

@@ -1,10 +1,11 @@
-// What holds a reference: a reader over one table of a message. Each function is thin over one of `query`.
+// What holds a reference: a reader over one table of a message. Each function is thin over one of `query` or `cards`.
 use query::CellAnswer;
 use query::ColumnAnswer;
 use query::Part;
 use query::Position;
 use query::TableAnswer;
 ghost use mathlib.Core.Path.{_≡_};
+ghost use Rattle.cards.specs.Answers.{askOpen};
 ghost use Rattle.query.specs.Answers.{toldTable, askTable, toldColumn, askColumn, toldPosition, askPosition, toldCell, askCell, toldPart, askCellSpan, partIn};
 
 // One table, kept open over its message. Making it looks at nothing: each call on it refuses as the call on the message does.
@@ -39,6 +40,13 @@ pub fn find<'a, 'b>(r: TableReader<'a>, name: &'b [u8]) -> Position
     ensures { λ a. ⌜ toldPosition a ≡ askPosition (now (r .entry .msg)) (r .entry .table) (now (name .entry)) ⌝ }
 {
     query::find_column(r.msg, r.table, name)
+}
+
+// The position of the column that a card was made from.
+pub fn opened<'a, 'b>(r: TableReader<'a>, card: &'b [u8]) -> Position
+    ensures { λ a. ⌜ toldPosition a ≡ askOpen (now (r .entry .msg)) (r .entry .table) (now (card .entry)) ⌝ }
+{
+    cards::open_card(r.msg, r.table, card)
 }
 
 // A cell, shown by its column's type.

@@ -21,7 +21,8 @@ use Rattle.message.specs.Inner.{head}
 use Rattle.message.proofs.Heads.{respond, response-is}
 use Rattle.query.specs.Stands.{Stands}
 use Rattle.query.specs.Shown.{pastOf, numberIn, shownOf}
-use Rattle.query.specs.Answers.{entry, ofPart, ofTable, layoutOf, columnOf, Here, cellHere, shownHere, partOf, toldPart}
+use Rattle.query.specs.declared.ColumnLayout.{ColumnLayout}
+use Rattle.query.specs.Answers.{entry, perhaps, ofPart, ofTable, layoutOf, nameBytes, columnOf, Here, cellHere, shownHere, partOf, toldPart}
 use Rattle.query.specs.declared.Part.{Part}
 use Rattle.format.specs.Value.{value}
 use Rattle.query.specs.Places.{tablesOf, tableAt, typeAt, nameAt, rowAt}
@@ -115,6 +116,14 @@ module _ (m : List ℕ) (b : Bytes m) (t : ℕ) where
       let q = bound (entry (tablesOf (r .0)) t) (r .2) in
       record { message = r .0; accepted = r .1; tab = q .0; there = q .1; stands = table-stands m b (r .0) (r .1) t (q .1); is = sym (ok-same (q .2)) }
 
+-- the names of a table stand where its layout says
+pub names-from : {m : List ℕ} {at : ℕ} {b : Table} → Stands table m at b → {names count : ℕ} → names ≡ nameAt at (b .metadata) 0 → count ≡ length (b .metadata .types)
+    → Stands (each third 0 (replicate count name)) m names (b .metadata .names)
+unfolding total
+names-from {at = at} {b = b} d {names} e n =
+    let at-is : at + 4 + 7 + length (b .metadata .types) ≡ names = omega (arith, name-place at (b .metadata) 0 (omega arith)) in
+    rw n (stands-at at-is (names-stand (metadata-stands d)))
+
 module _ {m : List ℕ} {t : ℕ} {l : TableLayout} (o : Opened m t l) where
   abbrev place : ℕ
   place = tableAt (o .message) t
@@ -140,12 +149,8 @@ module _ {m : List ℕ} {t : ℕ} {l : TableLayout} (o : Opened m t l) where
   pub rows-at : l .«first_row» ≡ rowAt (tableAt (o .message) t) (o .tab) 0
   rows-at = ap (λ (z : TableLayout). z .«first_row») (o .is)
 
-  -- the names stand where the layout says
   pub named : Stands (each third 0 (replicate (l .columns) name)) m (l .names) (o .tab .metadata .names)
-  unfolding total
-  named =
-      let at-is : place + 4 + 7 + length (o .tab .metadata .types) ≡ l .names = omega (arith, names-at, name-place place (o .tab .metadata) 0 (omega arith)) in
-      rw columns-are (stands-at at-is (names-stand (metadata-stands (o .stands))))
+  named = names-from (o .stands) names-at columns-are
 
   -- and there is room for the types
   pub types-fit : (c : ℕ) → c ≤ l .columns → l .types + c ≤ length m
@@ -221,6 +226,30 @@ module _ {P : Type 0} (kind : ℕ) (parts : Message → List P) (place : Message
             ≡ bind r (λ z. bind (entry (parts z) i) (λ b. bind (ask (place z i) b) (λ a. k (g a))))
         by-message (ok z) = by-part (entry (parts z) i) (place z i)
         by-message (no h q) = refl
+
+module _ {A : Type 0} where
+  pub some-ok : (r : Res A) {a : A} → some a ≡ perhaps r → r ≡ ok a
+  some-ok (ok b) {a} e = let same : b ≡ a = cc in ap ok same
+  some-ok (no f p) e = absurd (let z : _≡_ {A = ℕ} 0 1 = cc in omega arith)
+
+-- a column that isn't there is past the end
+module _ {A : Type 0} where
+  only-past : (l : List A) (i : ℕ) {f : Fault} {p : ℕ} → entry l i ≡ no f p → _≡_ {A = Res A} (no f p) (no PastEnd 0)
+  only-past [] i e = sym e
+  only-past (a ∷ l) zero e = absurd (no-ok (sym e))
+  only-past (a ∷ l) (suc i) e = only-past l i e
+
+pub none-past : (at : ℕ) (b : Table) (c : ℕ) → none ≡ perhaps (columnOf at b c) → columnOf at b c ≡ no PastEnd 0
+none-past at b c e = by-entries (entry (b .metadata .types) c) refl (entry (b .metadata .names) c) refl e
+  where
+    described : ℕ → Option (List ℕ) → ColumnLayout
+    described t n = record { «wire_type» = t; «type_at» = typeAt at (b .metadata) c; name = nameAt at (b .metadata) c + 4; «name_length» = length (nameBytes n) }
+
+    by-entries : (x : Res ℕ) → entry (b .metadata .types) c ≡ x → (y : Res (Option (List ℕ))) → entry (b .metadata .names) c ≡ y
+        → none ≡ perhaps (bind x (λ t. bind y (λ n. ok (described t n)))) → bind x (λ t. bind y (λ n. ok (described t n))) ≡ no PastEnd 0
+    by-entries (ok t) h (ok n) g e = absurd (let z : _≡_ {A = ℕ} 0 1 = cc in omega arith)
+    by-entries (ok t) h (no f p) g e = retold (only-past (b .metadata .names) c g)
+    by-entries (no f p) h y g e = retold (only-past (b .metadata .types) c h)
 
 -- a value that was found, where it is said to stand
 pub record Shows (m : List ℕ) (h : Here) : Type 0 where

@@ -20,11 +20,13 @@ use Rattle.query.specs.declared.TableLayout.{TableLayout}
 use Rattle.query.specs.declared.TableAnswer.{TableAnswer}
 use Rattle.query.specs.declared.ColumnLayout.{ColumnLayout}
 use Rattle.query.specs.declared.ColumnAnswer.{ColumnAnswer}
+use Rattle.query.specs.declared.Placed.{Placed}
 use Rattle.query.specs.declared.Position.{Position}
+use Rattle.query.specs.declared.Named.{Named}
 use Rattle.query.specs.declared.CellAnswer.{CellAnswer}
 use Rattle.query.specs.declared.Part.{Part}
 use Rattle.query.specs.declared.Argued.{Argued}
-use Rattle.query.specs.Answers.{Here, Given, entry, same, isNamed, firstNamed, shownHere, partOf, partIn, toldCount, toldTable, toldColumn, toldPosition, toldCell, toldPart, toldArgument}
+use Rattle.query.specs.Answers.{Here, Given, entry, same, isNamed, firstNamed, shownHere, partOf, partIn, toldCount, toldTable, toldColumn, toldPlaced, toldPosition, toldNamed, toldCell, toldPart, toldArgument}
 use Rattle.query.proofs.Names.{same-yes, same-true}
 use Rattle.query.proofs.Parts.{part-stands}
 use Rattle.query.proofs.Opened.{Shows}
@@ -50,6 +52,16 @@ column-once = once toldColumn (answer ColumnAnswer.Is ColumnAnswer.No) (elim [ C
 
 pub position-once : (a b : Position) → toldPosition a ≡ toldPosition b → a ≡ b
 position-once = once toldPosition (answer Position.At Position.No) (elim [ Position.At i ↦ refl | Position.No r ↦ refl ])
+
+abbrev placed : Option ColumnLayout → Placed
+placed none = Placed.Past
+placed (some l) = Placed.Is l
+
+pub placed-once : (a b : Placed) → toldPlaced a ≡ toldPlaced b → a ≡ b
+placed-once = once toldPlaced (answer placed Placed.No) (elim [ Placed.Is l ↦ refl | Placed.Past ↦ refl | Placed.No r ↦ refl ])
+
+pub named-once : (a b : Named) → toldNamed a ≡ toldNamed b → a ≡ b
+named-once = once toldNamed (answer (λ v. Named.At (v .0) (v .1)) Named.No) (elim [ Named.At i l ↦ refl | Named.No r ↦ refl ])
 
 pub cell-once : (a b : CellAnswer) → toldCell a ≡ toldCell b → a ≡ b
 cell-once = once toldCell (answer CellAnswer.Is CellAnswer.No) (elim [ CellAnswer.Is c ↦ refl | CellAnswer.No r ↦ refl ])

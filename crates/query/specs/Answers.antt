@@ -17,7 +17,9 @@ use Rattle.query.specs.declared.TableLayout.{TableLayout}
 use Rattle.query.specs.declared.TableAnswer.{TableAnswer}
 use Rattle.query.specs.declared.ColumnLayout.{ColumnLayout}
 use Rattle.query.specs.declared.ColumnAnswer.{ColumnAnswer}
+use Rattle.query.specs.declared.Placed.{Placed}
 use Rattle.query.specs.declared.Position.{Position}
+use Rattle.query.specs.declared.Named.{Named}
 use Rattle.query.specs.declared.CellAnswer.{CellAnswer}
 use Rattle.query.specs.declared.Part.{Part}
 use Rattle.query.specs.declared.Argued.{Argued}
@@ -29,6 +31,11 @@ module _ {A : Type 0} where
   entry [] i = no PastEnd 0
   entry (a ∷ l) zero = ok a
   entry (a ∷ l) (suc i) = entry l i
+
+  -- what is there, if anything is
+  abbrev pub perhaps : Res A → Option A
+  perhaps (ok a) = some a
+  perhaps (no f p) = none
 
 module _ {A B : Type 0} where
   -- what is asked of the i-th of a message's parts, by its place and what it is
@@ -81,6 +88,10 @@ nameBytes (some bs) = bs
 abbrev pub columnOf : ℕ → Table → ℕ → Res ColumnLayout
 columnOf at b c = bind (entry (b .metadata .types) c) (λ t. bind (entry (b .metadata .names) c) (λ n.
     ok (record { «wire_type» = t; «type_at» = typeAt at (b .metadata) c; name = nameAt at (b .metadata) c + 4; «name_length» = length (nameBytes n) })))
+
+-- the first column of a name, with its position
+abbrev pub namedOf : ℕ → Table → List ℕ → Res (ℕ × ColumnLayout)
+namedOf at b name = bind (firstNamed name (b .metadata .names) 0) (λ i. bind (columnOf at b i) (λ l. ok (i, l)))
 
 -- a cell: its column's type and the place of that, its own place and its value
 pub record Here : Type 0 where
@@ -161,8 +172,14 @@ askTable m t = ofTable m t (λ at b. ok (layoutOf at b))
 abbrev pub askColumn : List ℕ → ℕ → ℕ → Res ColumnLayout
 askColumn m t c = ofTable m t (λ at b. columnOf at b c)
 
+abbrev pub askPlaced : List ℕ → ℕ → ℕ → Res (Option ColumnLayout)
+askPlaced m t c = ofTable m t (λ at b. ok (perhaps (columnOf at b c)))
+
 abbrev pub askPosition : List ℕ → ℕ → List ℕ → Res ℕ
 askPosition m t name = ofTable m t (λ at b. firstNamed name (b .metadata .names) 0)
+
+abbrev pub askNamed : List ℕ → ℕ → List ℕ → Res (ℕ × ColumnLayout)
+askNamed m t name = ofTable m t (λ at b. namedOf at b name)
 
 abbrev pub askCell : List ℕ → ℕ → ℕ → ℕ → Res Cell
 askCell m t k c = ofTable m t (λ at b. bind (cellHere at b k c) (λ h. ok (shownHere h)))
@@ -195,9 +212,18 @@ abbrev pub toldColumn : ColumnAnswer → Res ColumnLayout
 toldColumn (ColumnAnswer.Is a) = ok a
 toldColumn (ColumnAnswer.No r) = no (r .fault) (r .place)
 
+abbrev pub toldPlaced : Placed → Res (Option ColumnLayout)
+toldPlaced (Placed.Is a) = ok (some a)
+toldPlaced Placed.Past = ok none
+toldPlaced (Placed.No r) = no (r .fault) (r .place)
+
 abbrev pub toldPosition : Position → Res ℕ
 toldPosition (Position.At i) = ok i
 toldPosition (Position.No r) = no (r .fault) (r .place)
+
+abbrev pub toldNamed : Named → Res (ℕ × ColumnLayout)
+toldNamed (Named.At i a) = ok (i, a)
+toldNamed (Named.No r) = no (r .fault) (r .place)
 
 abbrev pub toldCell : CellAnswer → Res Cell
 toldCell (CellAnswer.Is a) = ok a

@@ -27,7 +27,7 @@ ghost use Rattle.message.specs.Inner.{head};
 ghost use Rattle.query.specs.Stands.{Stands};
 ghost use Rattle.query.specs.Places.{tablesOf, tableAt, typeAt, nameAt, rowAt, paramsOf, paramAt};
 ghost use Rattle.query.specs.Shown.{pastOf, numberIn, byteIn, cellIn, spotOf, shownOf, toldFound};
-ghost use Rattle.query.specs.Answers.{entry, ofTable, ofParam, layoutOf, columnOf, firstNamed, cellHere, partOf, partIn, givenOf, valueHere, elementOf, askTables, askTable, askColumn, askPosition, askCell, askCellSpan, askParameter, askParameterSpan, askElement, askElementSpan, toldCount, toldTable, toldColumn, toldPosition, toldCell, toldPart, toldArgument};
+ghost use Rattle.query.specs.Answers.{entry, ofTable, ofParam, layoutOf, columnOf, firstNamed, namedOf, cellHere, partOf, partIn, givenOf, valueHere, elementOf, askTables, askTable, askColumn, askPlaced, askPosition, askNamed, askCell, askCellSpan, askParameter, askParameterSpan, askElement, askElementSpan, toldCount, toldTable, toldColumn, toldPlaced, toldPosition, toldNamed, toldCell, toldPart, toldArgument};
 
 // ---- What the questions are answered with.
 
@@ -74,6 +74,19 @@ pub enum ColumnAnswer {
 // The position of a column.
 pub enum Position {
     At(usize),
+    No(Refusal),
+}
+
+// A column's layout, or that its table has fewer columns.
+pub enum Placed {
+    Is(ColumnLayout),
+    Past,
+    No(Refusal),
+}
+
+// The position of a column, and its layout.
+pub enum Named {
+    At(usize, ColumnLayout),
     No(Refusal),
 }
 
@@ -310,20 +323,32 @@ fn column_at(m: &[u8], types: usize, names: usize, c: usize) -> ColumnLayout
     }
 }
 
+// What column c of table t says of itself, or that the table has fewer.
+pub fn placed_column(m: &[u8], t: usize, c: usize) -> Placed
+    ensures { λ r. ⌜ toldPlaced r ≡ askPlaced (now (m .entry)) t c ⌝ }
+{
+    let answer = table(m, t);
+    match answer {
+        TableAnswer::No(r) => Placed::No(r),
+        TableAnswer::Is(layout) => {
+            if layout.columns <= c {
+                Placed::Past
+            } else {
+                Placed::Is(column_at(m, layout.types, layout.names, c))
+            }
+        }
+    }
+}
+
 // What column c of table t says of itself.
 pub fn column(m: &[u8], t: usize, c: usize) -> ColumnAnswer
     ensures { λ r. ⌜ toldColumn r ≡ askColumn (now (m .entry)) t c ⌝ }
 {
-    let answer = table(m, t);
-    match answer {
-        TableAnswer::No(r) => ColumnAnswer::No(r),
-        TableAnswer::Is(layout) => {
-            if layout.columns <= c {
-                ColumnAnswer::No(PAST_END)
-            } else {
-                ColumnAnswer::Is(column_at(m, layout.types, layout.names, c))
-            }
-        }
+    let placed = placed_column(m, t, c);
+    match placed {
+        Placed::No(r) => ColumnAnswer::No(r),
+        Placed::Past => ColumnAnswer::No(PAST_END),
+        Placed::Is(layout) => ColumnAnswer::Is(layout),
     }
 }
 
@@ -378,6 +403,29 @@ pub fn find_column(m: &[u8], t: usize, name: &[u8]) -> Position
     match answer {
         TableAnswer::No(r) => Position::No(r),
         TableAnswer::Is(layout) => search(m, layout.names, layout.columns, name),
+    }
+}
+
+// The first column of a name in a table, by where its types and names begin.
+fn named_in(m: &[u8], types: usize, names: usize, count: usize, name: &[u8]) -> Named
+    ensures { λ r. ⌜ ((at : ℕ) (b : Table) → Stands table (now (m .entry)) at b → types ≡ typeAt at (b .metadata) 0 → names ≡ nameAt at (b .metadata) 0
+        → count ≡ length (b .metadata .types) → toldNamed r ≡ namedOf at b (now (name .entry))) ⌝ }
+{
+    let found = search(m, names, count, name);
+    match found {
+        Position::No(r) => Named::No(r),
+        Position::At(c) => Named::At(c, column_at(m, types, names, c)),
+    }
+}
+
+// The first column of table t whose name is equal: its position and what it says of itself.
+pub fn named_column(m: &[u8], t: usize, name: &[u8]) -> Named
+    ensures { λ r. ⌜ toldNamed r ≡ askNamed (now (m .entry)) t (now (name .entry)) ⌝ }
+{
+    let answer = table(m, t);
+    match answer {
+        TableAnswer::No(r) => Named::No(r),
+        TableAnswer::Is(layout) => named_in(m, layout.types, layout.names, layout.columns, name),
     }
 }
 

@@ -1,52 +1,40 @@
--- `query::column` meets its contract: the table's refusal, or its column.
+-- `query::column` meets its contract: the column at its position, and past the end if there is none.
 use mathlib.Core.Path.{_∙_, sym, ap}
-use native.Mathlib.Omega.{arith}
-use Rattle.query.specs.Answers.{toldTable, layoutOf, columnOf}
+use Rattle.query.specs.Answers.{toldPlaced, columnOf, perhaps}
 use Rattle.query.specs.Places.{tablesOf, tableAt}
-use Rattle.query.proofs.Opened.{bytes-all, opened, not-found, asked, column-past, columns-are, types-at, names-at}
+use Rattle.query.proofs.Opened.{found, found-asked, not-found, some-ok, none-past}
 use borrow.Author.Needs.{needs}
 use Rattle.query.proofs.column.Statement.{statement}
 use Rattle.query.proofs.column.Tie as tie
 
-table-requires : tie.Need-table-requires
-table-requires c κs = search needs
+placed-column-requires : tie.Need-placed-column-requires
+placed-column-requires c κs = search needs
 
-enum-known-answer : tie.Need-enum-known-answer
-enum-known-answer c = search needs
+enum-known-placed : tie.Need-enum-known-placed
+enum-known-placed c = search needs
 
-enum-known-answer-2 : tie.Need-enum-known-answer-2
-enum-known-answer-2 c = search needs
-
-column-at-requires : tie.Need-column-at-requires
-column-at-requires c κs = search needs
+enum-known-placed-2 : tie.Need-enum-known-placed-2
+enum-known-placed-2 c = search needs
 
 returns : tie.Need-returns
 returns c =
     let a = c .before .before .before .before .before .args in
-    not-found 4 tablesOf tableAt (a .m .now) (a .t) layoutOf (λ at b. columnOf at b (a .c)) (sym (ap toldTable (c .before .answer .given .1)) ∙ c .before .before .before .table .ensures)
+    not-found 4 tablesOf tableAt (a .m .now) (a .t) (λ at b. perhaps (columnOf at b (a .c))) (λ at b. columnOf at b (a .c)) (sym (ap toldPlaced (c .before .placed .given .1)) ∙ c .before .before .before .placed-column .ensures)
+
+enum-told : tie.Need-enum-told
+enum-told c = search needs
 
 returns-2 : tie.Need-returns-2
 returns-2 c =
-    let a = c .before .before .before .before .before .before .before .args in
-    let all = bytes-all (a .m .now) (λ k. omega (arith, c .before .before .before .before .before .before .shared-slice-known .given k)) in
-    let o = opened (a .m .now) all (a .t) (sym (ap toldTable (c .before .before .before .answer2 .given .1)) ∙ c .before .before .before .before .before .table .ensures) in
-    column-past o (a .c) (c .if1 .taken)
+    let a = c .before .before .before .before .args in
+    let w = found 4 tablesOf tableAt (a .m .now) (a .t) (λ at b. perhaps (columnOf at b (a .c))) (sym (ap toldPlaced (c .enum-told .given .1)) ∙ c .before .before .placed-column .ensures) in
+    sym (found-asked 4 tablesOf tableAt (a .m .now) (a .t) w (λ at b. columnOf at b (a .c)) ∙ none-past _ (w .part) (a .c) (w .is))
 
 returns-3 : tie.Need-returns-3
 returns-3 c =
-    let a = c .before .before .before .before .before .before .before .before .args in
-    let all = bytes-all (a .m .now) (λ k. omega (arith, c .before .before .before .before .before .before .before .shared-slice-known .given k)) in
-    let o = opened (a .m .now) all (a .t) (sym (ap toldTable (c .before .before .before .before .answer2 .given .1)) ∙ c .before .before .before .before .before .before .table .ensures) in
-    c .column-at .ensures _ (o .tab) (o .stands) (types-at o) (names-at o) (omega (arith, columns-are o, c .before .if1 .left)) ∙ sym (asked o (λ at b. columnOf at b (a .c)))
+    let a = c .before .before .before .before .before .args in
+    let w = found 4 tablesOf tableAt (a .m .now) (a .t) (λ at b. perhaps (columnOf at b (a .c))) (sym (ap toldPlaced (c .before .placed2 .given .1)) ∙ c .before .before .before .placed-column .ensures) in
+    sym (found-asked 4 tablesOf tableAt (a .m .now) (a .t) w (λ at b. columnOf at b (a .c)) ∙ some-ok _ (w .is))
 
 pub column-spec : {M : Type 1} → statement M
-column-spec =
-    tie.close
-    (tie.spec
-    table-requires
-    enum-known-answer
-    enum-known-answer-2
-    column-at-requires
-    returns
-    returns-2
-    returns-3)
+column-spec = tie.close (tie.spec placed-column-requires enum-known-placed enum-told enum-known-placed-2 returns returns-2 returns-3)

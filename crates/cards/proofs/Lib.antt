@@ -1,0 +1,5 @@
+-- The proofs: a card's form, the loops, the columns that cards are made from and opened on, and what cards are good for.
+pub mod Forms
+pub mod Loops
+pub mod Columns
+pub mod Theorems

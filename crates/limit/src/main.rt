@@ -1,0 +1,182 @@
+// The insurer's question, asked of replies on standard input, one frame each: which bytes set the throttle limit of an engine?
+// A card is made from the first reply and opened over each of them. Where it opens a column, the engine's limit is printed with
+// its place in the message and the field that owns its first byte; where it doesn't fit any more, the refusal is.
+use fields::Owned;
+use frames::Frame;
+use libc::STDOUT_FILENO;
+use query::CellAnswer;
+use query::Position;
+use query::TableAnswer;
+use show::Cell;
+ghost use Prim.Native.Nat.{_+_, _≤_};
+ghost use lib.ListN.{length};
+
+// The engine that is asked for.
+const ENGINE: i32 = 2;
+
+// The numbers of a field: offset, size, field number, three indices; and how many fields a window has.
+const NUMBERS: usize = 6;
+
+const WINDOW: usize = 512;
+
+// The field number of a cell.
+const CELL: u64 = 51;
+
+// A proved loop has to end, and nothing says that the input does. So this one counts its turns down, from a number that no
+// run uses up.
+fn main() {
+    let mut card = [0u8; 36];
+    if !make_card(&mut card) {
+        return;
+    }
+    let mut turns = u64::MAX;
+    while turns > 0 && open_next(&card) {
+        turns -= 1;
+    }
+}
+
+// Makes the card of the limit's column from the first reply, and asks that reply too. Answers whether it was made.
+fn make_card(card: &mut [u8]) -> bool {
+    let mut frame = [0u8; 65537];
+    let read = frames::next(&mut frame);
+    let Frame::Is(n) = read else {
+        return false;
+    };
+    let reply = &frame[..n];
+    let made = cards::make_card(reply, 0, b"THROTTLE_LIMIT", card);
+    if let Position::No(refusal) = made {
+        listing::print_refusal(refusal);
+        return false;
+    }
+    open(reply, card);
+    true
+}
+
+// Opens the card over the next reply, and answers whether there was one.
+fn open_next(card: &[u8]) -> bool {
+    let mut frame = [0u8; 65537];
+    let read = frames::next(&mut frame);
+    let Frame::Is(n) = read else {
+        return false;
+    };
+    open(&frame[..n], card);
+    true
+}
+
+fn open(reply: &[u8], card: &[u8]) {
+    let opened = cards::open_card(reply, 0, card);
+    match opened {
+        Position::At(column) => print_limit(reply, column),
+        Position::No(refusal) => {
+            io::write_all(STDOUT_FILENO, b"card ");
+            listing::print_refusal(refusal);
+        }
+    }
+}
+
+// Prints the engine's limit, and whose bytes it was read from.
+fn print_limit(reply: &[u8], column: usize) {
+    let row = engine_row(reply);
+    let answer = query::cell(reply, 0, row, column);
+    let CellAnswer::Is(cell) = answer else {
+        io::write_all(STDOUT_FILENO, b"no such engine\n");
+        return;
+    };
+    if let Cell::Decimal(_, lower) = cell {
+        word(b"limit ", lower);
+        io::write_all(STDOUT_FILENO, b" x 10^-12,");
+    }
+    word(b" column ", column as u64);
+    word(b", row ", row as u64);
+    print_place(reply, row as u64, column as u64);
+}
+
+// The row of the engine, or how many rows there are if none is its.
+fn engine_row(reply: &[u8]) -> usize {
+    let rows = row_count(reply);
+    let found = query::find_column(reply, 0, b"ENGINE_ID");
+    match found {
+        Position::At(column) => first_row(reply, column, rows),
+        Position::No(_) => rows,
+    }
+}
+
+fn first_row(reply: &[u8], column: usize, rows: usize) -> usize {
+    let mut row = 0;
+    while row < rows {
+        if is_engine(query::cell(reply, 0, row, column)) {
+            return row;
+        }
+        row += 1;
+    }
+    rows
+}
+
+fn row_count(reply: &[u8]) -> usize {
+    let answer = query::table(reply, 0);
+    match answer {
+        TableAnswer::Is(layout) => layout.rows,
+        TableAnswer::No(_) => 0,
+    }
+}
+
+fn is_engine(answer: CellAnswer) -> bool {
+    let CellAnswer::Is(cell) = answer else {
+        return false;
+    };
+    match cell {
+        Cell::Integer(n) => n == ENGINE,
+        _ => false,
+    }
+}
+
+// Looks a cell up in the field list, and prints where its bytes stand and who owns the first of them.
+fn print_place(reply: &[u8], row: u64, column: u64) {
+    let mut numbers = [0u64; WINDOW * NUMBERS];
+    fields::window(4, reply, 0, &mut numbers);
+    let at = find_cell(&numbers, row, column);
+    if numbers.len() - at < NUMBERS {
+        return;
+    }
+    word(b": ", numbers[at + 1]);
+    word(b" bytes from ", numbers[at]);
+    print_owner(reply, numbers[at] as usize);
+}
+
+// Where the six numbers of a cell's field start, or the end.
+fn find_cell(numbers: &[u64], row: u64, column: u64) -> usize
+    ensures { λ r. ⌜ r ≤ length (now (numbers .entry)) ⌝ }
+{
+    let mut at = 0;
+    while NUMBERS <= numbers.len() - at {
+        if is_cell(numbers, at, row, column) {
+            return at;
+        }
+        at += NUMBERS;
+    }
+    numbers.len()
+}
+
+fn is_cell(numbers: &[u64], at: usize, row: u64, column: u64) -> bool
+    requires { ⌜ at + 6 ≤ length (now numbers) ⌝ }
+{
+    numbers[at + 2] == CELL && numbers[at + 4] == row && numbers[at + 5] == column
+}
+
+fn print_owner(reply: &[u8], offset: usize) {
+    let answer = fields::owner(4, reply, offset);
+    if let Owned::By(entry, _) = answer {
+        word(b"; byte ", offset as u64);
+        word(b" is of field ", entry.field);
+        word(b", table ", entry.i as u64);
+        word(b", row ", entry.j as u64);
+        word(b", column ", entry.k as u64);
+    }
+    io::write_all(STDOUT_FILENO, b"\n");
+}
+
+// Prints a text and a number.
+fn word(text: &[u8], n: u64) {
+    io::write_all(STDOUT_FILENO, text);
+    io::print_decimal(STDOUT_FILENO, n);
+}
