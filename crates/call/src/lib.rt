@@ -6,11 +6,22 @@ use write::Stage;
 use write::State;
 use write::Step;
 ghost use mathlib.Core.Path.{_≡_};
-ghost use Prim.Native.Nat.{_+_, _*_, _^_};
+ghost use Prim.Native.Nat.{_+_, _*_, _^_, _≤_};
+ghost use mathlib.Core.Option.{some};
+ghost use lib.ListN.{length, replicate};
 ghost use Rattle.format.specs.Value.{fixed, body};
-ghost use Rattle.put.specs.Put.{optional};
-ghost use Rattle.write.specs.Steps.{nullParam, oneParam, bytesParam, openArray, element, closeArray, finishCall};
-ghost use Rattle.write.specs.Shown.{Stepped};
+ghost use Rattle.format.specs.Message.{mostColumns};
+ghost use Rattle.put.specs.Put.{put, optional, sized};
+ghost use Rattle.write.specs.State.{closed};
+ghost use Rattle.write.specs.Steps.{answerOf, plan, beginCall, nullParam, oneParam, bytesParam, openArray, element, closeArray, finishCall};
+ghost use Rattle.write.specs.Shown.{zero, shownAnswer, Stepped};
+
+// Begins an invocation; its length and its count hold zeros until it is finished.
+pub fn begin_call(out: &mut [u8], version: u8, procedure: &[u8], client: &[u8; 8]) -> Step
+    ensures { λ r. ⌜ Stepped (beginCall version (now (procedure .entry)) (now (client .entry))) zero (replicate mostColumns 0) (now (out .entry)) r (now (out .exit)) ⌝ }
+{
+    begin(out, version, procedure, client)
+}
 
 // Writes a null parameter.
 pub fn null_param(out: &mut [u8], st: State) -> Step
@@ -250,4 +261,46 @@ pub fn body_element(out: &mut [u8], st: State, t: u8, null: bool, s: &[u8]) -> S
         answer: a,
         state: next,
     }
+}
+
+// Begins an invocation whose client data is a slice.
+fn begin(out: &mut [u8], version: u8, procedure: &[u8], client: &[u8]) -> Step
+    requires { ⌜ length (now client) ≡ 8 ⌝ }
+    ensures { λ r. ⌜ Stepped (beginCall version (now (procedure .entry)) (now (client .entry))) zero (replicate mostColumns 0) (now (out .entry)) r (now (out .exit)) ⌝ }
+{
+    let a = ask_begin(version, procedure, client, out.len());
+    let Answer::Reached(n) = a else {
+        return Step {
+            answer: a,
+            state: write::nothing_open(),
+        };
+    };
+    put_head(out, version, procedure, client);
+    Step {
+        answer: a,
+        state: write::begun(Stage::Call, n),
+    }
+}
+
+// What a begin is answered, in a buffer of so many bytes.
+fn ask_begin(version: u8, procedure: &[u8], client: &[u8], size: usize) -> Answer
+    requires { ⌜ length (now client) ≡ 8 ⌝ }
+    ensures { λ r. ⌜ r ≡ shownAnswer (answerOf (plan (beginCall version (now (procedure .entry)) (now (client .entry))) (closed 0) size) size) ⌝ }
+{
+    let edition = write::test(version <= 1, Fault::Version, 0);
+    let fault = write::also(edition, write::text_fault(0, procedure));
+    let bytes = 15 + put::text_size(false, procedure);
+    write::judge(true, fault, true, 0, bytes, size)
+}
+
+// Writes what stands before the parameters, where there is room for it.
+fn put_head(out: &mut [u8], version: u8, procedure: &[u8], client: &[u8])
+    requires { ⌜ (length (now client) ≡ 8) × (15 + length (sized (some (now procedure))) ≤ length (now out)) ⌝ }
+    ensures { λ _. ⌜ now (out .exit) ≡ put (now (out .entry)) 0 (plan (beginCall version (now (procedure .entry)) (now (client .entry))) (closed 0) 0 .bytes) ⌝ }
+{
+    let edition = put::number_at(out, 0, 0, 4);
+    let name = put::number_at(out, edition, version as u64, 1);
+    let data = put::text_at(out, name, false, procedure);
+    let count = put::bytes_at(out, data, client);
+    put::number_at(out, count, 0, 2);
 }

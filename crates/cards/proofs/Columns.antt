@@ -135,23 +135,26 @@ module _ (m : List ℕ) (t : ℕ) (wanted : List ℕ) where
   pub no-card : {f : Fault} {p : ℕ} → no f p ≡ askNamed m t wanted → askCard m t wanted ≡ no f p
   no-card {f} {p} e = by-message (readMessage 4 m) e
     where
+      carding : ℕ → Table → ℕ → ℕ → Res Card
+      carding at b i a = shortNamed (nameAt at (b .metadata) i) (aCard i a wanted)
+
       by-type : (x : Res ℕ) (y : Res (Option (List ℕ))) (i : ℕ) (k : ℕ → Option (List ℕ) → ColumnLayout) (g : ℕ → Res Card) → y ≡ ok (some wanted)
           → _≡_ {A = Res (ℕ × ColumnLayout)} (no f p) (bind (bind x (λ a. bind y (λ n. ok (k a n)))) (λ l. ok (i, l))) → bind x g ≡ no f p
       by-type (ok a) y i k g h e = absurd (no-ok (rw h at e))
       by-type (no x q) y i k g h e = sym (retold e)
 
       by-name : (b : Table) (at : ℕ) (x : Res ℕ) → firstNamed wanted (b .metadata .names) 0 ≡ x → _≡_ {A = Res (ℕ × ColumnLayout)} (no f p) (bind x (λ i. bind (columnOf at b i) (λ l. ok (i, l))))
-          → bind x (λ i. bind (entry (b .metadata .types) i) (λ a. shortNamed (nameAt at (b .metadata) i) (aCard i a wanted))) ≡ no f p
-      by-name b at (ok i) h e = by-type (entry (b .metadata .types) i) (entry (b .metadata .names) i) i _ (λ a. shortNamed (nameAt at (b .metadata) i) (aCard i a wanted)) (finds-first wanted (b .metadata .names) i h .there) e
+          → bind x (λ i. bind (entry (b .metadata .types) i) (carding at b i)) ≡ no f p
+      by-name b at (ok i) h e = by-type (entry (b .metadata .types) i) (entry (b .metadata .names) i) i _ (carding at b i) (finds-first wanted (b .metadata .names) i h .there) e
       by-name b at (no x q) h e = sym (retold e)
 
-      by-table : (r : Message) (x : Res Table) → no f p ≡ bind x (λ b. namedOf (tableAt r t) b wanted) → bind x (λ b. bind (firstNamed wanted (b .metadata .names) 0) (λ i. bind (entry (b .metadata .types) i) (λ a. shortNamed (nameAt (tableAt r t) (b .metadata) i) (aCard i a wanted)))) ≡ no f p
-      by-table r (ok b) e = by-name b (tableAt r t) (firstNamed wanted (b .metadata .names) 0) refl e
-      by-table r (no x q) e = sym (retold e)
+      by-table : (at : ℕ) (x : Res Table) → no f p ≡ bind x (λ b. namedOf at b wanted) → bind x (λ b. cardOf at b wanted) ≡ no f p
+      by-table at (ok b) e = by-name b at (firstNamed wanted (b .metadata .names) 0) refl e
+      by-table at (no x q) e = sym (retold e)
 
       by-message : (x : Res Message) → no f p ≡ bind x (λ r. bind (entry (tablesOf r) t) (λ b. namedOf (tableAt r t) b wanted))
-          → bind x (λ r. bind (entry (tablesOf r) t) (λ b. bind (firstNamed wanted (b .metadata .names) 0) (λ i. bind (entry (b .metadata .types) i) (λ a. shortNamed (nameAt (tableAt r t) (b .metadata) i) (aCard i a wanted))))) ≡ no f p
-      by-message (ok r) e = by-table r (entry (tablesOf r) t) e
+          → bind x (λ r. bind (entry (tablesOf r) t) (λ b. cardOf (tableAt r t) b wanted)) ≡ no f p
+      by-message (ok r) e = by-table (tableAt r t) (entry (tablesOf r) t) e
       by-message (no x q) e = sym (retold e)
 
   -- where there is one, there is, if its name is short

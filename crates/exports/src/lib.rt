@@ -1,21 +1,24 @@
 // The C interface: numbers and slices of numbers only. include/chaloenpik.h declares it.
 // Each function answers one number: what was found, or the refusal's number and place (numbers/specs/Packed.antt).
 use message::Verdict;
+use reply::Head;
 ghost use mathlib.Core.Path.{_≡_};
 ghost use Prim.Native.Nat.{_+_, _*_, _^_};
 ghost use Rattle.format.specs.Value.{fixed, body};
 ghost use Rattle.put.specs.Put.{optional};
-ghost use lib.ListN.{length};
+ghost use lib.ListN.{length, replicate};
 ghost use Rattle.format.specs.Result.{ok, bind};
-ghost use Rattle.format.specs.Message.{readMessage};
+ghost use Rattle.format.specs.Message.{readMessage, mostColumns};
 ghost use Rattle.tour.specs.Tour.{fieldsOf};
 ghost use Rattle.fields.specs.Questions.{ownerOf, windowCount, windowOut};
 ghost use Rattle.fields.specs.Told.{toldCounted, toldOwned, toldWritten};
 ghost use Rattle.query.specs.Answers.{ofTable, layoutOf, columnOf, firstNamed, toldCount, toldTable, toldColumn, toldPosition};
 ghost use Rattle.query.specs.Places.{tablesOf};
-ghost use Rattle.write.specs.Steps.{nullParam, oneParam, bytesParam, openArray, element, closeArray, finishCall, openRow, closeRow, closeTable, finishReply, loginRequest, loginResponse};
+ghost use Rattle.write.specs.Steps.{beginCall, beginReply, cell, nullParam, oneParam, bytesParam, openArray, element, closeArray, finishCall, openRow, closeRow, closeTable, finishReply, loginRequest, loginResponse};
+ghost use Rattle.write.specs.Shown.{zero};
+ghost use Rattle.exports.specs.Given.{opening};
 ghost use Rattle.login.specs.Told.{welcome};
-ghost use Rattle.numbers.specs.Stored.{Wrote, WroteLogin};
+ghost use Rattle.numbers.specs.Stored.{Wrote, WroteAll, WroteLogin};
 ghost use Rattle.numbers.specs.Packed.{above, packed, packedNo, nothing, itself, numberIn, rowsOf, columnsOf, typeOf};
 
 // Whether a message of a kind is accepted.
@@ -95,6 +98,22 @@ pub extern "C" fn chaloenpik_find_column(m: &[u8], t: usize, name: &[u8]) -> u64
 }
 
 // ---- The writer: a step each, over a state in numbers, the types of the open table and a buffer.
+
+// Begins an invocation.
+#[no_mangle]
+pub extern "C" fn chaloenpik_begin_call(
+    out: &mut [u8],
+    state: &mut [u64; 11],
+    types: &mut [u8; 64],
+    version: u8,
+    procedure: &[u8],
+    client: &[u8; 8],
+) -> u64
+    ensures { λ r. ⌜ WroteAll (beginCall version (now (procedure .entry)) (now (client .entry))) zero (replicate mostColumns 0) (now (state .entry)) (now (types .entry)) (now (out .entry)) r (now (state .exit)) (now (types .exit)) (now (out .exit)) ⌝ }
+{
+    let step = call::begin_call(out, version, procedure, client);
+    numbers::keep_all(state, types, step)
+}
 
 // Writes a null parameter.
 #[no_mangle]
@@ -236,6 +255,39 @@ pub extern "C" fn chaloenpik_finish_call(
     numbers::keep(state, step)
 }
 
+// Begins a response with all fields before its table count; its numbers without a sign. A string whose flag is not set is ignored.
+#[no_mangle]
+pub extern "C" fn chaloenpik_begin_reply(
+    out: &mut [u8],
+    state: &mut [u64; 11],
+    types: &mut [u8; 64],
+    version: u8,
+    client: &[u8; 8],
+    flags: u8,
+    status: u8,
+    statusnull: bool,
+    statustext: &[u8],
+    appstatus: u8,
+    appnull: bool,
+    apptext: &[u8],
+    roundtrip: u32,
+    exception: &[u8],
+) -> u64
+    ensures { λ r. ⌜ WroteAll (beginReply version (opening (now (client .entry)) flags status statusnull (now (statustext .entry)) appstatus appnull (now (apptext .entry)) roundtrip (now (exception .entry)))) zero (replicate mostColumns 0) (now (state .entry)) (now (types .entry)) (now (out .entry)) r (now (state .exit)) (now (types .exit)) (now (out .exit)) ⌝ }
+{
+    let h = Head {
+        version,
+        flags,
+        status,
+        status_null: statusnull,
+        app_status: appstatus,
+        app_null: appnull,
+        round_trip: roundtrip,
+    };
+    let step = reply::begin_reply(out, h, client, statustext, apptext, exception);
+    numbers::keep_all(state, types, step)
+}
+
 // Opens a row.
 #[no_mangle]
 pub extern "C" fn chaloenpik_open_row(
@@ -246,7 +298,41 @@ pub extern "C" fn chaloenpik_open_row(
     ensures { λ r. ⌜ Wrote openRow (now (state .entry)) (now (types .entry)) (now (out .entry)) r (now (state .exit)) (now (out .exit)) ⌝ }
 {
     let st = numbers::load(state, types);
-    let step = reply::open_row(out, st);
+    let step = rows::open_row(out, st);
+    numbers::keep(state, step)
+}
+
+// Writes a cell of a fixed size into the open row: its type, and its value by its upper and lower 64 bits.
+#[no_mangle]
+pub extern "C" fn chaloenpik_fixed_cell(
+    out: &mut [u8],
+    state: &mut [u64; 11],
+    types: &[u8; 64],
+    t: u8,
+    upper: u64,
+    lower: u64,
+) -> u64
+    ensures { λ r. ⌜ Wrote (cell t (fixed (upper * 2 ^ 64 + lower))) (now (state .entry)) (now (types .entry)) (now (out .entry)) r (now (state .exit)) (now (out .exit)) ⌝ }
+{
+    let st = numbers::load(state, types);
+    let step = rows::fixed_cell(out, st, t, upper, lower);
+    numbers::keep(state, step)
+}
+
+// Writes a text or binary cell into the open row: its type, and its bytes or null.
+#[no_mangle]
+pub extern "C" fn chaloenpik_body_cell(
+    out: &mut [u8],
+    state: &mut [u64; 11],
+    types: &[u8; 64],
+    t: u8,
+    null: bool,
+    s: &[u8],
+) -> u64
+    ensures { λ r. ⌜ Wrote (cell t (body (optional null (now (s .entry))))) (now (state .entry)) (now (types .entry)) (now (out .entry)) r (now (state .exit)) (now (out .exit)) ⌝ }
+{
+    let st = numbers::load(state, types);
+    let step = rows::body_cell(out, st, t, null, s);
     numbers::keep(state, step)
 }
 
@@ -260,7 +346,7 @@ pub extern "C" fn chaloenpik_close_row(
     ensures { λ r. ⌜ Wrote closeRow (now (state .entry)) (now (types .entry)) (now (out .entry)) r (now (state .exit)) (now (out .exit)) ⌝ }
 {
     let st = numbers::load(state, types);
-    let step = reply::close_row(out, st);
+    let step = rows::close_row(out, st);
     numbers::keep(state, step)
 }
 
@@ -274,7 +360,7 @@ pub extern "C" fn chaloenpik_close_table(
     ensures { λ r. ⌜ Wrote closeTable (now (state .entry)) (now (types .entry)) (now (out .entry)) r (now (state .exit)) (now (out .exit)) ⌝ }
 {
     let st = numbers::load(state, types);
-    let step = reply::close_table(out, st);
+    let step = rows::close_table(out, st);
     numbers::keep(state, step)
 }
 

@@ -6,7 +6,8 @@ use lib.ListN.{length}
 use Rattle.write.specs.Steps.{finishReply}
 use Rattle.write.specs.Shown.{seen}
 use Rattle.write.proofs.Taken.{step-refused, step-accepted, step-taken}
-use Rattle.reply.proofs.Closings.{reply-fills, filled-length, fill-two}
+use Rattle.write.proofs.Filled.{filled-length, fill-two}
+use Rattle.reply.proofs.Closings.{reply-fills}
 use borrow.Author.Needs.{needs}
 use Rattle.reply.proofs.finish_reply.Statement.{statement}
 use Rattle.reply.proofs.finish_reply.Tie as tie

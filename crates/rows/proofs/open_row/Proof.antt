@@ -1,4 +1,4 @@
--- `reply::open_row` meets its contract: a refusal hands back what came in; else the row's length is written as zeros. Assumes nothing.
+-- `rows::open_row` meets its contract: a refusal hands back what came in; else the row's length is written as zeros. Assumes nothing.
 use Prim.Native.Nat.{_+_, _≤_}
 use native.Mathlib.Omega.{arith}
 use mathlib.Core.Path.{refl}
@@ -7,8 +7,8 @@ use Rattle.format.proofs.Numbers.{length-numBytes}
 use Rattle.write.specs.Steps.{openRow}
 use Rattle.write.proofs.Taken.{step-refused, step-accepted, step-taken, room, counts}
 use borrow.Author.Needs.{needs}
-use Rattle.reply.proofs.open_row.Statement.{statement}
-use Rattle.reply.proofs.open_row.Tie as tie
+use Rattle.rows.proofs.open_row.Statement.{statement}
+use Rattle.rows.proofs.open_row.Tie as tie
 
 ask-open-row-requires : tie.Need-ask-open-row-requires
 ask-open-row-requires c κs = search needs

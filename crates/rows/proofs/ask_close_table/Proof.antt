@@ -1,11 +1,11 @@
--- `reply::ask_close_table` meets its contract: its tests are those of the plan. Assumes nothing.
+-- `rows::ask_close_table` meets its contract: its tests are those of the plan. Assumes nothing.
 use mathlib.Core.Path.{refl}
 use Rattle.write.specs.Steps.{plan, closeTable}
 use Rattle.write.specs.Shown.{seen}
 use Rattle.write.proofs.Taken.{answered}
 use borrow.Author.Needs.{needs}
-use Rattle.reply.proofs.ask_close_table.Statement.{statement}
-use Rattle.reply.proofs.ask_close_table.Tie as tie
+use Rattle.rows.proofs.ask_close_table.Statement.{statement}
+use Rattle.rows.proofs.ask_close_table.Tie as tie
 
 at-table-requires : tie.Need-at-table-requires
 at-table-requires c κs = search needs

@@ -1,4 +1,4 @@
--- `reply::close_table` meets its contract: a refusal hands back what came in; else the table's length and its row count are filled.
+-- `rows::close_table` meets its contract: a refusal hands back what came in; else the table's length and its row count are filled.
 -- Assumes nothing.
 use Prim.Native.Nat.{_+_, _-_, _≤_}
 use native.Mathlib.Omega.{arith}
@@ -8,10 +8,11 @@ use Rattle.format.specs.Message.{mostMessage}
 use Rattle.write.specs.Steps.{closeTable}
 use Rattle.write.specs.Shown.{seen}
 use Rattle.write.proofs.Taken.{step-refused, step-accepted, step-taken}
-use Rattle.reply.proofs.Closings.{table-fills, filled-length, fill-two}
+use Rattle.write.proofs.Filled.{filled-length, fill-two}
+use Rattle.rows.proofs.Closings.{table-fills}
 use borrow.Author.Needs.{needs}
-use Rattle.reply.proofs.close_table.Statement.{statement}
-use Rattle.reply.proofs.close_table.Tie as tie
+use Rattle.rows.proofs.close_table.Statement.{statement}
+use Rattle.rows.proofs.close_table.Tie as tie
 
 ask-close-table-requires : tie.Need-ask-close-table-requires
 ask-close-table-requires c κs = search needs

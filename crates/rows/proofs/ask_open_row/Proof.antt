@@ -1,12 +1,12 @@
--- `reply::ask_open_row` meets its contract: its tests are those of the plan. Assumes nothing.
+-- `rows::ask_open_row` meets its contract: its tests are those of the plan. Assumes nothing.
 use mathlib.Core.Path.{refl, sym}
 use Rattle.format.proofs.Numbers.{length-numBytes}
 use Rattle.write.specs.Steps.{plan, openRow}
 use Rattle.write.specs.Shown.{seen}
 use Rattle.write.proofs.Taken.{answered}
 use borrow.Author.Needs.{needs}
-use Rattle.reply.proofs.ask_open_row.Statement.{statement}
-use Rattle.reply.proofs.ask_open_row.Tie as tie
+use Rattle.rows.proofs.ask_open_row.Statement.{statement}
+use Rattle.rows.proofs.ask_open_row.Tie as tie
 
 at-table-requires : tie.Need-at-table-requires
 at-table-requires c κs = search needs

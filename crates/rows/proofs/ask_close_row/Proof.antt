@@ -1,4 +1,4 @@
--- `reply::ask_close_row` meets its contract: its tests are those of the plan. Assumes nothing.
+-- `rows::ask_close_row` meets its contract: its tests are those of the plan. Assumes nothing.
 use Prim.Native.Nat.{ℕ, _+_}
 use native.Mathlib.Nat.{add-zero}
 use mathlib.Core.Path.{refl, ap, ap₂, _∙_}
@@ -9,8 +9,8 @@ use Rattle.write.specs.Steps.{plan, closeRow}
 use Rattle.write.specs.Shown.{seen}
 use Rattle.write.proofs.Taken.{answered}
 use borrow.Author.Needs.{needs}
-use Rattle.reply.proofs.ask_close_row.Statement.{statement}
-use Rattle.reply.proofs.ask_close_row.Tie as tie
+use Rattle.rows.proofs.ask_close_row.Statement.{statement}
+use Rattle.rows.proofs.ask_close_row.Tie as tie
 
 at-row-requires : tie.Need-at-row-requires
 at-row-requires c κs = search needs

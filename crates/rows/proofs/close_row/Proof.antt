@@ -1,4 +1,4 @@
--- `reply::close_row` meets its contract: a refusal hands back what came in; else the row's length is filled. Assumes nothing.
+-- `rows::close_row` meets its contract: a refusal hands back what came in; else the row's length is filled. Assumes nothing.
 use Prim.Native.Nat.{_+_, _-_, _≤_}
 use native.Mathlib.Omega.{arith}
 use lib.ListN.{length}
@@ -6,10 +6,11 @@ use Rattle.format.specs.Message.{mostMessage}
 use Rattle.write.specs.Steps.{closeRow}
 use Rattle.write.specs.Shown.{seen}
 use Rattle.write.proofs.Taken.{step-refused, step-accepted, step-taken}
-use Rattle.reply.proofs.Closings.{row-fills, fill-one}
+use Rattle.write.proofs.Filled.{fill-one}
+use Rattle.rows.proofs.Closings.{row-fills}
 use borrow.Author.Needs.{needs}
-use Rattle.reply.proofs.close_row.Statement.{statement}
-use Rattle.reply.proofs.close_row.Tie as tie
+use Rattle.rows.proofs.close_row.Statement.{statement}
+use Rattle.rows.proofs.close_row.Tie as tie
 
 ask-close-row-requires : tie.Need-ask-close-row-requires
 ask-close-row-requires c κs = search needs
