@@ -1,12 +1,21 @@
-// What holds a reference: a reader over one table of a message. Each function is thin over one of `query` or `cards`.
+// What holds a reference: a reader over one table of a message, each function thin over one of `query` or `cards`; and the step that is lent
+// a table's columns, thin over one of `columns`.
+use columns::Column;
+use columns::Gathered;
 use query::CellAnswer;
 use query::ColumnAnswer;
 use query::Part;
 use query::Position;
 use query::TableAnswer;
+use write::State;
+use write::Step;
 ghost use mathlib.Core.Path.{_≡_};
 ghost use Rattle.cards.specs.Answers.{askOpen};
 ghost use Rattle.query.specs.Answers.{toldTable, askTable, toldColumn, askColumn, toldPosition, askPosition, toldCell, askCell, toldPart, askCellSpan, partIn};
+ghost use Rattle.write.specs.Steps.{openTable, typesOf};
+ghost use Rattle.write.specs.Shown.{padded, Stepped};
+ghost use Rattle.columns.specs.Entries.{columnsOf};
+ghost use Rattle.held.specs.Gathers.{empty, added, addAll};
 
 // One table, kept open over its message. Making it looks at nothing: each call on it refuses as the call on the message does.
 pub struct TableReader<'a> {
@@ -68,4 +77,55 @@ pub fn part<'a>(r: TableReader<'a>, row: usize, c: usize) -> &'a [u8]
     ensures { λ s. ⌜ now s ≡ partIn (now (r .entry .msg)) (askCellSpan (now (r .entry .msg)) (r .entry .table) row c) ⌝ }
 {
     query::cell_part(r.msg, r.table, row, c)
+}
+
+// No column yet.
+fn no_columns() -> Gathered
+    ensures { λ r. ⌜ r ≡ empty ⌝ }
+{
+    Gathered {
+        n: 0,
+        cols: [Column {
+            wire_type: 0,
+            start: 0,
+            size: 0,
+        }; 64],
+    }
+}
+
+// One column more. A 65th is only counted, and so is every one behind it.
+fn with_column(g: Gathered, c: Column) -> Gathered
+    ensures { λ r. ⌜ r ≡ added g c ⌝ }
+{
+    let n = g.n;
+    if n < 64 {
+        let mut more = g;
+        more.cols[n] = c;
+        more.n = n + 1;
+        return more;
+    }
+    let mut more = g;
+    more.n = 65;
+    more
+}
+
+// The columns of a lent list, by value.
+pub fn gather(cols: &[Column]) -> Gathered
+    ensures { λ r. ⌜ r ≡ addAll empty (now (cols .entry)) ⌝ }
+{
+    let mut a = no_columns();
+    let mut i = 0;
+    while i < cols.len() {
+        a = with_column(a, cols[i]);
+        i = i + 1;
+    }
+    a
+}
+
+// Opens a table, with its columns as a lent list of entries that point into a lent name buffer.
+pub fn open_table(out: &mut [u8], st: State, status: u8, cols: &[Column], names: &[u8]) -> Step
+    ensures { λ r. ⌜ Stepped (openTable status (columnsOf (now (cols .entry)) (now (names .entry)))) st (padded (typesOf (columnsOf (now (cols .entry)) (now (names .entry))))) (now (out .entry)) r (now (out .exit)) ⌝ }
+{
+    let a = gather(cols);
+    columns::open_gathered(out, st, status, a, names)
 }
