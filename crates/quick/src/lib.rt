@@ -1,0 +1,289 @@
+// Past a table's rows, by the shortest way: places are kept in registers, a row whose columns have no rule is judged by its length
+// alone, and a cell's room by where the row's last cell ends. Each helper answers a place, or 0 where it isn't sure; then scan is
+// asked, which says what is refused and where.
+use scan::Next;
+ghost use mathlib.Core.Path.{_≡_};
+ghost use Prim.Native.Nat.{_+_, _<_, _≤_};
+ghost use lib.ListN.{length, replicate};
+ghost use mathlib.Core.Bool.{true};
+ghost use mathlib.Core.List.{map};
+ghost use Rattle.format.specs.declared.Fault.the-variants.{Decimal, Point};
+ghost use Rattle.format.specs.Number.{numAt};
+ghost use Rattle.format.specs.Format.{each, number, ruled};
+ghost use Rattle.format.specs.Value.{value, string, notEmpty, decimalFine, pointFine};
+ghost use Rattle.format.specs.Message.{second, third, row};
+ghost use Rattle.scan.specs.Shown.{shownNext};
+ghost use Rattle.quick.specs.Past.{Low, Past, PastBody, PlainRow, RowOf, RunOf, Surely, Within, plainOf, sizeOf};
+
+fn wide(b: u8) -> u64
+    ensures { λ r. ⌜ (r ≡ b) × (r < 256) ⌝ }
+{
+    b as u64
+}
+
+// The number of 4 bytes at a place.
+fn four(s: &[u8], at: usize) -> u64
+    requires { ⌜ at + 4 ≤ length (now s) ⌝ }
+    ensures { λ r. ⌜ (r ≡ numAt 4 (now (s .entry)) at) × (r < 4294967296) ⌝ }
+{
+    let a = wide(s[at]);
+    let b = wide(s[at + 1]);
+    let c = wide(s[at + 2]);
+    let d = wide(s[at + 3]);
+    a * 16777216 + (b * 65536 + (c * 256 + d))
+}
+
+// How many bytes follow a length: none if it is a null's.
+fn body_size(n: u64) -> u64
+    ensures { λ r. ⌜ r ≡ sizeOf n ⌝ }
+{
+    if n == 0xffff_ffff { 0 } else { n }
+}
+
+// Past a counted body or a null.
+fn past_body(s: &[u8], at: usize) -> usize
+    requires { ⌜ Low at ⌝ }
+    ensures { λ r. ⌜ PastBody (now (s .entry)) at r ⌝ }
+{
+    if s.len() < at + 4 {
+        return 0;
+    }
+    let n = body_size(four(s, at));
+    if format::MOST_BYTES < n {
+        return 0;
+    }
+    at + 4 + n as usize
+}
+
+// Past a geography, which isn't empty.
+fn past_geography(s: &[u8], at: usize) -> usize
+    requires { ⌜ Low at ⌝ }
+    ensures { λ r. ⌜ Past (now (s .entry)) at (string true notEmpty 0 0 .read (now (s .entry)) at) r ⌝ }
+{
+    if s.len() < at + 4 {
+        return 0;
+    }
+    if four(s, at) == 0 {
+        return 0;
+    }
+    past_body(s, at)
+}
+
+// Past a decimal that its first 4 bytes show to be in range: all but those next to the ends, and null.
+fn past_decimal(s: &[u8], at: usize) -> usize
+    requires { ⌜ Low at ⌝ }
+    ensures { λ r. ⌜ Past (now (s .entry)) at (ruled decimalFine Decimal (number 16 0) .read (now (s .entry)) at) r ⌝ }
+{
+    if s.len() < at + 4 {
+        return 0;
+    }
+    let first = four(s, at);
+    if first < 1262177448 {
+        return at + 16;
+    }
+    if 3032789847 < first {
+        return at + 16;
+    }
+    0
+}
+
+// Past a point whose numbers' first 4 bytes show them to be in range.
+fn past_point(s: &[u8], at: usize) -> usize
+    requires { ⌜ Low at ⌝ }
+    ensures { λ r. ⌜ Past (now (s .entry)) at (ruled pointFine Point (number 16 0) .read (now (s .entry)) at) r ⌝ }
+{
+    if s.len() < at + 12 {
+        return 0;
+    }
+    if 0x4066_8000 <= four(s, at) % 0x8000_0000 {
+        return 0;
+    }
+    if 0x4056_8000 <= four(s, at + 8) % 0x8000_0000 {
+        return 0;
+    }
+    at + 16
+}
+
+// Past a value of a wire type.
+fn past_value(s: &[u8], at: usize, t: u8) -> usize
+    requires { ⌜ Low at ⌝ }
+    ensures { λ r. ⌜ Past (now (s .entry)) at (value 0 0 t .read (now (s .entry)) at) r ⌝ }
+{
+    match t {
+        format::TINYINT => at + 1,
+        format::SMALLINT => at + 2,
+        format::INTEGER => at + 4,
+        format::BIGINT | format::FLOAT | format::TIMESTAMP => at + 8,
+        format::STRING | format::VARBINARY => past_body(s, at),
+        format::GEOGRAPHY => past_geography(s, at),
+        format::DECIMAL => past_decimal(s, at),
+        format::POINT => past_point(s, at),
+        _ => 0,
+    }
+}
+
+// Where a row's last cell ends, in a room or past it.
+fn past_cells(s: &[u8], from: usize, types: &[u8]) -> usize
+    requires { ⌜ (from ≤ length (now s)) × (length (now types) ≤ 64) ⌝ }
+    ensures { λ r. ⌜ Within (now (s .entry)) (each third 0 (map (value 50 51) (now (types .entry))) .read (now (s .entry)) from) r ⌝ }
+{
+    let mut at = from;
+    let mut i = 0;
+    while i < types.len() {
+        let past = past_value(s, at, types[i]);
+        if past == 0 {
+            return 0;
+        }
+        at = past;
+        i += 1;
+    }
+    at
+}
+
+// Past a row that is surely fine.
+fn past_row(s: &[u8], at: usize, types: &[u8]) -> usize
+    requires { ⌜ length (now types) ≤ 64 ⌝ }
+    ensures { λ r. ⌜ Surely (row (now (types .entry)) .read (now (s .entry)) at) r ⌝ }
+{
+    if s.len() < at {
+        return 0;
+    }
+    if s.len() - at < 4 {
+        return 0;
+    }
+    let n = four(s, at);
+    if format::MOST_ROW < n {
+        return 0;
+    }
+    let start = at + 4;
+    if s.len() - start < n as usize {
+        return 0;
+    }
+    let end = start + n as usize;
+    let past = past_cells(&s[..end], start, types);
+    if past == end { end } else { 0 }
+}
+
+// Some rows that were passed: how many, and where the next one starts.
+struct Run {
+    rows: usize,
+    at: usize,
+}
+
+// Past as many of n rows as are surely fine.
+fn past_rows(s: &[u8], from: usize, types: &[u8], n: usize) -> Run
+    requires { ⌜ length (now types) ≤ 64 ⌝ }
+    ensures { λ r. ⌜ RunOf (row (now (types .entry))) (now (s .entry)) from n r ⌝ }
+{
+    let mut at = from;
+    let mut i = 0;
+    while i < n {
+        let past = past_row(s, at, types);
+        if past == 0 {
+            return Run { rows: i, at: at };
+        }
+        at = past;
+        i += 1;
+    }
+    Run { rows: i, at: at }
+}
+
+// Past n rows of any columns: scan looks at a row that isn't surely fine.
+fn skip_ruled(s: &[u8], from: usize, types: &[u8], n: usize) -> Next
+    requires { ⌜ length (now types) ≤ 64 ⌝ }
+    ensures { λ r. ⌜ r ≡ shownNext (each second 0 (replicate n (row (now (types .entry)))) .read (now (s .entry)) from) ⌝ }
+{
+    let mut at = from;
+    let mut i = 0;
+    while i < n {
+        let run = past_rows(s, at, types, n - i);
+        i = i + run.rows;
+        at = run.at;
+        if i == n {
+            return Next::At(at);
+        }
+        let step = scan::skip_row(s, at, types);
+        let Next::At(next) = step else {
+            return Next::No(scan::next_refusal(step));
+        };
+        at = next;
+        i += 1;
+    }
+    Next::At(at)
+}
+
+// How many bytes a value has whose type has one size and no rule; 0 for any other.
+fn plain_of(t: u8) -> usize
+    ensures { λ r. ⌜ (r ≡ plainOf t) × (r ≤ 8) ⌝ }
+{
+    match t {
+        format::TINYINT => 1,
+        format::SMALLINT => 2,
+        format::INTEGER => 4,
+        format::BIGINT | format::FLOAT | format::TIMESTAMP => 8,
+        _ => 0,
+    }
+}
+
+// How many bytes the cells of a row have if every column's type has one size and no rule; else 0.
+fn plain_row(types: &[u8]) -> usize
+    requires { ⌜ length (now types) ≤ 64 ⌝ }
+    ensures { λ r. ⌜ PlainRow (now (types .entry)) r × (r ≤ 512) ⌝ }
+{
+    let mut sum = 0;
+    let mut i = 0;
+    while i < types.len() {
+        let width = plain_of(types[i]);
+        if width == 0 {
+            return 0;
+        }
+        sum = sum + width;
+        i += 1;
+    }
+    sum
+}
+
+// Whether a row of so many bytes stands at a place.
+fn is_plain(s: &[u8], at: usize, plain: usize) -> bool
+    requires { ⌜ plain ≤ 512 ⌝ }
+    ensures { λ r. ⌜ RowOf (now (s .entry)) at plain r ⌝ }
+{
+    if s.len() < at {
+        return false;
+    }
+    if s.len() - at < 4 + plain {
+        return false;
+    }
+    four(s, at) == plain as u64
+}
+
+// Past n rows whose columns have no rule.
+fn skip_plain(s: &[u8], from: usize, types: &[u8], n: usize, plain: usize) -> Next
+    requires { ⌜ PlainRow (now types) plain × (0 < plain) × (plain ≤ 512) ⌝ }
+    ensures { λ r. ⌜ r ≡ shownNext (each second 0 (replicate n (row (now (types .entry)))) .read (now (s .entry)) from) ⌝ }
+{
+    let mut at = from;
+    let mut i = 0;
+    while i < n {
+        if !is_plain(s, at, plain) {
+            return scan::skip_rows(s, at, types, n - i);
+        }
+        at = at + (4 + plain);
+        i += 1;
+    }
+    Next::At(at)
+}
+
+// Past n rows.
+pub fn skip_rows(s: &[u8], from: usize, types: &[u8], n: usize) -> Next
+    ensures { λ r. ⌜ r ≡ shownNext (each second 0 (replicate n (row (now (types .entry)))) .read (now (s .entry)) from) ⌝ }
+{
+    if format::MOST_COLUMNS < types.len() as u64 {
+        return scan::skip_rows(s, from, types, n);
+    }
+    let plain = plain_row(types);
+    if plain == 0 {
+        return skip_ruled(s, from, types, n);
+    }
+    skip_plain(s, from, types, n, plain)
+}
