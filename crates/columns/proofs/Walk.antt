@@ -100,9 +100,6 @@ module _ (g : Gathered) (h : length (g .cols) ≡ 64) (few : g .n ≤ mostColumn
   inside : (i : ℕ) → i < g .n → i < length (entriesIn g)
   inside i less = let l = entries-length g h in omega arith
 
-  abbrev Done : ℕ → Type 0
-  Done i = i ≡ length (entriesIn g)
-
   done : (i : ℕ) → i ≤ g .n → g .n ≤ i → i ≡ length (entriesIn g)
   done i up low = let l = entries-length g h in omega arith
 

@@ -8,12 +8,11 @@ use write::Stage;
 use write::State;
 use write::Step;
 ghost use mathlib.Core.Path.{_≡_};
-ghost use Prim.Native.Nat.{_+_, _<_, _≤_};
+ghost use Prim.Native.Nat.{_+_, _*_, _<_, _≤_};
 ghost use mathlib.Core.List.{[], flatMap};
 ghost use lib.ListN.{length};
 ghost use lib.Dec.{leb};
-ghost use Rattle.format.specs.declared.Fault.the-variants.{WireType};
-ghost use Rattle.format.specs.Value.{ascii};
+ghost use Rattle.format.specs.Value.{ascii, mostBytes};
 ghost use Rattle.format.specs.Message.{metadata, mostColumns, mostItems};
 ghost use Rattle.put.specs.Put.{put};
 ghost use Rattle.write.specs.State.{allColumns};
@@ -33,11 +32,6 @@ pub struct Gathered {
     pub n: usize,
     pub cols: [Column; 64],
 }
-
-const MOST_COLUMNS: usize = 64;
-
-// The most bytes of a name.
-const MOST_BYTES: usize = 1_048_576;
 
 // Opens a table: its length and its row count hold zeros until it is closed, its metadata are written.
 pub fn open_gathered(out: &mut [u8], st: State, status: u8, cols: Gathered, names: &[u8]) -> Step
@@ -70,6 +64,7 @@ fn ask_open_table(st: State, cols: Gathered, names: &[u8], size: usize) -> Answe
         return write::judge(permitted, fault, true, st.position, 0, size);
     };
     let more = write::one_more(st.count, write::MOST_ITEMS);
+    // The table's length, the metadata's and the row count have 4 bytes each.
     let bytes = 12 + metadata_size(cols);
     write::judge(permitted, fault, more, st.position, bytes, size)
 }
@@ -78,7 +73,7 @@ fn ask_open_table(st: State, cols: Gathered, names: &[u8], size: usize) -> Answe
 fn columns_fault(at: usize, cols: Gathered, names: &[u8]) -> Check
     ensures { λ r. ⌜ verdictOf r ≡ columnsFault at (columnsOf (entriesIn cols) (now (names .entry))) ⌝ }
 {
-    if MOST_COLUMNS < cols.n {
+    if format::MOST_COLUMNS < cols.n as u64 {
         return Check::Bad(Refusal {
             fault: Fault::Limit,
             place: at,
@@ -135,7 +130,7 @@ fn name_fault(at: usize, c: Column, names: &[u8]) -> Check
             place: 0,
         });
     }
-    let short = write::test(size <= MOST_BYTES, Fault::Limit, at);
+    let short = write::test(size as u64 <= format::MOST_BYTES, Fault::Limit, at);
     write::also(short, ascii_fault(at, &names[start..start + size]))
 }
 
@@ -169,7 +164,7 @@ fn ascii_fault(at: usize, name: &[u8]) -> Check
 // How many bytes the metadata have after their length: status, column count, types and names.
 fn metadata_size(cols: Gathered) -> usize
     requires { ⌜ Short cols ⌝ }
-    ensures { λ r. ⌜ (r ≡ 3 + (cols .n + namesSize (entriesIn cols))) × (r ≤ 100000000) ⌝ }
+    ensures { λ r. ⌜ (r ≡ 3 + (cols .n + namesSize (entriesIn cols))) × (r ≤ 3 + (mostColumns + mostColumns * (4 + mostBytes))) ⌝ }
 {
     3 + (cols.n + names_size(cols))
 }
@@ -177,7 +172,7 @@ fn metadata_size(cols: Gathered) -> usize
 // How many bytes the names have, with their lengths.
 fn names_size(cols: Gathered) -> usize
     requires { ⌜ Short cols ⌝ }
-    ensures { λ r. ⌜ (r ≡ namesSize (entriesIn cols)) × (r ≤ 70000000) ⌝ }
+    ensures { λ r. ⌜ (r ≡ namesSize (entriesIn cols)) × (r ≤ mostColumns * (4 + mostBytes)) ⌝ }
 {
     let n = cols.n;
     let mut size = 0;

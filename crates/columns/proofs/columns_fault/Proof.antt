@@ -9,7 +9,7 @@ use Rattle.columns.proofs.columns_fault.Tie as tie
 
 returns : tie.Need-returns
 returns c =
-    let a = c .before .before .before .args in
+    let a = c .before .before .args in
     let h : length (a .cols .cols) ≡ 64 = search (needs, as-many) in
     too-many (a .at) (a .names .now) (a .cols) h (c .if1 .taken)
 
@@ -27,7 +27,7 @@ also-requires c κs = search needs
 
 returns-2 : tie.Need-returns-2
 returns-2 c =
-    let a = c .before .before .before .before .before .before .before .args in
+    let a = c .before .before .before .before .before .before .args in
     let h : length (a .cols .cols) ≡ 64 = search (needs, as-many) in
     not-many (a .at) (a .names .now) (a .cols) h (c .before .before .before .before .if1 .left) (c .also .ensures) (c .before .before .test .ensures) (c .before .before .before .all-columns .ensures) (c .before .names-fault .ensures)
 

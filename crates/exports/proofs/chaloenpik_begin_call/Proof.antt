@@ -1,26 +1,27 @@
+-- `exports::chaloenpik_begin_call` meets its contract: what the step leaves is kept in the numbers and the types. Assumes nothing.
+use lib.ListN.{replicate}
+use Rattle.format.specs.Message.{mostColumns}
+use Rattle.write.specs.Steps.{beginCall}
+use Rattle.write.specs.Shown.{zero}
+use Rattle.numbers.proofs.Kept.{wrote-all}
 use borrow.Author.Needs.{needs}
 use Rattle.exports.proofs.chaloenpik_begin_call.Statement.{statement}
 use Rattle.exports.proofs.chaloenpik_begin_call.Tie as tie
-use Rattle.exports.proofs.chaloenpik_begin_call.Reads as reads
-use Rattle.exports.proofs.chaloenpik_begin_call.Lts as lts
-use Rattle.call.proofs.begin_call.Reads as begin-call-reads
-use Rattle.numbers.proofs.keep_all.Reads as keep-all-reads
 
--- src/lib.rt:114:9
 begin-call-requires : tie.Need-begin-call-requires
 begin-call-requires c κs = search needs
 
--- src/lib.rt:115:5
 keep-all-requires : tie.Need-keep-all-requires
 keep-all-requires c κs = search needs
 
--- src/lib.rt:103:1
 same-length : tie.Need-same-length
 same-length c = search needs
 
--- src/lib.rt:103:1
 returns : tie.Need-returns
-returns c = ?
+returns c =
+    let b = c .before .before .before .before .before in
+    let a = b .before .before .before .before .args in
+    wrote-all (beginCall (a .version) (a .procedure .now) (a .client .now)) zero (replicate mostColumns 0) (a .state .now) (a .types .now) (a .out .now) _ _ _ (b .begin-call .ensures) (c .keep-all .ensures)
 
 pub chaloenpik-begin-call-spec : {M : Type 1} → statement M
 chaloenpik-begin-call-spec =

@@ -1,26 +1,29 @@
+-- `exports::chaloenpik_begin_reply` meets its contract: what the step leaves is kept in the numbers and the types. Assumes nothing.
+use lib.ListN.{replicate}
+use Rattle.format.specs.Message.{mostColumns}
+use Rattle.write.specs.Steps.{beginReply}
+use Rattle.write.specs.Shown.{zero}
+use Rattle.numbers.proofs.Kept.{wrote-all}
+use Rattle.exports.specs.Given.{opening}
 use borrow.Author.Needs.{needs}
 use Rattle.exports.proofs.chaloenpik_begin_reply.Statement.{statement}
 use Rattle.exports.proofs.chaloenpik_begin_reply.Tie as tie
-use Rattle.exports.proofs.chaloenpik_begin_reply.Reads as reads
-use Rattle.exports.proofs.chaloenpik_begin_reply.Lts as lts
-use Rattle.numbers.proofs.keep_all.Reads as keep-all-reads
-use Rattle.reply.proofs.begin_reply.Reads as begin-reply-reads
 
--- src/lib.rt:287:9
 begin-reply-requires : tie.Need-begin-reply-requires
 begin-reply-requires c κs = search needs
 
--- src/lib.rt:288:5
 keep-all-requires : tie.Need-keep-all-requires
 keep-all-requires c κs = search needs
 
--- src/lib.rt:259:1
 same-length : tie.Need-same-length
 same-length c = search needs
 
--- src/lib.rt:259:1
 returns : tie.Need-returns
-returns c = ?
+returns c =
+    let b = c .before .before .before .before .before in
+    let a = b .before .before .before .before .before .before .args in
+    let fields = opening (a .client .now) (a .flags) (a .status) (a .statusnull) (a .statustext .now) (a .appstatus) (a .appnull) (a .apptext .now) (a .roundtrip) (a .exception .now) in
+    wrote-all (beginReply (a .version) fields) zero (replicate mostColumns 0) (a .state .now) (a .types .now) (a .out .now) _ _ _ (b .begin-reply .ensures) (c .keep-all .ensures)
 
 pub chaloenpik-begin-reply-spec : {M : Type 1} → statement M
 chaloenpik-begin-reply-spec =

@@ -1,31 +1,29 @@
+-- `exports::chaloenpik_body_cell` meets its contract: the state is read from the numbers, and what the step leaves is kept in them. Assumes nothing.
+use Rattle.format.specs.Value.{body}
+use Rattle.put.specs.Put.{optional}
+use Rattle.write.specs.Steps.{cell}
+use Rattle.numbers.proofs.Kept.{wrote}
 use borrow.Author.Needs.{needs}
 use Rattle.exports.proofs.chaloenpik_body_cell.Statement.{statement}
 use Rattle.exports.proofs.chaloenpik_body_cell.Tie as tie
-use Rattle.exports.proofs.chaloenpik_body_cell.Reads as reads
-use Rattle.exports.proofs.chaloenpik_body_cell.Lts as lts
-use Rattle.numbers.proofs.keep.Reads as keep-reads
-use Rattle.numbers.proofs.load.Reads as load-reads
-use Rattle.rows.proofs.body_cell.Reads as body-cell-reads
 
--- src/lib.rt:334:9
 load-requires : tie.Need-load-requires
 load-requires c κs = search needs
 
--- src/lib.rt:335:9
 body-cell-requires : tie.Need-body-cell-requires
 body-cell-requires c κs = search needs
 
--- src/lib.rt:336:5
 keep-requires : tie.Need-keep-requires
 keep-requires c κs = search needs
 
--- src/lib.rt:323:1
 same-length : tie.Need-same-length
 same-length c = search needs
 
--- src/lib.rt:323:1
 returns : tie.Need-returns
-returns c = ?
+returns c =
+    let before-keep = c .before .before .before .before in
+    let a = before-keep .before .before .before .before .before .before .args in
+    wrote (cell (a .t) (body (optional (a .null) (a .s .now)))) (a .state .now) (a .types .now) (a .out .now) _ _ _ (before-keep .before .before .load .ensures) (before-keep .body-cell .ensures) (c .keep .ensures)
 
 pub chaloenpik-body-cell-spec : {M : Type 1} → statement M
 chaloenpik-body-cell-spec =
