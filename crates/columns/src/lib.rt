@@ -18,6 +18,7 @@ ghost use Rattle.put.specs.Put.{put};
 ghost use Rattle.write.specs.State.{allColumns};
 ghost use Rattle.write.specs.Steps.{answerOf, plan, openTable, placed, nameFault, nameFaults, typesOf, metadataOf};
 ghost use Rattle.write.specs.Shown.{seen, shown, shownAnswer, verdictOf, padded, Stepped};
+ghost use Rattle.columns.specs.Gathers.{empty, added};
 ghost use Rattle.columns.specs.Entries.{nameOf, entriesIn, columnsOf, typesIn, typeBytes, nameBytes, namesSize, columnsFault, Short, Placed};
 
 // A column: its type, and where its name stands in a name buffer.
@@ -52,6 +53,36 @@ pub fn open_gathered(out: &mut [u8], st: State, status: u8, cols: Gathered, name
         answer: a,
         state: next,
     }
+}
+
+// No column yet.
+pub fn no_columns() -> Gathered
+    ensures { λ r. ⌜ r ≡ empty ⌝ }
+{
+    Gathered {
+        n: 0,
+        cols: [Column {
+            wire_type: 0,
+            start: 0,
+            size: 0,
+        }; 64],
+    }
+}
+
+// One column more. A 65th is only counted, and so is every one behind it.
+pub fn with_column(g: Gathered, c: Column) -> Gathered
+    ensures { λ r. ⌜ r ≡ added g c ⌝ }
+{
+    let n = g.n;
+    if n < 64 {
+        let mut more = g;
+        more.cols[n] = c;
+        more.n = n + 1;
+        return more;
+    }
+    let mut more = g;
+    more.n = 65;
+    more
 }
 
 // What the step is answered, in a buffer of so many bytes. On the table's status it doesn't depend.

@@ -15,7 +15,7 @@ ghost use Rattle.query.specs.Answers.{toldTable, askTable, toldColumn, askColum
 ghost use Rattle.write.specs.Steps.{openTable, typesOf};
 ghost use Rattle.write.specs.Shown.{padded, Stepped};
 ghost use Rattle.columns.specs.Entries.{columnsOf};
-ghost use Rattle.held.specs.Gathers.{empty, added, addAll};
+ghost use Rattle.columns.specs.Gathers.{empty, addAll};
 
 // One table, kept open over its message. Making it looks at nothing: each call on it refuses as the call on the message does.
 pub struct TableReader<'a> {
@@ -79,44 +79,14 @@ pub fn part<'a>(r: TableReader<'a>, row: usize, c: usize) -> &'a [u8]
     query::cell_part(r.msg, r.table, row, c)
 }
 
-// No column yet.
-fn no_columns() -> Gathered
-    ensures { λ r. ⌜ r ≡ empty ⌝ }
-{
-    Gathered {
-        n: 0,
-        cols: [Column {
-            wire_type: 0,
-            start: 0,
-            size: 0,
-        }; 64],
-    }
-}
-
-// One column more. A 65th is only counted, and so is every one behind it.
-fn with_column(g: Gathered, c: Column) -> Gathered
-    ensures { λ r. ⌜ r ≡ added g c ⌝ }
-{
-    let n = g.n;
-    if n < 64 {
-        let mut more = g;
-        more.cols[n] = c;
-        more.n = n + 1;
-        return more;
-    }
-    let mut more = g;
-    more.n = 65;
-    more
-}
-
 // The columns of a lent list, by value.
 pub fn gather(cols: &[Column]) -> Gathered
     ensures { λ r. ⌜ r ≡ addAll empty (now (cols .entry)) ⌝ }
 {
-    let mut a = no_columns();
+    let mut a = columns::no_columns();
     let mut i = 0;
     while i < cols.len() {
-        a = with_column(a, cols[i]);
+        a = columns::with_column(a, cols[i]);
         i = i + 1;
     }
     a

@@ -47,21 +47,21 @@ use denote.Triple.Walked.{says, Stays, stay-none-slice, walkOf, goes-none-slice,
 use denote.Triple.Clauses.{ensured, lasts}
 use denote.Exit.{yes}
 use Rattle.columns.specs.Entries.{noEntry}
-use Rattle.held.specs.Gathers.{empty, added, addAll}
+use Rattle.columns.specs.Gathers.{empty, added, addAll}
 use Rattle.columns.specs.declared.Column.{Column}
 use Rattle.columns.specs.declared.Gathered.{Gathered}
 use Rattle.columns.proofs.Column as T
 use Rattle.columns.proofs.Column.Laws as T′
 use Rattle.columns.proofs.Gathered as S
 use Rattle.columns.proofs.Gathered.Laws as S′
-use Rattle.held.proofs.no_columns as start
-use Rattle.held.proofs.no_columns.Symbol as start-def
-use Rattle.held.proofs.no_columns.Symbol.{name as #held·no-columns}
-use Rattle.held.proofs.no_columns.Met as start-thm
-use Rattle.held.proofs.with_column as step
-use Rattle.held.proofs.with_column.Symbol as step-def
-use Rattle.held.proofs.with_column.Symbol.{name as #held·with-column}
-use Rattle.held.proofs.with_column.Met as step-thm
+use Rattle.columns.proofs.no_columns as start
+use Rattle.columns.proofs.no_columns.Symbol as start-def
+use Rattle.columns.proofs.no_columns.Symbol.{name as #columns·no-columns}
+use Rattle.columns.proofs.no_columns.Met as start-thm
+use Rattle.columns.proofs.with_column as step
+use Rattle.columns.proofs.with_column.Symbol as step-def
+use Rattle.columns.proofs.with_column.Symbol.{name as #columns·with-column}
+use Rattle.columns.proofs.with_column.Met as step-thm
 use Rattle.held.proofs.gather.Key.{name as #held·gather}
 use Rattle.held.proofs.gather as fn
 use Rattle.held.proofs.gather.Statement as stated
@@ -165,7 +165,7 @@ module _ {M : Type 1} (𝓤 : URA M) (H : Heap 𝓤) (A : Atoms 𝓤) (W : Given
   Nearer-wf : WellFounded Nearer
   Nearer-wf = InvImage·wf (λ (t : Turn ys). length ys - t .i) (Nat·lt-wfRel .wf)
 
-  module _ (𝓣 : Tables 𝓤 H) (known-start : Triple 𝓤 (𝓣 .C #held·no-columns) (Start 𝓤 H A mem run)) (known-step : Triple 𝓤 (𝓣 .C #held·with-column) (Step 𝓤 H A mem run)) where
+  module _ (𝓣 : Tables 𝓤 H) (known-start : Triple 𝓤 (𝓣 .C #columns·no-columns) (Start 𝓤 H A mem run)) (known-step : Triple 𝓤 (𝓣 .C #columns·with-column) (Step 𝓤 H A mem run)) where
     module _ (l₀ l₁ l₂ l₃ l₄ l₅ l₆ l₇ : ℕ) where
       abbrev En : Env 𝓤 H
       En = (S′.mir, l₀) ∷ (slice, l₁) ∷ (S′.mir, l₂) ∷ (word, l₃) ∷ (word, l₄) ∷ (tyBool, l₅) ∷ (tyPtr, l₆) ∷ (T′.mir, l₇) ∷ []
@@ -263,14 +263,14 @@ module _ {M : Type 1} (𝓤 : URA M) (H : Heap 𝓤) (A : Atoms 𝓤) (W : Given
         begins l₀ l₁ l₂ l₃ l₄ l₅ l₆ l₇ r u e))))))))))))
 
 module _ {M : Type 1} (𝓤 : URA M) (H : Heap 𝓤) (A : Atoms 𝓤) (W : Given 𝓤 H A) (mem : Memory → SProp 𝓤) (run : Routine → Fun 𝓤) where
-  fn-walks : (𝓣 : Tables 𝓤 H) → Triple 𝓤 (𝓣 .C #held·no-columns) (Start 𝓤 H A mem run) → Triple 𝓤 (𝓣 .C #held·with-column) (Step 𝓤 H A mem run)
+  fn-walks : (𝓣 : Tables 𝓤 H) → Triple 𝓤 (𝓣 .C #columns·no-columns) (Start 𝓤 H A mem run) → Triple 𝓤 (𝓣 .C #columns·with-column) (Step 𝓤 H A mem run)
       → Walks 𝓤 H A fn.ended stayed (WpFn 𝓤 H (𝓣 .C) (𝓣 .Λ) code.function) (fn.clauses 𝓤 H A mem run)
   fn-walks 𝓣 known-start known-step = walked 𝓤 H A fn.ended stayed (fn.clauses 𝓤 H A mem run) (WpFn 𝓤 H (𝓣 .C) (𝓣 .Λ) code.function) (λ κs. (slice-vals, tt)) (λ κs. (shr-slice-tells (named 0) (κs .0) T.the-row, tt))
       (λ κs qs bounds a g are. via 𝓤 _ (fst∗ 𝓤 _ (emp 𝓤))
       (walk 𝓤 H A W mem run (κs .0) (qs .0) (a .0 .ptr .0) (a .0 .ptr .1) (a .0 .name) (a .0 .now) (are .0 .0 .1) 𝓣 known-start known-step (are .0)))
 
 fn-meets : {M : Type 1} (𝓤 : URA M) (H : Heap 𝓤) (A : Atoms 𝓤) → Given 𝓤 H A → (mem : Memory → SProp 𝓤) (run : Routine → Fun 𝓤) (𝓣 : Tables 𝓤 H)
-    → Triple 𝓤 (𝓣 .C #held·no-columns) (Start 𝓤 H A mem run) → Triple 𝓤 (𝓣 .C #held·with-column) (Step 𝓤 H A mem run)
+    → Triple 𝓤 (𝓣 .C #columns·no-columns) (Start 𝓤 H A mem run) → Triple 𝓤 (𝓣 .C #columns·with-column) (Step 𝓤 H A mem run)
     → Meets 𝓤 H A fn.signature (WpFn 𝓤 H (𝓣 .C) (𝓣 .Λ) code.function) (fn.spec 𝓤 H A mem run)
 fn-meets 𝓤 H A W mem run 𝓣 known-start known-step = walk-meets 𝓤 H A fn.ended stayed W (goes-none-slice 𝓤 H A W 1 (0 ∷ []) tt (plain (λ _. T.the-row)) yes, tt) (fn.clauses 𝓤 H A mem run) (WpFn 𝓤 H (𝓣 .C) (𝓣 .Λ) code.function) (WpFn-mono 𝓤 H (W .laws) 𝓣 code.function) (fn-walks 𝓤 H A W mem run 𝓣 known-start known-step)
 
@@ -280,5 +280,5 @@ gather-spec 𝓤 H 𝓜 𝓖 𝓡 =
     entered 𝓤 H (tripleOf 𝓤 H (𝓖 .A) fn.signature (fn.spec 𝓤 H (𝓖 .A) (𝓜 .mem) (𝓡 .run)))
     (tables 𝓤 H 𝓜 𝓡 code.env .C) (tables 𝓤 H 𝓜 𝓡 code.env .Λ) #held·gather code.function (code.unfolded 𝓤 H 𝓜 𝓡)
     (fn-meets 𝓤 H (𝓖 .A) (givenOf 𝓤 H 𝓜 𝓖) (𝓜 .mem) (𝓡 .run) (tablesOf 𝓤 H 𝓜 (tables 𝓤 H 𝓜 𝓡 code.env))
-    (cited 𝓤 H (Start 𝓤 H (𝓖 .A) (𝓜 .mem) (𝓡 .run)) 𝓜 𝓡 code.env #held·no-columns start-def.routine code.calls-held·no-columns (start-thm.met 𝓤 H 𝓜 𝓖 𝓡))
-    (cited 𝓤 H (Step 𝓤 H (𝓖 .A) (𝓜 .mem) (𝓡 .run)) 𝓜 𝓡 code.env #held·with-column step-def.routine code.calls-held·with-column (step-thm.met 𝓤 H 𝓜 𝓖 𝓡)))
+    (cited 𝓤 H (Start 𝓤 H (𝓖 .A) (𝓜 .mem) (𝓡 .run)) 𝓜 𝓡 code.env #columns·no-columns start-def.routine code.calls-columns·no-columns (start-thm.met 𝓤 H 𝓜 𝓖 𝓡))
+    (cited 𝓤 H (Step 𝓤 H (𝓖 .A) (𝓜 .mem) (𝓡 .run)) 𝓜 𝓡 code.env #columns·with-column step-def.routine code.calls-columns·with-column (step-thm.met 𝓤 H 𝓜 𝓖 𝓡)))

@@ -5,8 +5,8 @@ use mathlib.Core.Path.{_≡_, refl, subst}
 use Rattle.write.specs.Steps.{openTable, typesOf}
 use Rattle.write.specs.Shown.{padded, Stepped}
 use Rattle.columns.specs.Entries.{columnsOf, entriesIn}
-use Rattle.held.specs.Gathers.{empty, addAll}
-use Rattle.held.proofs.Lent.{opens-same}
+use Rattle.columns.specs.Gathers.{empty, addAll}
+use Rattle.columns.proofs.Lent.{opens-same}
 use Prim.Native.Nat.{ℕ, _<_, _^_}
 use mathlib.Core.List.{List, [], _∷_}
 use lib.ListN.{length}

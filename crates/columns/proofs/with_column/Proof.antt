@@ -1,8 +1,8 @@
--- `held::with_column` meets its contract: by whether there is room for one more. Assumes nothing.
+-- `columns::with_column` meets its contract: by whether there is room for one more. Assumes nothing.
 use borrow.Author.Needs.{needs}
 use borrow.Author.Tests.{lt-ltb, le-ltb}
-use Rattle.held.proofs.with_column.Statement.{statement}
-use Rattle.held.proofs.with_column.Tie as tie
+use Rattle.columns.proofs.with_column.Statement.{statement}
+use Rattle.columns.proofs.with_column.Tie as tie
 
 mul-c : tie.Need-mul-c
 mul-c c = search needs

@@ -20,10 +20,10 @@ use Rattle.write.specs.declared.Stage.the-variants.{Reply}
 use Rattle.write.specs.State.{State, atStage}
 use Rattle.write.specs.Steps.{Column as Named, Plan, Out, openTable, typesOf, plan, answerAt, outOf, carry, step}
 use Rattle.write.specs.Shown.{seen, answered, came, padded, Stepped}
 use Rattle.columns.specs.declared.Column.{Column}
 use Rattle.columns.specs.declared.Gathered.{Gathered}
 use Rattle.columns.specs.Entries.{columnOf, columnsOf, entriesIn}
-use Rattle.held.specs.Gathers.{empty, added, addAll}
+use Rattle.columns.specs.Gathers.{empty, added, addAll}
 
 -- a column that is not too many
 added-few : (g : Gathered) (c : Column) → g .n < mostColumns → added g c ≡ record { n = g .n + 1; cols = set (g .cols) (g .n) c }
