@@ -14,11 +14,13 @@ ghost use Rattle.fields.specs.Questions.{ownerOf, windowCount, windowOut};
 ghost use Rattle.fields.specs.Told.{toldCounted, toldOwned, toldWritten};
 ghost use Rattle.query.specs.Answers.{ofTable, layoutOf, columnOf, firstNamed, toldCount, toldTable, toldColumn, toldPosition};
 ghost use Rattle.query.specs.Places.{tablesOf};
-ghost use Rattle.write.specs.Steps.{beginCall, beginReply, cell, nullParam, oneParam, bytesParam, openArray, element, closeArray, finishCall, openRow, closeRow, closeTable, finishReply, loginRequest, loginResponse};
-ghost use Rattle.write.specs.Shown.{zero};
+ghost use Rattle.write.specs.Steps.{openTable, typesOf, beginCall, beginReply, cell, nullParam, oneParam, bytesParam, openArray, element, closeArray, finishCall, openRow, closeRow, closeTable, finishReply, loginRequest, loginResponse};
+ghost use Rattle.write.specs.Shown.{zero, padded};
+ghost use Rattle.columns.specs.Entries.{columnsOf as entriesWith};
+ghost use Rattle.numbers.specs.Listed.{entriesOf};
 ghost use Rattle.exports.specs.Given.{opening};
 ghost use Rattle.login.specs.Told.{welcome};
-ghost use Rattle.numbers.specs.Stored.{Wrote, WroteAll, WroteLogin};
+ghost use Rattle.numbers.specs.Stored.{stateOf, Wrote, WroteAll, WroteLogin};
 ghost use Rattle.numbers.specs.Packed.{above, packed, packedNo, nothing, itself, numberIn, rowsOf, columnsOf, typeOf};
 
 // Whether a message of a kind is accepted.
@@ -285,6 +287,24 @@ pub extern "C" fn chaloenpik_begin_reply(
         round_trip: roundtrip,
     };
     let step = reply::begin_reply(out, h, client, statustext, apptext, exception);
+    numbers::keep_all(state, types, step)
+}
+
+// Opens a table: its status, its columns as numbers, three for each (its type, and where its name starts in `names` and how long it is).
+#[no_mangle]
+pub extern "C" fn chaloenpik_open_table(
+    out: &mut [u8],
+    state: &mut [u64; 11],
+    types: &mut [u8; 64],
+    status: u8,
+    list: &[u64],
+    names: &[u8],
+) -> u64
+    ensures { λ r. ⌜ WroteAll (openTable status (entriesWith (entriesOf (now (list .entry))) (now (names .entry)))) (stateOf (now (state .entry)) (now (types .entry))) (padded (typesOf (entriesWith (entriesOf (now (list .entry))) (now (names .entry))))) (now (state .entry)) (now (types .entry)) (now (out .entry)) r (now (state .exit)) (now (types .exit)) (now (out .exit)) ⌝ }
+{
+    let st = numbers::load(state, types);
+    let cols = numbers::gathered(list);
+    let step = columns::open_gathered(out, st, status, cols, names);
     numbers::keep_all(state, types, step)
 }
 

@@ -1,4 +1,6 @@
 // Answers and the writer's state as numbers, for the C interface, which takes and gives nothing else.
+use columns::Column;
+use columns::Gathered;
 use fields::Counted;
 use fields::Owned;
 use fields::Written;
@@ -17,6 +19,10 @@ ghost use Rattle.fields.specs.Told.{toldCounted, toldOwned, toldWritten};
 ghost use Rattle.query.specs.Answers.{toldCount, toldTable, toldColumn, toldPosition};
 ghost use Rattle.write.specs.State.{stageNumber};
 ghost use Rattle.numbers.specs.Packed.{above, packed, packedNo, itself, numberIn, rowsOf, columnsOf, typeOf};
+ghost use Prim.Native.Nat.{_+_, _≤_};
+ghost use lib.ListN.{length};
+ghost use Rattle.columns.specs.Gathers.{empty, addAll};
+ghost use Rattle.numbers.specs.Listed.{entryAt, entriesOf};
 ghost use Rattle.numbers.specs.Stored.{stageOf, byteOf, stateOf, numbersOf, toldAnswer, kept, keptTypes};
 
 // A place or a number found, above the low 8 bits.
@@ -223,4 +229,30 @@ pub fn pack_answer(answer: Answer) -> u64
         Answer::Reached(n) => above(n),
         Answer::No(refusal) => refused(refusal),
     }
+}
+
+// Three numbers of a list as a column: its type, and where its name stands.
+fn column_at(list: &[u64], i: usize) -> Column
+    requires { ⌜ i + 3 ≤ length (now list) ⌝ }
+    ensures { λ r. ⌜ r ≡ entryAt (now (list .entry)) i ⌝ }
+{
+    Column {
+        wire_type: byte_of(list[i]),
+        start: list[i + 1] as usize,
+        size: list[i + 2] as usize,
+    }
+}
+
+// The columns that a list of numbers says, three for each. One or two numbers behind the last are left out.
+pub fn gathered(list: &[u64]) -> Gathered
+    ensures { λ r. ⌜ r ≡ addAll empty (entriesOf (now (list .entry))) ⌝ }
+{
+    let mut a = columns::no_columns();
+    let mut i = 0;
+    while 3 <= list.len() - i {
+        let c = column_at(list, i);
+        a = columns::with_column(a, c);
+        i += 3;
+    }
+    a
 }
