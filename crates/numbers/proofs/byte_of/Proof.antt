@@ -1,9 +1,8 @@
+-- `numbers::byte_of` meets its contract: by whether the number is a byte. Assumes nothing.
 use borrow.Author.Tests.{lt-ltb, le-ltb}
 use borrow.Author.Needs.{needs}
 use Rattle.numbers.proofs.byte_of.Statement.{statement}
 use Rattle.numbers.proofs.byte_of.Tie as tie
-use Rattle.numbers.proofs.byte_of.Reads as reads
-use Rattle.numbers.proofs.byte_of.Lts as lts
 
 cast-result : tie.Need-cast-result
 cast-result c = search needs

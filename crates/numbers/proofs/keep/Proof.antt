@@ -1,3 +1,4 @@
+-- `numbers::keep` meets its contract, case by case. Assumes nothing.
 use Prim.Native.Nat.{ℕ}
 use mathlib.Core.Path.{_≡_, sym, ap, _∙_}
 use mathlib.Core.List.{List}
@@ -7,11 +8,6 @@ use Rattle.numbers.specs.Stored.{toldAnswer, kept}
 use borrow.Author.Needs.{needs}
 use Rattle.numbers.proofs.keep.Statement.{statement}
 use Rattle.numbers.proofs.keep.Tie as tie
-use Rattle.numbers.proofs.keep.Reads as reads
-use Rattle.numbers.proofs.keep.Lts as lts
-use Rattle.numbers.proofs.above.Reads as above-reads
-use Rattle.numbers.proofs.refused.Reads as refused-reads
-use Rattle.numbers.proofs.save.Reads as save-reads
 
 enum-known-answer : tie.Need-enum-known-answer
 enum-known-answer c = search needs

@@ -6,11 +6,6 @@ use Rattle.numbers.specs.Stored.{toldAnswer, kept, keptTypes}
 use borrow.Author.Needs.{needs}
 use Rattle.numbers.proofs.keep_all.Statement.{statement}
 use Rattle.numbers.proofs.keep_all.Tie as tie
-use Rattle.numbers.proofs.keep_all.Reads as reads
-use Rattle.numbers.proofs.keep_all.Lts as lts
-use Rattle.numbers.proofs.above.Reads as above-reads
-use Rattle.numbers.proofs.refused.Reads as refused-reads
-use Rattle.numbers.proofs.save.Reads as save-reads
 
 enum-known-answer : tie.Need-enum-known-answer
 enum-known-answer c = search needs

@@ -1,10 +1,7 @@
+-- `numbers::load` meets its contract: each number in its place, the stage and the element type by what they are taken as. Assumes nothing.
 use borrow.Author.Needs.{needs}
 use Rattle.numbers.proofs.load.Statement.{statement}
 use Rattle.numbers.proofs.load.Tie as tie
-use Rattle.numbers.proofs.load.Reads as reads
-use Rattle.numbers.proofs.load.Lts as lts
-use Rattle.numbers.proofs.byte_of.Reads as byte-of-reads
-use Rattle.numbers.proofs.stage_of.Reads as stage-of-reads
 
 element-copy-out-stage-of : tie.Need-element-copy-out-stage-of
 element-copy-out-stage-of c = search needs

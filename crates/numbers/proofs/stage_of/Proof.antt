@@ -1,10 +1,9 @@
+-- `numbers::stage_of` meets its contract, case by case. Assumes nothing.
 use mathlib.Core.Path.{_≡_, sym, ap}
 use borrow.Author.Tests.{ne-eqb}
 use Rattle.numbers.specs.Stored.{stageOf}
 use Rattle.numbers.proofs.stage_of.Statement.{statement}
 use Rattle.numbers.proofs.stage_of.Tie as tie
-use Rattle.numbers.proofs.stage_of.Reads as reads
-use Rattle.numbers.proofs.stage_of.Lts as lts
 
 returns : tie.Need-returns
 returns c = sym (ap stageOf (c .match .keys1))
