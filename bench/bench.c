@@ -1,9 +1,10 @@
 /* Proved against plain C: both run in turn, in one process, on the same buffers, and have to answer alike.
 
-     bench short    a few runs at small sizes
+     bench short    a few runs at small sizes: ratios alone
      bench table    each shape at its full size: time of both and their ratio
      bench sweep    each shape from 1 KB to 4 MB: time per byte of both */
 #include "plain_rules.h"
+#include "rewrite.h"
 #include "shapes.h"
 #include <chaloenpik.h>
 #include <stdio.h>
@@ -15,8 +16,10 @@ enum { MOST_SIZE = MOST_MESSAGE + 4, MOST_RUNS = 31, LEAST_BYTES_A_RUN = 1 << 20
 /* The longest list is one of cells of one byte, with a row length for each. */
 enum { MOST_NUMBERS = 6 * 2200000 };
 
-static uint8_t message[MOST_SIZE];
+static uint8_t message[MOST_SIZE], plain_message[MOST_SIZE], proved_message[MOST_SIZE];
 static uint64_t plain_list[MOST_NUMBERS], proved_list[MOST_NUMBERS];
+static uint64_t plain_numbers[4], proved_numbers[4];
+static size_t last_row, last_column;
 
 static double now_ns(void) {
     struct timespec t;
@@ -24,9 +27,11 @@ static double now_ns(void) {
     return (double)t.tv_sec * 1e9 + (double)t.tv_nsec;
 }
 
-/* One thing to ask of a message, of the plain program and of the proved one. The answers must be equal, and so must what they wrote. */
+/* One thing to ask of a message, of the plain program and of the proved one. The answers must be equal, and so must what they wrote.
+   `ready` says whether it is to be asked of that message at all. */
 typedef struct {
     const char *name;
+    bool (*ready)(size_t size);
     uint64_t (*plain)(const uint8_t *m, size_t size);
     uint64_t (*proved)(const uint8_t *m, size_t size);
     bool (*alike)(uint64_t answer);
@@ -49,6 +54,45 @@ static uint64_t list_proved(const uint8_t *m, size_t size) {
     return chaloenpik_fields(CHALOENPIK_RESPONSE, m, size, 0, proved_list, MOST_NUMBERS);
 }
 
+/* The last cell of the first table, as the C interface gives a cell. */
+static uint64_t cell_plain(const uint8_t *m, size_t size) {
+    plain_cell c;
+    plain_refusal no = plain_find_cell(m, size, 0, last_row, last_column, &c);
+    if (no.number != 0) return packed(no);
+    const uint8_t *at = m + c.offset;
+    uint64_t *out = plain_numbers;
+    out[0] = c.type, out[1] = CHALOENPIK_FIXED, out[2] = 0;
+    switch (fixed_size(c.type)) {
+    case 1: out[3] = *at; break;
+    case 2: out[3] = load16(at); break;
+    case 4: out[3] = load32(at); break;
+    case 8: out[3] = load64(at); break;
+    case 16: out[2] = load64(at), out[3] = load64(at + 8); break;
+    default: out[1] = c.null ? CHALOENPIK_NONE : CHALOENPIK_BYTES, out[2] = c.null ? 0 : c.offset, out[3] = c.null ? 0 : c.size;
+    }
+    return 0;
+}
+
+static uint64_t cell_proved(const uint8_t *m, size_t size) { return chaloenpik_cell(m, size, 0, last_row, last_column, proved_numbers); }
+
+static uint64_t write_plain(const uint8_t *m, size_t size) { return rewrite_plain(m, size, plain_message, MOST_SIZE); }
+
+static uint64_t write_proved(const uint8_t *m, size_t size) { return rewrite_proved(m, size, proved_message, MOST_SIZE); }
+
+static bool always(size_t size) {
+    (void)size;
+    return true;
+}
+
+static bool last_cell_known(size_t size) {
+    uint64_t rows = chaloenpik_rows(message, size, 0), columns = chaloenpik_columns(message, size, 0);
+    last_row = chaloenpik_value(rows) - (chaloenpik_value(rows) > 0);
+    last_column = chaloenpik_value(columns) - (chaloenpik_value(columns) > 0);
+    return chaloenpik_refusal(rows) == 0;
+}
+
+static bool accepted(size_t size) { return plain_accept(message, size).number == 0; }
+
 static bool nothing_written(uint64_t answer) {
     (void)answer;
     return true;
@@ -59,9 +103,21 @@ static bool lists_alike(uint64_t answer) {
     return memcmp(plain_list, proved_list, chaloenpik_value(answer) * 6 * sizeof *plain_list) == 0;
 }
 
+static bool cells_alike(uint64_t answer) {
+    return chaloenpik_refusal(answer) != 0 || memcmp(plain_numbers, proved_numbers, sizeof plain_numbers) == 0;
+}
+
+/* Both wrote the message that they were given. */
+static bool messages_alike(uint64_t answer) {
+    size_t size = chaloenpik_value(answer);
+    return chaloenpik_refusal(answer) == 0 && memcmp(message, plain_message, size) == 0 && memcmp(message, proved_message, size) == 0;
+}
+
 static const question questions[] = {
-    {"accept", accept_plain, accept_proved, nothing_written},
-    {"list", list_plain, list_proved, lists_alike},
+    {"accept", always, accept_plain, accept_proved, nothing_written},
+    {"list", always, list_plain, list_proved, lists_alike},
+    {"cell", last_cell_known, cell_plain, cell_proved, cells_alike},
+    {"write", accepted, write_plain, write_proved, messages_alike},
 };
 
 static int by_size(const void *a, const void *b) {
@@ -110,33 +166,46 @@ static times measured(const question *q, const shape *s, size_t size, size_t run
     return both;
 }
 
-static void print_table(size_t most, size_t runs) {
-    printf("%-8s %-12s %9s %12s %12s %7s\n", "question", "shape", "bytes", "plain ns", "proved ns", "ratio");
-    for (size_t k = 0; k < sizeof questions / sizeof *questions; k++)
-        for (size_t n = 0; n < shape_count; n++) {
-            size_t size = shapes[n].make(message, most);
-            times t = measured(&questions[k], &shapes[n], size, runs);
-            printf("%-8s %-12s %9zu %12.0f %12.0f %7.2f\n", questions[k].name, shapes[n].name, size, t.plain, t.proved, t.ratio);
-        }
-}
-
-static void print_sweep(size_t runs) {
-    printf("%-8s %-12s %9s %13s %13s %7s\n", "question", "shape", "bytes", "plain ns/byte", "proved ns/b.", "ratio");
+/* A line for each question, shape and size. */
+static void each(size_t least, size_t most, size_t runs, void (*print)(const char *question, const char *shape, size_t size, times t)) {
     for (size_t k = 0; k < sizeof questions / sizeof *questions; k++)
         for (size_t n = 0; n < shape_count; n++)
-            for (size_t most = 1024; most <= MOST_MESSAGE; most *= 4) {
-                size_t size = shapes[n].make(message, most);
-                times t = measured(&questions[k], &shapes[n], size, runs);
-                double bytes = (double)size;
-                printf("%-8s %-12s %9zu %13.3f %13.3f %7.2f\n", questions[k].name, shapes[n].name, size, t.plain / bytes, t.proved / bytes, t.ratio);
+            for (size_t room = least; room <= most; room *= 4) {
+                size_t size = shapes[n].make(message, room);
+                if (questions[k].ready(size)) print(questions[k].name, shapes[n].name, size, measured(&questions[k], &shapes[n], size, runs));
             }
+}
+
+static void print_ratio(const char *question, const char *shape, size_t size, times t) { printf("%-8s %-12s %9zu %7.2f\n", question, shape, size, t.ratio); }
+
+static void print_times(const char *question, const char *shape, size_t size, times t) {
+    printf("%-8s %-12s %9zu %12.0f %12.0f %7.2f\n", question, shape, size, t.plain, t.proved, t.ratio);
+}
+
+static void print_times_a_byte(const char *question, const char *shape, size_t size, times t) {
+    printf("%-8s %-12s %9zu %13.3f %13.3f %7.2f\n", question, shape, size, t.plain / (double)size, t.proved / (double)size, t.ratio);
+}
+
+static void print_short(void) {
+    printf("%-8s %-12s %9s %7s\n", "question", "shape", "bytes", "ratio");
+    each(64 * 1024, 64 * 1024, 5, print_ratio);
+}
+
+static void print_table(void) {
+    printf("%-8s %-12s %9s %12s %12s %7s\n", "question", "shape", "bytes", "plain ns", "proved ns", "ratio");
+    each(MOST_SIZE, MOST_SIZE, 15, print_times);
+}
+
+static void print_sweep(void) {
+    printf("%-8s %-12s %9s %13s %13s %7s\n", "question", "shape", "bytes", "plain ns/byte", "proved ns/b.", "ratio");
+    each(1024, MOST_MESSAGE, 9, print_times_a_byte);
 }
 
 int main(int count, char **words) {
     const char *what = count == 2 ? words[1] : "";
-    if (strcmp(what, "short") == 0) print_table(64 * 1024, 5);
-    else if (strcmp(what, "table") == 0) print_table(MOST_SIZE, 15);
-    else if (strcmp(what, "sweep") == 0) print_sweep(9);
+    if (strcmp(what, "short") == 0) print_short();
+    else if (strcmp(what, "table") == 0) print_table();
+    else if (strcmp(what, "sweep") == 0) print_sweep();
     else {
         fprintf(stderr, "usage: bench short|table|sweep\n");
         return 2;

@@ -9,6 +9,7 @@
 #ifndef CHALOENPIK_H
 #define CHALOENPIK_H
 
+#include <stdbool.h>
 #include <stddef.h>
 #include <stdint.h>
 
@@ -20,6 +21,13 @@ static inline uint64_t chaloenpik_value(uint64_t answer) { return answer >> 8; }
 
 /* Kinds of messages. */
 enum { CHALOENPIK_LOGIN_REQUEST = 1, CHALOENPIK_LOGIN_RESPONSE = 2, CHALOENPIK_INVOCATION = 3, CHALOENPIK_RESPONSE = 4 };
+
+/* Wire types. */
+enum {
+    CHALOENPIK_NULL = 1, CHALOENPIK_TINYINT = 3, CHALOENPIK_SMALLINT = 4, CHALOENPIK_INTEGER = 5, CHALOENPIK_BIGINT = 6,
+    CHALOENPIK_FLOAT = 8, CHALOENPIK_STRING = 9, CHALOENPIK_TIMESTAMP = 11, CHALOENPIK_DECIMAL = 22, CHALOENPIK_VARBINARY = 25,
+    CHALOENPIK_POINT = 26, CHALOENPIK_GEOGRAPHY = 27, CHALOENPIK_ARRAY = 157 /* -99 */
+};
 
 /* Whether a message of a kind is accepted; if so the value is 0. */
 uint64_t chaloenpik_accept(uint8_t kind, const uint8_t *message, size_t length);
@@ -34,6 +42,38 @@ uint64_t chaloenpik_fields(uint8_t kind, const uint8_t *message, size_t length, 
 
 /* The number, in the field list, of the field that owns a byte. 11 at 0: the message has no such byte. */
 uint64_t chaloenpik_owner(uint8_t kind, const uint8_t *message, size_t length, size_t offset);
+
+/* ---- Records: what a message of a kind says, as numbers. If it is accepted the value is 0. A signed number has the 64 bits of
+   its two's complement; a part of the message is two numbers, its start and its size. */
+
+/* Version; 1 if there is a hash version, and it, else 0; service; user; hash. */
+uint64_t chaloenpik_login_request(const uint8_t *message, size_t length, uint64_t record[9]);
+
+/* Version, result, host, connection, start, the leader's 4 bytes as a number; 1 if there is a build string, and it. With a
+   result other than 0 all that follows it is 0. */
+uint64_t chaloenpik_login_response(const uint8_t *message, size_t length, uint64_t record[9]);
+
+/* Version; procedure; the 8 bytes of client data as a number; how many parameters; where the first begins. */
+uint64_t chaloenpik_invocation(const uint8_t *message, size_t length, uint64_t record[6]);
+
+/* Version, client data, flags, status, status string, application status, application string, round trip, exception; how many
+   tables; where the first begins. A string and an exception are three numbers: 0 absent, 1 null, 2 there, and then the part. */
+uint64_t chaloenpik_response(const uint8_t *message, size_t length, uint64_t record[17]);
+
+/* ---- Cells and parameters. Each is four numbers: its wire type, its form, and two that the form decides. */
+
+enum {
+    CHALOENPIK_FIXED = 0, /* of a fixed size: its upper and its lower 64 bits, without a sign */
+    CHALOENPIK_BYTES = 1, /* text or binary: where its bytes start in the message, and how many they are */
+    CHALOENPIK_NONE = 2,  /* null: 0 and 0 */
+    CHALOENPIK_MANY = 3   /* an array: its elements' wire type, and how many they are */
+};
+
+/* A parameter of an invocation (kind 3), counted from 0; 11 at 0: there is no such one. */
+uint64_t chaloenpik_parameter(const uint8_t *message, size_t length, size_t parameter, uint64_t cell[4]);
+
+/* An element of an array among the parameters. 6 at the parameter's type: it is no array. */
+uint64_t chaloenpik_element(const uint8_t *message, size_t length, size_t parameter, size_t element, uint64_t cell[4]);
 
 /* The functions below ask a response (kind 4). Tables, rows and columns are counted from 0; 11 at 0: there is no such one. */
 
@@ -51,5 +91,103 @@ uint64_t chaloenpik_column_type(const uint8_t *message, size_t length, size_t ta
 
 /* The position of the first column whose name is equal, byte for byte. 9 at 0: no column has that name. */
 uint64_t chaloenpik_find_column(const uint8_t *message, size_t length, size_t table, const uint8_t *name, size_t name_length);
+
+/* A cell of a table. */
+uint64_t chaloenpik_cell(const uint8_t *message, size_t length, size_t table, size_t row, size_t column, uint64_t cell[4]);
+
+/* ---- Shortcut cards: a column kept by its position, type and name, to be found again without a search. */
+
+enum { CHALOENPIK_CARD = 36 }; /* bytes of a card */
+
+/* Writes the card of the first column of a name in front of `out`; the value is the column's position. 8 at 36: no room. */
+uint64_t chaloenpik_make_card(const uint8_t *message, size_t length, size_t table, const uint8_t *name, size_t name_length, uint8_t *out, size_t size);
+
+/* The position of the column that a card stands for. 10 at 0: the table has another column there, or none; 12: no card. */
+uint64_t chaloenpik_open_card(const uint8_t *message, size_t length, size_t table, const uint8_t *card, size_t card_length);
+
+/* ---- Writing. `out` has room for `size` bytes; the value is the position that was reached, which after the last step is the
+   message's size. A step that is refused leaves the buffer, the state and the types as they were; 8 at the position that it
+   would reach: no room. Numbers are given without a sign, as many low bits as they have on the wire. */
+
+/* A login request. The hash has 20 bytes, or 32 with hash version 1. In version 0 the hash version is ignored. */
+uint64_t chaloenpik_write_login_request(uint8_t *out, size_t size, uint8_t version, uint8_t hash_version, const uint8_t *service, size_t service_length,
+                                        const uint8_t *user, size_t user_length, const uint8_t *hash, size_t hash_length);
+
+/* A login response. With a result other than 0 all that follows it is ignored. */
+uint64_t chaloenpik_write_login_response(uint8_t *out, size_t size, uint8_t version, uint8_t result, uint32_t host, uint64_t connection, uint64_t start,
+                                         uint32_t leader, const uint8_t *build, size_t build_length);
+
+/* The other kinds are written by steps, which keep where they are in numbers that the caller lends: the stage, the position, and
+   what is open. Beginning a message sets them. Any numbers may stand in them: a step that they don't permit is refused 13, at
+   the low 56 bits of the position. */
+enum { CHALOENPIK_STATE = 11, CHALOENPIK_TYPES = 64 /* the types of the open table's columns */ };
+
+/* Begins an invocation; `client` has 8 bytes. */
+uint64_t chaloenpik_begin_call(uint8_t *out, size_t size, uint64_t state[CHALOENPIK_STATE], uint8_t types[CHALOENPIK_TYPES], uint8_t version,
+                               const uint8_t *procedure, size_t procedure_length, const uint8_t client[8]);
+
+/* A null parameter. */
+uint64_t chaloenpik_null_param(uint8_t *out, size_t size, uint64_t state[CHALOENPIK_STATE], const uint8_t types[CHALOENPIK_TYPES]);
+
+/* A parameter of a fixed size, by its upper and lower 64 bits; one of at most 8 bytes stands in the lower. */
+uint64_t chaloenpik_fixed_param(uint8_t *out, size_t size, uint64_t state[CHALOENPIK_STATE], const uint8_t types[CHALOENPIK_TYPES], uint8_t type,
+                                uint64_t upper, uint64_t lower);
+
+/* A text or binary parameter, or a null of its type. */
+uint64_t chaloenpik_body_param(uint8_t *out, size_t size, uint64_t state[CHALOENPIK_STATE], const uint8_t types[CHALOENPIK_TYPES], uint8_t type,
+                               bool null, const uint8_t *bytes, size_t length);
+
+/* An array of tinyints, in one step. */
+uint64_t chaloenpik_bytes_param(uint8_t *out, size_t size, uint64_t state[CHALOENPIK_STATE], const uint8_t types[CHALOENPIK_TYPES],
+                                const uint8_t *bytes, size_t length);
+
+/* Opens an array of elements of a type. */
+uint64_t chaloenpik_open_array(uint8_t *out, size_t size, uint64_t state[CHALOENPIK_STATE], const uint8_t types[CHALOENPIK_TYPES], uint8_t type);
+
+/* An element of the open array, of a fixed size. */
+uint64_t chaloenpik_fixed_element(uint8_t *out, size_t size, uint64_t state[CHALOENPIK_STATE], const uint8_t types[CHALOENPIK_TYPES], uint8_t type,
+                                  uint64_t upper, uint64_t lower);
+
+/* A text or binary element of the open array. */
+uint64_t chaloenpik_body_element(uint8_t *out, size_t size, uint64_t state[CHALOENPIK_STATE], const uint8_t types[CHALOENPIK_TYPES], uint8_t type,
+                                 bool null, const uint8_t *bytes, size_t length);
+
+/* Closes the array. */
+uint64_t chaloenpik_close_array(uint8_t *out, size_t size, uint64_t state[CHALOENPIK_STATE], const uint8_t types[CHALOENPIK_TYPES]);
+
+/* Finishes the invocation. */
+uint64_t chaloenpik_finish_call(uint8_t *out, size_t size, uint64_t state[CHALOENPIK_STATE], const uint8_t types[CHALOENPIK_TYPES]);
+
+/* Begins a response with all fields before its table count; `client` has 8 bytes. A string, or an exception, whose flag isn't
+   set is ignored. */
+uint64_t chaloenpik_begin_reply(uint8_t *out, size_t size, uint64_t state[CHALOENPIK_STATE], uint8_t types[CHALOENPIK_TYPES], uint8_t version,
+                                const uint8_t client[8], uint8_t flags, uint8_t status, bool status_null, const uint8_t *status_string,
+                                size_t status_length, uint8_t app_status, bool app_null, const uint8_t *app_string, size_t app_length,
+                                uint32_t round_trip, const uint8_t *exception, size_t exception_length);
+
+/* Opens a table. `columns` has `numbers` numbers, three for each column: its wire type, and its name's start and size in `names`;
+   one or two left over are ignored. 11 at 0: a name that is no part of `names`. */
+uint64_t chaloenpik_open_table(uint8_t *out, size_t size, uint64_t state[CHALOENPIK_STATE], uint8_t types[CHALOENPIK_TYPES], uint8_t status,
+                               const uint64_t *columns, size_t numbers, const uint8_t *names, size_t names_length);
+
+/* Opens a row. */
+uint64_t chaloenpik_open_row(uint8_t *out, size_t size, uint64_t state[CHALOENPIK_STATE], const uint8_t types[CHALOENPIK_TYPES]);
+
+/* A cell of the open row, of a fixed size, by its upper and lower 64 bits. */
+uint64_t chaloenpik_fixed_cell(uint8_t *out, size_t size, uint64_t state[CHALOENPIK_STATE], const uint8_t types[CHALOENPIK_TYPES], uint8_t type,
+                               uint64_t upper, uint64_t lower);
+
+/* A text or binary cell of the open row, or a null of its type. */
+uint64_t chaloenpik_body_cell(uint8_t *out, size_t size, uint64_t state[CHALOENPIK_STATE], const uint8_t types[CHALOENPIK_TYPES], uint8_t type,
+                              bool null, const uint8_t *bytes, size_t length);
+
+/* Closes the row. */
+uint64_t chaloenpik_close_row(uint8_t *out, size_t size, uint64_t state[CHALOENPIK_STATE], const uint8_t types[CHALOENPIK_TYPES]);
+
+/* Closes the table. */
+uint64_t chaloenpik_close_table(uint8_t *out, size_t size, uint64_t state[CHALOENPIK_STATE], const uint8_t types[CHALOENPIK_TYPES]);
+
+/* Finishes the response. */
+uint64_t chaloenpik_finish_reply(uint8_t *out, size_t size, uint64_t state[CHALOENPIK_STATE], const uint8_t types[CHALOENPIK_TYPES]);
 
 #endif

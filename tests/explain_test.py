@@ -3,12 +3,14 @@ where target/bin/list is built, the stored listing is held to it. Run: python3 t
 
 import contextlib
 import io
+import os
 import pathlib
 import struct
 import subprocess
 import sys
 import tempfile
 import unittest
+from unittest import mock
 
 sys.dont_write_bytecode = True
 ROOT = pathlib.Path(__file__).resolve().parents[1]
@@ -203,6 +205,17 @@ class Page(unittest.TestCase):
         text = page.page(4, "x", bytes(65_000), (4, 30_000), None)
         self.assertIn('data-start="25904"', text)
         self.assertIn('data-bytes="%s"' % ("00" * (30_000 + 4096 - 25_904)), text)
+
+
+class Building(unittest.TestCase):
+    def test_a_missing_program_is_built_first(self):
+        with tempfile.TemporaryDirectory() as folder:
+            program, rt = pathlib.Path(folder) / "list", pathlib.Path(folder) / "rt"
+            rt.write_text("#!/bin/sh\nprintf '#!/bin/sh\\ncat' >'%s' && chmod +x '%s'\n" % (program, program))
+            rt.chmod(0o755)
+            with mock.patch.object(listing, "PROGRAM", program), mock.patch.object(listing, "command", lambda: [str(program)]), \
+                    mock.patch.dict(os.environ, PATH=folder + os.pathsep + os.environ["PATH"]):
+                self.assertEqual(listing.run(b"refused 6 0\n"), "refused 6 0\n")
 
 
 @unittest.skipUnless(listing.PROGRAM.exists(), "target/bin/list isn't built")

@@ -1,10 +1,10 @@
 /* limit FILE COLUMN: prints a decimal column of a reply's first table, with the place of the bytes that each value was read
    from. Names and places come from the proved library; only the digits are put together here. */
+#include "decimal.h"
 #include <chaloenpik.h>
-#include <stdio.h>
 #include <string.h>
 
-enum { CELL = 51, DECIMAL = 22, WINDOW = 256 };
+enum { CELL = 51, WINDOW = 256 };
 
 static uint8_t message[4194304 + 5]; /* one byte more than a message may have */
 static size_t length;
@@ -20,26 +20,6 @@ static uint64_t number(const uint8_t *bytes) {
     return n;
 }
 
-/* A decimal of 16 bytes, in units of 10^-12. */
-static void print_decimal(const uint8_t *bytes) {
-    __extension__ typedef unsigned __int128 wide;
-    const wide one = 1000000000000;
-    wide units = (wide)number(bytes) << 64 | number(bytes + 8);
-    if (units == (wide)1 << 127) {
-        printf("null");
-        return;
-    }
-    int negative = bytes[0] >> 7;
-    if (negative) units = -units;
-    char digits[40];
-    int count = 0;
-    wide whole = units / one;
-    do digits[count++] = (char)('0' + (int)(whole % 10)); while ((whole /= 10) != 0);
-    if (negative) printf("-");
-    while (count > 0) printf("%c", digits[--count]);
-    printf(".%012lu", (unsigned long)(units % one));
-}
-
 /* Goes through the field list, a window at a time, and prints the cells of a column of the first table. */
 static int print_column(size_t column) {
     uint64_t window[6 * WINDOW];
@@ -49,7 +29,7 @@ static int print_column(size_t column) {
         for (uint64_t *e = window; e < window + 6 * chaloenpik_value(answer); e += 6) {
             if (e[2] != CELL || e[3] != 0 || e[5] != column) continue;
             printf("row %lu: ", (unsigned long)e[4]);
-            print_decimal(message + e[0]);
+            print_decimal(number(message + e[0]), number(message + e[0] + 8));
             printf(", bytes %lu to %lu\n", (unsigned long)e[0], (unsigned long)(e[0] + e[1] - 1));
         }
     }
@@ -67,7 +47,7 @@ int main(int count, char **words) {
     if (chaloenpik_refusal(column) != 0) return refused(words[2], column);
     size_t position = (size_t)chaloenpik_value(column);
     uint64_t type = chaloenpik_column_type(message, length, 0, position);
-    if (chaloenpik_refusal(type) != 0 || chaloenpik_value(type) != DECIMAL) {
+    if (chaloenpik_refusal(type) != 0 || chaloenpik_value(type) != CHALOENPIK_DECIMAL) {
         printf("%s is no column of decimals\n", words[2]);
         return 1;
     }

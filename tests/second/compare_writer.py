@@ -1,5 +1,5 @@
 #!/usr/bin/env python3
-"""Runs the program `script` and the second writer over the same scripts of steps: compare_writer.py N SEED
+"""Runs tests/script.c, which takes the exported steps, and the second writer over the same scripts of steps: compare_writer.py N SEED
 
 Half of the scripts spell a made-up record, into a buffer that is long enough or a little too short; the others take wild steps, with
 wrong arguments, out of order and on forged states. What `script` answers must be what the second writer does, line by line.
@@ -17,8 +17,12 @@ from generate import Maker
 from wire import *
 from writer_test import wild
 
-RUN = pathlib.Path(__file__).resolve().parent.parent / "run"
+ROOT = pathlib.Path(__file__).resolve().parents[2]
+RUN = [ROOT / "tools" / "c" / "kit", "run", ROOT / "target" / "tests" / "script"]
 MOST_BUFFER = 8192
+
+# An answer of the C interface has so many bits for a place. Only a forged position needs more.
+PLACES = 2**56
 
 
 def main():
@@ -27,10 +31,10 @@ def main():
     maker = Maker(random.Random(seed))
     scripts = [spelling(maker) if i % 2 else wild(maker) for i in range(count)]
     data = b"".join(steps.packed(script) for script in scripts)
-    found = subprocess.run([RUN, "script"], input=data, stdout=subprocess.PIPE, check=True).stdout.decode().splitlines()
+    found = subprocess.run(RUN, input=data, stdout=subprocess.PIPE, check=True).stdout.decode().splitlines()
     counts, at = Counter(), 0
     for number, script in enumerate(scripts):
-        expected = steps.run(script)[0]
+        expected = [told(answer) for answer in steps.run(script)[0]]
         if found[at:at + len(expected)] != expected:
             return report(number, script, expected, found[at:at + len(expected)])
         counts.update(a.split()[1] if a.startswith("refused") else "fine" for a in expected[:-1])
@@ -40,6 +44,12 @@ def main():
         return 1
     print("compare_writer: no difference. %s" % ", ".join("%s %d" % pair for pair in sorted(counts.items())))
     return 0
+
+
+def told(answer):
+    """An answer as the C interface gives it."""
+    words = answer.split(" ")
+    return "refused %s %d" % (words[1], int(words[2]) % PLACES) if words[0] == "refused" else answer
 
 
 def spelling(maker):

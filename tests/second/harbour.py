@@ -1,6 +1,6 @@
 #!/usr/bin/env python3
-"""Makes samples/: messages of a made-up harbour whose engine control asks a database for the limits of its engines; and, for the
-program `limit`, its input and what it prints: the sample reply, the same with a row more, three in which the limit's column is no
+"""Makes samples/: messages of a made-up harbour whose engine control asks a database for the limits of its engines, and a reply
+that lacks a column; and, for the program `limit`, its input and what it prints: the sample reply, the same with a row more, three in which the limit's column is no
 longer what it was, and one that lacks a later column."""
 
 import pathlib
@@ -25,16 +25,10 @@ ENGINES = {
     ],
 }
 
-MESSAGES = {
-    "1-login": (LOGIN, {"version": 1, "hash_version": 0, "service": b"database", "user": b"harbour", "hash": bytes(range(20))}),
-    "2-login-reply": (LOGIN_REPLY, {"version": 1, "result": 0, "host": 3, "connection": 12, "start": 1_760_000_000_000,
-                                    "leader": bytes([10, 0, 0, 1]), "build": b"6.0 harbour"}),
-    "3-engine-limits": (INVOCATION, {"version": 0, "procedure": b"EngineLimits", "client_data": REQUEST, "parameters": [
-        (STRING, b"Bodil"), (ARRAY, (INTEGER, [1, 2])), (ARRAY, (TINYINT, b"\1\2")), (NULL, None)]}),
-    "4-engines": (REPLY, {"version": 0, "client_data": REQUEST, "flags": FLAG_STATUS_STRING, "status": 1,
-                          "status_string": b"ok", "application": -128, "round_trip": 2, "tables": [ENGINES]}),
-}
 
+def reply(table):
+    return {"version": 0, "client_data": REQUEST, "flags": FLAG_STATUS_STRING, "status": 1, "status_string": b"ok", "application": -128,
+            "round_trip": 2, "tables": [table]}
 
 
 def without(table, column):
@@ -52,11 +46,22 @@ def changed(table, column, **changes):
     return dict(table, rows=rows, **{key: table[key][:at] + [new] + table[key][at + 1:] for key, new in changes.items() if key in table})
 
 
+MESSAGES = {
+    "1-login": (LOGIN, {"version": 1, "hash_version": 0, "service": b"database", "user": b"harbour", "hash": bytes(range(20))}),
+    "2-login-reply": (LOGIN_REPLY, {"version": 1, "result": 0, "host": 3, "connection": 12, "start": 1_760_000_000_000,
+                                    "leader": bytes([10, 0, 0, 1]), "build": b"6.0 harbour"}),
+    "3-engine-limits": (INVOCATION, {"version": 0, "procedure": b"EngineLimits", "client_data": REQUEST, "parameters": [
+        (STRING, b"Bodil"), (ARRAY, (INTEGER, [1, 2])), (ARRAY, (TINYINT, b"\1\2")), (NULL, None)]}),
+    "4-engines": (REPLY, reply(ENGINES)),
+    "4-engines-without-vessel": (REPLY, reply(without(ENGINES, b"VESSEL"))),
+}
+
+
 def replies():
     more = dict(ENGINES, rows=[[5, b"Clam", None, 500_000_000_000, 0, (0.0, 0.0), 0]] + ENGINES["rows"])
     tables = [ENGINES, more, without(ENGINES, b"VESSEL"), changed(ENGINES, b"THROTTLE_LIMIT", names=b"THROTTLE_LIMITS"),
               changed(ENGINES, b"THROTTLE_LIMIT", types=VARBINARY, value=None), without(ENGINES, b"SERVICED")]
-    return [encode(REPLY, dict(MESSAGES["4-engines"][1], tables=[table])) for table in tables]
+    return [encode(REPLY, reply(table)) for table in tables]
 
 
 def limits(messages):

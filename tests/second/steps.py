@@ -79,7 +79,7 @@ def forged(*fields):
 def forging(state, **changes):
     """The step that sets `state`, with some fields changed; `columns` and `types` (64 bytes) are fields of their own."""
     fields = dict(state.__dict__, columns=len(state.types))
-    fields["types"] = bytes(t % 256 for t in state.types).ljust(MOST_COLUMNS, b"\0")
+    fields["types"] = bytes(t % 256 for t in state.types[:MOST_COLUMNS]).ljust(MOST_COLUMNS, b"\0")
     fields.update(changes)
     order = ("stage", "position", "count_at", "count", "inner_at", "inner_type", "inner_count", "table_at", "rows_at", "rows",
              "columns", "types")

@@ -167,10 +167,10 @@ def forgery(rng, state):
         elif field == "types":
             changes[field] = bytes(rng.choice((*COLUMN_TYPES, *COLUMN_TYPES, *COLUMN_TYPES, 157, 1, 0)) for _ in range(64))
         elif field == "position":
-            changes[field] = rng.choice((near, state.position + 1, state.position - 1 if state.position else 0))
+            changes[field] = rng.choice((near, (state.position + 1) % 2**64, state.position - 1 if state.position else 0))
         else:
             value = getattr(state, field)
-            changes[field] = rng.choice((near, value + 1, value - 1 if value else 0))
+            changes[field] = rng.choice((near, (value + 1) % 2**64, value - 1 if value else 0))
     return steps.forging(state, **changes)
 
 

@@ -1,10 +1,11 @@
-"""The proved listing: runs the program `list` over a message and takes its lines apart."""
+"""The proved listing: runs the program `list` over a message, having it proved and built if it isn't there, and takes its lines apart."""
 
 import os
 import pathlib
 import platform
 import shutil
 import subprocess
+import sys
 
 ROOT = pathlib.Path(__file__).resolve().parents[2]
 PROGRAM = ROOT / "target" / "bin" / "list"
@@ -21,6 +22,8 @@ def listing(kind, message):
 
 def run(data):
     try:
+        if not PROGRAM.exists():
+            subprocess.run(["rt", "check", "list"], cwd=ROOT, stdout=sys.stderr, check=True)
         done = subprocess.run(command(), input=data, stdout=subprocess.PIPE, check=True)
     except (OSError, subprocess.CalledProcessError) as problem:
         raise Missing("the listing program didn't run (%s); `rt check list` makes target/bin/list" % problem) from problem

@@ -1,7 +1,16 @@
-//! Reads messages of the VoltDB client wire protocol with the proved library `exports`.
+//! Reads and writes messages of the VoltDB client wire protocol with the proved library `exports`.
 //!
 //! The proved functions ask nothing of their arguments but that slices are slices, which Rust's types give. What is unsafe
 //! here is only the call of a foreign function.
+
+mod foreign;
+mod records;
+mod values;
+mod writer;
+
+pub use records::{invocation, login_request, login_response, response, Invocation, LoginRequest, LoginResponse, Optional, Response};
+pub use values::{cell, element, parameter, wire, Cell, Parameter, Value};
+pub use writer::{write_login_request, write_login_response, Column, Opening, Welcome, Writer};
 
 /// The four kinds of messages.
 #[derive(Clone, Copy, Debug, PartialEq, Eq)]
@@ -91,27 +100,32 @@ pub fn find_column(message: &[u8], table: usize, name: &[u8]) -> Result<usize, R
     found(answer).map(|n| n as usize)
 }
 
+/// A shortcut card: a column's position, type and name.
+pub type Card = [u8; 36];
+
+/// The card of the first column of a name in a table of a response.
+pub fn make_card(message: &[u8], table: usize, name: &[u8]) -> Result<Card, Refusal> {
+    let mut card = [0; 36];
+    // SAFETY: as above; the card is lent for writing and is nobody else's.
+    found(unsafe {
+        foreign::chaloenpik_make_card(
+            message.as_ptr(), message.len(), table, name.as_ptr(), name.len(), card.as_mut_ptr(), card.len(),
+        )
+    })?;
+    Ok(card)
+}
+
+/// The position of the column that a card stands for, if the table still has it there.
+pub fn open_card(message: &[u8], table: usize, card: &[u8]) -> Result<usize, Refusal> {
+    // SAFETY: as above, for both slices.
+    let answer = unsafe { foreign::chaloenpik_open_card(message.as_ptr(), message.len(), table, card.as_ptr(), card.len()) };
+    found(answer).map(|n| n as usize)
+}
+
 /// An answer taken apart: what was found, or the refusal.
 fn found(answer: u64) -> Result<u64, Refusal> {
     match (answer & 255) as u8 {
         0 => Ok(answer >> 8),
         number => Err(Refusal { number, place: answer >> 8 }),
-    }
-}
-
-/// The functions of include/chaloenpik.h.
-mod foreign {
-    extern "C" {
-        pub fn chaloenpik_accept(kind: u8, message: *const u8, length: usize) -> u64;
-        pub fn chaloenpik_field_count(kind: u8, message: *const u8, length: usize) -> u64;
-        pub fn chaloenpik_fields(kind: u8, message: *const u8, length: usize, first: usize, out: *mut u64, size: usize) -> u64;
-        pub fn chaloenpik_owner(kind: u8, message: *const u8, length: usize, offset: usize) -> u64;
-        pub fn chaloenpik_tables(message: *const u8, length: usize) -> u64;
-        pub fn chaloenpik_rows(message: *const u8, length: usize, table: usize) -> u64;
-        pub fn chaloenpik_columns(message: *const u8, length: usize, table: usize) -> u64;
-        pub fn chaloenpik_column_type(message: *const u8, length: usize, table: usize, column: usize) -> u64;
-        pub fn chaloenpik_find_column(
-            message: *const u8, length: usize, table: usize, name: *const u8, name_length: usize,
-        ) -> u64;
     }
 }

@@ -1,0 +1,85 @@
+//! The functions of include/chaloenpik.h.
+
+/// The writer's state in numbers, and the types of the open table's columns.
+pub type State = [u64; 11];
+pub type Types = [u8; 64];
+
+extern "C" {
+    pub fn chaloenpik_accept(kind: u8, message: *const u8, length: usize) -> u64;
+    pub fn chaloenpik_field_count(kind: u8, message: *const u8, length: usize) -> u64;
+    pub fn chaloenpik_fields(kind: u8, message: *const u8, length: usize, first: usize, out: *mut u64, size: usize) -> u64;
+    pub fn chaloenpik_owner(kind: u8, message: *const u8, length: usize, offset: usize) -> u64;
+
+    pub fn chaloenpik_login_request(message: *const u8, length: usize, record: *mut [u64; 9]) -> u64;
+    pub fn chaloenpik_login_response(message: *const u8, length: usize, record: *mut [u64; 9]) -> u64;
+    pub fn chaloenpik_invocation(message: *const u8, length: usize, record: *mut [u64; 6]) -> u64;
+    pub fn chaloenpik_response(message: *const u8, length: usize, record: *mut [u64; 17]) -> u64;
+
+    pub fn chaloenpik_parameter(message: *const u8, length: usize, parameter: usize, cell: *mut [u64; 4]) -> u64;
+    pub fn chaloenpik_element(message: *const u8, length: usize, parameter: usize, element: usize, cell: *mut [u64; 4]) -> u64;
+
+    pub fn chaloenpik_tables(message: *const u8, length: usize) -> u64;
+    pub fn chaloenpik_rows(message: *const u8, length: usize, table: usize) -> u64;
+    pub fn chaloenpik_columns(message: *const u8, length: usize, table: usize) -> u64;
+    pub fn chaloenpik_column_type(message: *const u8, length: usize, table: usize, column: usize) -> u64;
+    pub fn chaloenpik_find_column(message: *const u8, length: usize, table: usize, name: *const u8, name_length: usize) -> u64;
+    pub fn chaloenpik_cell(message: *const u8, length: usize, table: usize, row: usize, column: usize, cell: *mut [u64; 4]) -> u64;
+
+    pub fn chaloenpik_make_card(
+        message: *const u8, length: usize, table: usize, name: *const u8, name_length: usize, out: *mut u8, size: usize,
+    ) -> u64;
+    pub fn chaloenpik_open_card(message: *const u8, length: usize, table: usize, card: *const u8, card_length: usize) -> u64;
+
+    pub fn chaloenpik_write_login_request(
+        out: *mut u8, size: usize, version: u8, hash_version: u8, service: *const u8, service_length: usize, user: *const u8,
+        user_length: usize, hash: *const u8, hash_length: usize,
+    ) -> u64;
+    pub fn chaloenpik_write_login_response(
+        out: *mut u8, size: usize, version: u8, result: u8, host: u32, connection: u64, start: u64, leader: u32, build: *const u8,
+        build_length: usize,
+    ) -> u64;
+
+    pub fn chaloenpik_begin_call(
+        out: *mut u8, size: usize, state: *mut State, types: *mut Types, version: u8, procedure: *const u8, procedure_length: usize,
+        client: *const [u8; 8],
+    ) -> u64;
+    pub fn chaloenpik_null_param(out: *mut u8, size: usize, state: *mut State, types: *const Types) -> u64;
+    pub fn chaloenpik_fixed_param(
+        out: *mut u8, size: usize, state: *mut State, types: *const Types, wire_type: u8, upper: u64, lower: u64,
+    ) -> u64;
+    pub fn chaloenpik_body_param(
+        out: *mut u8, size: usize, state: *mut State, types: *const Types, wire_type: u8, null: bool, bytes: *const u8, length: usize,
+    ) -> u64;
+    pub fn chaloenpik_bytes_param(
+        out: *mut u8, size: usize, state: *mut State, types: *const Types, bytes: *const u8, length: usize,
+    ) -> u64;
+    pub fn chaloenpik_open_array(out: *mut u8, size: usize, state: *mut State, types: *const Types, wire_type: u8) -> u64;
+    pub fn chaloenpik_fixed_element(
+        out: *mut u8, size: usize, state: *mut State, types: *const Types, wire_type: u8, upper: u64, lower: u64,
+    ) -> u64;
+    pub fn chaloenpik_body_element(
+        out: *mut u8, size: usize, state: *mut State, types: *const Types, wire_type: u8, null: bool, bytes: *const u8, length: usize,
+    ) -> u64;
+    pub fn chaloenpik_close_array(out: *mut u8, size: usize, state: *mut State, types: *const Types) -> u64;
+    pub fn chaloenpik_finish_call(out: *mut u8, size: usize, state: *mut State, types: *const Types) -> u64;
+
+    pub fn chaloenpik_begin_reply(
+        out: *mut u8, size: usize, state: *mut State, types: *mut Types, version: u8, client: *const [u8; 8], flags: u8, status: u8,
+        status_null: bool, status_string: *const u8, status_length: usize, app_status: u8, app_null: bool, app_string: *const u8,
+        app_length: usize, round_trip: u32, exception: *const u8, exception_length: usize,
+    ) -> u64;
+    pub fn chaloenpik_open_table(
+        out: *mut u8, size: usize, state: *mut State, types: *mut Types, status: u8, columns: *const u64, numbers: usize,
+        names: *const u8, names_length: usize,
+    ) -> u64;
+    pub fn chaloenpik_open_row(out: *mut u8, size: usize, state: *mut State, types: *const Types) -> u64;
+    pub fn chaloenpik_fixed_cell(
+        out: *mut u8, size: usize, state: *mut State, types: *const Types, wire_type: u8, upper: u64, lower: u64,
+    ) -> u64;
+    pub fn chaloenpik_body_cell(
+        out: *mut u8, size: usize, state: *mut State, types: *const Types, wire_type: u8, null: bool, bytes: *const u8, length: usize,
+    ) -> u64;
+    pub fn chaloenpik_close_row(out: *mut u8, size: usize, state: *mut State, types: *const Types) -> u64;
+    pub fn chaloenpik_close_table(out: *mut u8, size: usize, state: *mut State, types: *const Types) -> u64;
+    pub fn chaloenpik_finish_reply(out: *mut u8, size: usize, state: *mut State, types: *const Types) -> u64;
+}

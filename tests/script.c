@@ -1,0 +1,217 @@
+/* Carries out scripts of writer steps with the exported steps, to be held against the second writer. Standard input is a row of
+   frames, a step each; each answer is a line. tests/second/steps.py says which. */
+#include <chaloenpik.h>
+#include <stdio.h>
+#include <stdlib.h>
+#include <string.h>
+
+/* The steps, by the byte that names them. */
+enum {
+    BUFFER, FORGE, SHOW, LOGIN, LOGIN_REPLY, BEGIN_INVOCATION, BEGIN_REPLY, ADD_NULL, ADD_VALUE, ADD_BYTE_ARRAY, OPEN_ARRAY, ADD_ELEMENT,
+    CLOSE_ARRAY, FINISH_INVOCATION, OPEN_TABLE, OPEN_ROW, ADD_CELL, CLOSE_ROW, CLOSE_TABLE, FINISH_REPLY
+};
+
+enum { MOST_FRAME = 1 << 20, MOST_BUFFER = 1 << 16, MOST_COLUMNS = 1000, PATTERN = 251 };
+
+static uint8_t frame[MOST_FRAME], out[MOST_BUFFER], types[CHALOENPIK_TYPES];
+static uint64_t state[CHALOENPIK_STATE];
+static size_t size;
+
+/* ---- The arguments, one after the other. */
+
+static const uint8_t *next, *end;
+
+static const uint8_t *take(size_t bytes) {
+    if ((size_t)(end - next) < bytes) {
+        fprintf(stderr, "script: a frame ends too early\n");
+        exit(1);
+    }
+    next += bytes;
+    return next - bytes;
+}
+
+static uint64_t big_endian(size_t bytes) {
+    const uint8_t *from = take(bytes);
+    uint64_t n = 0;
+    for (size_t i = 0; i < bytes; i++) n = n << 8 | from[i];
+    return n;
+}
+
+static uint64_t number(void) { return big_endian(8); }
+
+static uint8_t byte(void) { return (uint8_t)number(); }
+
+typedef struct {
+    bool null;
+    const uint8_t *bytes;
+    size_t size;
+} part;
+
+static part counted(void) {
+    uint32_t bytes = (uint32_t)big_endian(4);
+    bool null = bytes == UINT32_MAX;
+    part p = {null, take(null ? 0 : bytes), null ? 0 : bytes};
+    return p;
+}
+
+static size_t fixed_size(uint8_t type) {
+    switch (type) {
+    case CHALOENPIK_TINYINT: return 1;
+    case CHALOENPIK_SMALLINT: return 2;
+    case CHALOENPIK_INTEGER: return 4;
+    case CHALOENPIK_BIGINT: case CHALOENPIK_FLOAT: case CHALOENPIK_TIMESTAMP: return 8;
+    case CHALOENPIK_DECIMAL: case CHALOENPIK_POINT: return 16;
+    default: return 0;
+    }
+}
+
+/* ---- Steps. */
+
+typedef uint64_t simple_step(uint8_t *, size_t, uint64_t *, const uint8_t *);
+typedef uint64_t fixed_step(uint8_t *, size_t, uint64_t *, const uint8_t *, uint8_t, uint64_t, uint64_t);
+typedef uint64_t body_step(uint8_t *, size_t, uint64_t *, const uint8_t *, uint8_t, bool, const uint8_t *, size_t);
+
+static uint64_t simple(simple_step *step) { return step(out, size, state, types); }
+
+/* A value by the step for its type; one of a type that has no values is 0. */
+static uint64_t value(fixed_step *fixed, body_step *body) {
+    uint8_t type = *take(1);
+    if (type == CHALOENPIK_STRING || type == CHALOENPIK_VARBINARY || type == CHALOENPIK_GEOGRAPHY) {
+        part p = counted();
+        return body(out, size, state, types, type, p.null, p.bytes, p.size);
+    }
+    size_t bytes = fixed_size(type);
+    uint64_t upper = bytes == 16 ? big_endian(8) : 0;
+    uint64_t lower = big_endian(bytes == 16 ? 8 : bytes);
+    return fixed(out, size, state, types, type, upper, lower);
+}
+
+static uint64_t login(void) {
+    uint8_t version = byte(), hash_version = byte();
+    part service = counted(), user = counted(), hash = counted();
+    return chaloenpik_write_login_request(out, size, version, hash_version, service.bytes, service.size, user.bytes, user.size, hash.bytes, hash.size);
+}
+
+static uint64_t login_reply(void) {
+    uint8_t version = byte(), result = byte();
+    uint32_t host = (uint32_t)number();
+    uint64_t connection = number(), start = number();
+    big_endian(4); /* the leader's size, always 4 */
+    uint32_t leader = (uint32_t)big_endian(4);
+    part build = counted();
+    return chaloenpik_write_login_response(out, size, version, result, host, connection, start, leader, build.bytes, build.size);
+}
+
+static uint64_t begin_invocation(void) {
+    uint8_t version = byte();
+    part procedure = counted(), client = counted();
+    return chaloenpik_begin_call(out, size, state, types, version, procedure.bytes, procedure.size, client.bytes);
+}
+
+static uint64_t begin_reply(void) {
+    uint8_t version = byte();
+    part client = counted();
+    uint8_t flags = byte(), status = byte();
+    part status_string = counted();
+    uint8_t application = byte();
+    part application_string = counted();
+    uint32_t round_trip = (uint32_t)number();
+    part exception = counted();
+    return chaloenpik_begin_reply(out, size, state, types, version, client.bytes, flags, status, status_string.null, status_string.bytes,
+                                  status_string.size, application, application_string.null, application_string.bytes,
+                                  application_string.size, round_trip, exception.bytes, exception.size);
+}
+
+static uint64_t add_byte_array(void) {
+    part body = counted();
+    return chaloenpik_bytes_param(out, size, state, types, body.bytes, body.size);
+}
+
+static uint64_t open_array(void) { return chaloenpik_open_array(out, size, state, types, byte()); }
+
+static uint64_t open_table(void) {
+    static uint64_t columns[3 * MOST_COLUMNS];
+    uint8_t status = byte();
+    size_t count = big_endian(4);
+    if (count > MOST_COLUMNS) exit(1);
+    for (size_t k = 0; k < count; k++) {
+        columns[3 * k] = *take(1);
+        columns[3 * k + 1] = number();
+        columns[3 * k + 2] = number();
+    }
+    part names = counted();
+    return chaloenpik_open_table(out, size, state, types, status, columns, 3 * count, names.bytes, names.size);
+}
+
+/* ---- What is no step. */
+
+static void buffer(void) {
+    size = number();
+    if (size > MOST_BUFFER) exit(1);
+    for (size_t i = 0; i < size; i++) out[i] = i % PATTERN;
+    memset(state, 0, sizeof state);
+    memset(types, 0, sizeof types);
+}
+
+static void forge(void) {
+    for (size_t i = 0; i < CHALOENPIK_STATE; i++) state[i] = number();
+    part forged = counted();
+    if (forged.size != sizeof types) exit(1);
+    memcpy(types, forged.bytes, sizeof types);
+}
+
+static void show(void) {
+    static char hex[2 * MOST_BUFFER + 1];
+    for (size_t i = 0; i < size; i++) {
+        hex[2 * i] = "0123456789abcdef"[out[i] >> 4];
+        hex[2 * i + 1] = "0123456789abcdef"[out[i] & 15];
+    }
+    hex[2 * size] = 0;
+    printf("%lu %s\n", state[1], size == 0 ? "-" : hex);
+}
+
+static uint64_t stepped(uint8_t name) {
+    switch (name) {
+    case LOGIN: return login();
+    case LOGIN_REPLY: return login_reply();
+    case BEGIN_INVOCATION: return begin_invocation();
+    case BEGIN_REPLY: return begin_reply();
+    case ADD_NULL: return simple(chaloenpik_null_param);
+    case ADD_VALUE: return value(chaloenpik_fixed_param, chaloenpik_body_param);
+    case ADD_BYTE_ARRAY: return add_byte_array();
+    case OPEN_ARRAY: return open_array();
+    case ADD_ELEMENT: return value(chaloenpik_fixed_element, chaloenpik_body_element);
+    case CLOSE_ARRAY: return simple(chaloenpik_close_array);
+    case FINISH_INVOCATION: return simple(chaloenpik_finish_call);
+    case OPEN_TABLE: return open_table();
+    case OPEN_ROW: return simple(chaloenpik_open_row);
+    case ADD_CELL: return value(chaloenpik_fixed_cell, chaloenpik_body_cell);
+    case CLOSE_ROW: return simple(chaloenpik_close_row);
+    case CLOSE_TABLE: return simple(chaloenpik_close_table);
+    case FINISH_REPLY: return simple(chaloenpik_finish_reply);
+    default: exit(1);
+    }
+}
+
+static void one(uint8_t name) {
+    if (name == BUFFER) buffer();
+    else if (name == FORGE) forge();
+    else if (name == SHOW) show();
+    else {
+        uint64_t answer = stepped(name);
+        if (chaloenpik_refusal(answer) == 0) printf("fine\n");
+        else printf("refused %u %lu\n", chaloenpik_refusal(answer), chaloenpik_value(answer));
+    }
+}
+
+int main(void) {
+    uint8_t head[4];
+    while (fread(head, 1, sizeof head, stdin) == sizeof head) {
+        next = head, end = head + sizeof head;
+        size_t bytes = big_endian(4);
+        if (bytes == 0 || bytes > MOST_FRAME || fread(frame, 1, bytes, stdin) != bytes) return 1;
+        next = frame + 1, end = frame + bytes;
+        one(frame[0]);
+    }
+    return 0;
+}
