@@ -22,7 +22,7 @@ use Rattle.scan.proofs.Answers.{next-go}
 use Rattle.scan.proofs.Counted.{here, whole, room-full}
 use Rattle.scan.proofs.Loops.{Rest, replicate-formats, loop-done, loop-turn, loop-stop}
 use Rattle.quick.specs.declared.Run.{Run}
-use Rattle.quick.specs.Past.{Ends, PlainRow, RunOf}
+use Rattle.quick.specs.Past.{Ends, PlainRow, RunOf, mostPlain}
 use Rattle.quick.proofs.Bodies.{number-reads}
 
 module _ {A : Type 0} (s : List ℕ) where
@@ -71,7 +71,7 @@ module _ (types : List ℕ) (s : List ℕ) (at end : ℕ) (few : numAt 4 s at �
       let go = next-go (each third 0 (map (value 50 51) types) .read (take end s) (at + 4)) refl told in
       ap shownNext (room-full mostRow 49 (each third 0 (map (value 50 51) types)) s at h (go .1) refl)
 
-pub plain-row-reads : (types : List ℕ) (plain : ℕ) (s : List ℕ) (at : ℕ) → PlainRow types plain → 0 < plain → plain ≤ 512 → at + (4 + plain) ≤ length s → numAt 4 s at ≡ plain
+pub plain-row-reads : (types : List ℕ) (plain : ℕ) (s : List ℕ) (at : ℕ) → PlainRow types plain → 0 < plain → plain ≤ mostPlain → at + (4 + plain) ≤ length s → numAt 4 s at ≡ plain
     → shownNext (row types .read s at) ≡ Next.At (at + (4 + plain))
 plain-row-reads types plain s at is there small fit size =
     let end = at + (4 + plain) in

@@ -1,5 +1,5 @@
 -- What the quick functions promise of the place that they answer. 0 promises nothing: scan is asked then.
-use Prim.Native.Nat.{ℕ, _+_, _-_, _<_, _≤_}
+use Prim.Native.Nat.{ℕ, _+_, _*_, _-_, _^_, _<_, _≤_}
 use mathlib.Core.Path.{_≡_}
 use mathlib.Core.Bool.{Bool, true}
 use mathlib.Core.List.{List, map}
@@ -9,7 +9,7 @@ use Rattle.format.specs.Result.{Res, pick}
 use Rattle.format.specs.Number.{numAt, null4}
 use Rattle.format.specs.Format.{Format, each}
 use Rattle.format.specs.Value.{value, widthOf, mostBytes, tDecimal, tPoint}
-use Rattle.format.specs.Message.{second, third}
+use Rattle.format.specs.Message.{second, third, mostColumns}
 use Rattle.scan.specs.declared.Next.{Next}
 use Rattle.scan.specs.Shown.{shownNext}
 use Rattle.quick.specs.declared.Run.{Run}
@@ -20,7 +20,7 @@ mostValue = 4 + mostBytes
 
 -- a place is so far below the largest number that a value can be passed
 abbrev pub Low : ℕ → Type 0
-Low at = at + mostValue < 18446744073709551616
+Low at = at + mostValue < 2 ^ 64
 
 module _ {A : Type 0} where
   -- a reading that starts at a place ends at r, if r is in the room; where it isn't, the room's end tells
@@ -46,6 +46,10 @@ PastBody s at r = 0 < r → (at + 4 ≤ length s) × (sizeOf (numAt 4 s at) ≤ 
 -- how many bytes a value has whose type has one size and no rule; 0 for any other
 abbrev pub plainOf : ℕ → ℕ
 plainOf t = pick (eqb t tDecimal) 0 (pick (eqb t tPoint) 0 (widthOf t))
+
+-- the most bytes that such cells of a row have together
+abbrev pub mostPlain : ℕ
+mostPlain = 8 * mostColumns
 
 -- a row of these types: any r bytes are its cells
 abbrev pub PlainRow : List ℕ → ℕ → Type 0

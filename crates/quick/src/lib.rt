@@ -11,10 +11,11 @@ ghost use Rattle.format.specs.declared.Fault.the-variants.{Decimal, Point};
 ghost use Rattle.format.specs.Number.{numAt};
 ghost use Rattle.format.specs.Format.{each, number, ruled};
 ghost use Rattle.format.specs.Value.{value, string, notEmpty, decimalFine, pointFine};
-ghost use Rattle.format.specs.Message.{second, third, row};
+ghost use Rattle.format.specs.Message.{second, third, row, mostColumns};
 ghost use Rattle.scan.specs.Shown.{shownNext};
-ghost use Rattle.quick.specs.Past.{Low, Past, PastBody, PlainRow, RowOf, RunOf, Surely, Within, plainOf, sizeOf};
+ghost use Rattle.quick.specs.Past.{Low, Past, PastBody, PlainRow, RowOf, RunOf, Surely, Within, mostPlain, plainOf, sizeOf};
 
+// A byte as a number.
 fn wide(b: u8) -> u64
     ensures { λ r. ⌜ (r ≡ b) × (r < 256) ⌝ }
 {
@@ -69,7 +70,8 @@ fn past_geography(s: &[u8], at: usize) -> usize
     past_body(s, at)
 }
 
-// Past a decimal that its first 4 bytes show to be in range: all but those next to the ends, and null.
+// Past a decimal that its first 4 bytes show to be in range: all but those next to an end, and null. 10^38 starts with 1262177448,
+// -10^38 with 3032789847.
 fn past_decimal(s: &[u8], at: usize) -> usize
     requires { ⌜ Low at ⌝ }
     ensures { λ r. ⌜ Past (now (s .entry)) at (ruled decimalFine Decimal (number 16 0) .read (now (s .entry)) at) r ⌝ }
@@ -87,7 +89,7 @@ fn past_decimal(s: &[u8], at: usize) -> usize
     0
 }
 
-// Past a point whose numbers' first 4 bytes show them to be in range.
+// Past a point whose numbers' first 4 bytes show them to be in range: 180.0 starts with 0x40668000, 90.0 with 0x40568000.
 fn past_point(s: &[u8], at: usize) -> usize
     requires { ⌜ Low at ⌝ }
     ensures { λ r. ⌜ Past (now (s .entry)) at (ruled pointFine Point (number 16 0) .read (now (s .entry)) at) r ⌝ }
@@ -124,7 +126,7 @@ fn past_value(s: &[u8], at: usize, t: u8) -> usize
 
 // Where a row's last cell ends, in a room or past it.
 fn past_cells(s: &[u8], from: usize, types: &[u8]) -> usize
-    requires { ⌜ (from ≤ length (now s)) × (length (now types) ≤ 64) ⌝ }
+    requires { ⌜ (from ≤ length (now s)) × (length (now types) ≤ mostColumns) ⌝ }
     ensures { λ r. ⌜ Within (now (s .entry)) (each third 0 (map (value 50 51) (now (types .entry))) .read (now (s .entry)) from) r ⌝ }
 {
     let mut at = from;
@@ -142,7 +144,7 @@ fn past_cells(s: &[u8], from: usize, types: &[u8]) -> usize
 
 // Past a row that is surely fine.
 fn past_row(s: &[u8], at: usize, types: &[u8]) -> usize
-    requires { ⌜ length (now types) ≤ 64 ⌝ }
+    requires { ⌜ length (now types) ≤ mostColumns ⌝ }
     ensures { λ r. ⌜ Surely (row (now (types .entry)) .read (now (s .entry)) at) r ⌝ }
 {
     if s.len() < at {
@@ -172,7 +174,7 @@ struct Run {
 
 // Past as many of n rows as are surely fine.
 fn past_rows(s: &[u8], from: usize, types: &[u8], n: usize) -> Run
-    requires { ⌜ length (now types) ≤ 64 ⌝ }
+    requires { ⌜ length (now types) ≤ mostColumns ⌝ }
     ensures { λ r. ⌜ RunOf (row (now (types .entry))) (now (s .entry)) from n r ⌝ }
 {
     let mut at = from;
@@ -190,7 +192,7 @@ fn past_rows(s: &[u8], from: usize, types: &[u8], n: usize) -> Run
 
 // Past n rows of any columns: scan looks at a row that isn't surely fine.
 fn skip_ruled(s: &[u8], from: usize, types: &[u8], n: usize) -> Next
-    requires { ⌜ length (now types) ≤ 64 ⌝ }
+    requires { ⌜ length (now types) ≤ mostColumns ⌝ }
     ensures { λ r. ⌜ r ≡ shownNext (each second 0 (replicate n (row (now (types .entry)))) .read (now (s .entry)) from) ⌝ }
 {
     let mut at = from;
@@ -227,8 +229,8 @@ fn plain_of(t: u8) -> usize
 
 // How many bytes the cells of a row have if every column's type has one size and no rule; else 0.
 fn plain_row(types: &[u8]) -> usize
-    requires { ⌜ length (now types) ≤ 64 ⌝ }
-    ensures { λ r. ⌜ PlainRow (now (types .entry)) r × (r ≤ 512) ⌝ }
+    requires { ⌜ length (now types) ≤ mostColumns ⌝ }
+    ensures { λ r. ⌜ PlainRow (now (types .entry)) r × (r ≤ mostPlain) ⌝ }
 {
     let mut sum = 0;
     let mut i = 0;
@@ -245,7 +247,7 @@ fn plain_row(types: &[u8]) -> usize
 
 // Whether a row of so many bytes stands at a place.
 fn is_plain(s: &[u8], at: usize, plain: usize) -> bool
-    requires { ⌜ plain ≤ 512 ⌝ }
+    requires { ⌜ plain ≤ mostPlain ⌝ }
     ensures { λ r. ⌜ RowOf (now (s .entry)) at plain r ⌝ }
 {
     if s.len() < at {
@@ -259,7 +261,7 @@ fn is_plain(s: &[u8], at: usize, plain: usize) -> bool
 
 // Past n rows whose columns have no rule.
 fn skip_plain(s: &[u8], from: usize, types: &[u8], n: usize, plain: usize) -> Next
-    requires { ⌜ PlainRow (now types) plain × (0 < plain) × (plain ≤ 512) ⌝ }
+    requires { ⌜ PlainRow (now types) plain × (0 < plain) × (plain ≤ mostPlain) ⌝ }
     ensures { λ r. ⌜ r ≡ shownNext (each second 0 (replicate n (row (now (types .entry)))) .read (now (s .entry)) from) ⌝ }
 {
     let mut at = from;

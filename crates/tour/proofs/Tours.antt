@@ -21,8 +21,7 @@ use Rattle.format.proofs.Laws.{Lawful}
 use Rattle.format.specs.declared.Refusal.{Refusal}
 use Rattle.scan.specs.declared.Number.{Number}
 use Rattle.scan.specs.declared.Byte.{Byte}
-use Rattle.scan.specs.declared.Next.{Next}
-use Rattle.scan.specs.Shown.{shownNumber, shownNext, shownByte}
+use Rattle.scan.specs.Shown.{shownNumber, shownByte}
 use Rattle.scan.proofs.Answers.{took}
 use Rattle.tour.specs.declared.Tour.{Tour}
 use Rattle.tour.specs.declared.Indices.{Indices}
@@ -189,14 +188,6 @@ number-none r {a} {x} e told i = let z : _≡_ {A = ℕ} 0 1 = ap kind (sym told
     kind : Number → ℕ
     kind (Number.Is n next) = 1
     kind (Number.No y) = 0
-
-module _ {A : Type 0} where
-  pub next-none : (r : Res (A × ℕ)) {a : Next} {x : Refusal} → a ≡ shownNext r → a ≡ Next.No x → {v : A} {next : ℕ} → r ≡ ok (v, next) → ⊥
-  next-none r {a} {x} e told i = let z : _≡_ {A = ℕ} 0 1 = ap kind (sym told ∙ e ∙ ap shownNext i) in omega arith
-    where
-      kind : Next → ℕ
-      kind (Next.At next) = 1
-      kind (Next.No y) = 0
 
 -- a slice's bytes
 pub bytes-all : (s : List ℕ) → ((k : ℕ) → Fits w8 (getD s k 0)) → Bytes s

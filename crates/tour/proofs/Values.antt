@@ -1,28 +1,25 @@
 -- The walks over values, arrays and parameters, each made from the walks over its parts.
-use Prim.Native.Nat.{ℕ, _+_, _-_, _/_, _^_, _<_}
-use mathlib.Core.Path.{_≡_, refl, sym, _∙_, ap}
+use Prim.Native.Nat.{ℕ, _/_, _^_, _<_}
+use mathlib.Core.Path.{_≡_, refl, _∙_, ap}
 use mathlib.Core.Bool.{Bool, true, false, _||_}
 use mathlib.Core.List.{List}
 use mathlib.Core.Logic.{_⊎_, inl, inr, ⊎-elim}
 use lib.ListN.{length, replicate, length-replicate}
 use lib.Dec.{leb, ltb, eqb, lit<}
-use native.Mathlib.Omega.{arith}
 use borrow.Author.Tests.{ne-eqb}
 use Rattle.format.specs.declared.Fault.{Fault}
-use Rattle.format.specs.declared.Fault.the-variants.{Limit, Negative, WireType}
+use Rattle.format.specs.declared.Fault.the-variants.{Limit, Negative, WireType, Decimal, Point}
 use Rattle.format.specs.Result.{ok, pick}
 use Rattle.format.specs.Number.{Bytes, half}
-use Rattle.format.specs.Format.{Format, Index, Verdict, number, ruled, into, both, each}
-use Rattle.format.specs.Value.{Value, body, body-of, value, string, anything, notEmpty, isCounted, isColumn, widthOf, fixedFine, mostBytes, tNull, tArray}
+use Rattle.format.specs.Format.{Format, Index, Verdict, number, ruled, both, each}
+use Rattle.format.specs.Value.{fixed, body, number-of, body-of, value, string, anything, notEmpty, isCounted, isColumn, widthOf, fixedFine, mostBytes, tNull, tArray}
 use Rattle.format.specs.Message.{count, list, items, bytes, bytes-of, values, values-of, text, mostItems, second, columnType, argument, null, one, one-of, array, array-of, param}
-use Rattle.format.proofs.Results.{ok-same, passed, bound}
+use Rattle.format.proofs.Results.{passed, bound}
 use Rattle.format.proofs.Laws.{Lawful, lawful-number, lawful-ruled, lawful-both, lawful-each, all-replicate, length-each}
 use Rattle.format.proofs.Lengths.{lawful-counted}
 use Rattle.format.proofs.Formats.{lawful-value, lawful-list, lawful-items, lawful-argument}
-use Rattle.scan.proofs.Values.{value-fields}
 use Rattle.tour.specs.declared.Tour.{Tour}
-use Rattle.tour.specs.declared.Indices.{Indices}
-use Rattle.tour.specs.Tour.{stateOf, indexOf, visited, Listed, Walked}
+use Rattle.tour.specs.Tour.{Walked}
 use Rattle.tour.proofs.Tours.{walked-ruled, walked-into, walked-both, walked-nothing}
 
 pub lawful-string : (nullable : Bool) (rule : List ℕ → Verdict) (l b : ℕ) → Lawful (string nullable rule l b)
@@ -59,30 +56,12 @@ module _ (s : List ℕ) (by : Bytes s) {tour : Tour} {out : List ℕ} {after : T
         let rule = pick (eqb t 27) notEmpty anything in
         rw is (walked-into s body body-of by (lawful-string true rule l b) (λ a g. refl) (w true rule))
 
-  pub walked-plain : (l b t : ℕ) {ix : Indices} {end : ℕ} → isCounted t ≡ false → ((v : Value) (next : ℕ) → value 0 0 t .read s (tour .at) ≡ ok (v, next) → end ≡ next)
-      → Listed b ix tour out end after written → Walked (value l b t) s (indexOf ix) tour out after written
-  unfolding value into ruled number
-  walked-plain l b t {ix} {end} is told w = record {
-    goes = λ v next e.
-        let there : end ≡ next = told v next (sym (value-fields s (tour .at) l b t) ∙ e) in
-        let size : end - tour .at ≡ widthOf t = ends v next e there in
-        (w .place ∙ there, fields v (rw (← size) (w .state)));
-  }
-    where
-      ends : (v : Value) (next : ℕ) → value l b t .read s (tour .at) ≡ ok (v, next) → end ≡ next → end - tour .at ≡ widthOf t
-      ends v next e there =
-          let r = bound _ (rw is at e) in
-          let q = bound _ (r .1) in
-          let h = passed (leb (tour .at + widthOf t) (length s)) _ _ (q .1) in
-          let k = passed (fixedFine t (q .0 .0)) _ _ (q .2) in
-          let a = ap (λ (p : ℕ × ℕ). p .1) (ok-same (h .1)) in
-          let b = ap (λ (p : ℕ × ℕ). p .1) (ok-same (k .1)) in
-          let c = ap (λ (p : Value × ℕ). p .1) (ok-same (r .2)) in
-          omega arith
-
-      fields : (v : Value) → stateOf after written ≡ visited (stateOf tour out) (number (widthOf t) b .fields (indexOf ix) (tour .at) 0)
-          → stateOf after written ≡ visited (stateOf tour out) (value l b t .fields (indexOf ix) (tour .at) v)
-      fields v h = rw is h
+    -- a value of one size, whose rule changes nothing of its field
+    pub walked-plain : (l b t : ℕ) → isCounted t ≡ false → Walked (number (widthOf t) b) s ix tour out after written → Walked (value l b t) s ix tour out after written
+    unfolding value
+    walked-plain l b t is w =
+        let fault = pick (eqb t 22) Decimal Point in
+        rw is (walked-into s fixed number-of by (lawful-ruled (fixedFine t) fault (lawful-number (widthOf t) b)) (λ a g. refl) (walked-ruled s (fixedFine t) fault w))
 
 module _ {A : Type 0} where
   list-back : (c : Format ℕ) (at-index : ℕ → Index → Index) (f : Format A) (v : ℕ × List A)

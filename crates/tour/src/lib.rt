@@ -2,7 +2,6 @@
 use format::Fault;
 use format::Refusal;
 use scan::Byte;
-use scan::Next;
 use scan::Number;
 ghost use mathlib.Core.Path.{_≡_};
 ghost use mathlib.Core.Bool.{Bool, false};
@@ -13,7 +12,7 @@ ghost use lib.ListN.{length, replicate};
 ghost use lib.Seq.{sets};
 ghost use Rattle.format.specs.Format.{number, each, present, Verdict};
 ghost use Rattle.format.specs.Result.{ok};
-ghost use Rattle.format.specs.Value.{string, anything, ascii, value, Value};
+ghost use Rattle.format.specs.Value.{string, anything, ascii, value};
 ghost use Rattle.format.specs.Message.{first, second, third, items, argument, param, invocation, loginRequest, server, loginResponse, columnType, Metadata, metadata, row, table, flagged, response, contentOf};
 ghost use Rattle.tour.specs.Parts.{login, statuses, results};
 ghost use Rattle.tour.specs.Tour.{stateOf, indexOf, wanted, six, begun, fieldsOf, tourOf, outOf, Listed, Walked, Whole};
@@ -188,17 +187,6 @@ fn walk_body(s: &[u8], out: &mut [u64], tour: Tour, prefix: u64, body: u64, ix: 
     walk_fixed(s, out, start, n as usize, body, ix)
 }
 
-// Where a value of a wire type ends that stands at a place.
-fn value_end(s: &[u8], at: usize, t: u8) -> usize
-    ensures { λ r. ⌜ ((v : Value) (next : ℕ) → value 0 0 t .read (now (s .entry)) at ≡ ok (v, next) → r ≡ next) ⌝ }
-{
-    let read = scan::skip_value(s, at, t);
-    match read {
-        Next::At(next) => next,
-        Next::No(_) => at,
-    }
-}
-
 // A value of a wire type.
 fn walk_value(
     s: &[u8],
@@ -220,10 +208,7 @@ fn walk_value(
             body,
             ix,
         ),
-        _ => {
-            let end = value_end(s, tour.at, t);
-            visit(out, tour, end, body, ix)
-        }
+        _ => walk_fixed(s, out, tour, scan::width_of(t), body, ix),
     }
 }
 

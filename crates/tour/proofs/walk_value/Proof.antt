@@ -8,11 +8,11 @@ use Rattle.tour.proofs.walk_value.Tie as tie
 walk-body-requires : tie.Need-walk-body-requires
 walk-body-requires c κs = search needs
 
-value-end-requires : tie.Need-value-end-requires
-value-end-requires c κs = search needs
+width-of-requires : tie.Need-width-of-requires
+width-of-requires c κs = search needs
 
-visit-requires : tie.Need-visit-requires
-visit-requires c κs = search needs
+walk-fixed-requires : tie.Need-walk-fixed-requires
+walk-fixed-requires c κs = search needs
 
 same-length : tie.Need-same-length
 same-length c = search needs
@@ -27,15 +27,15 @@ returns-2 : tie.Need-returns-2
 returns-2 c =
     let a = c .before .before .before .before .before .before .before .before .args in
     let n = c .before .before .before .before .before .match .rest in
-    walked-plain (a .s .now) (bytes-all (a .s .now) (c .before .before .before .before .before .before .before .shared-slice-known .given)) (a .prefix) (a .body) (a .t) (fixed-type _ (n .1)) (c .before .before .before .before .value-end .ensures) (c .before .before .visit .ensures)
+    walked-plain (a .s .now) (bytes-all (a .s .now) (c .before .before .before .before .before .before .before .shared-slice-known .given)) (a .prefix) (a .body) (a .t) (fixed-type _ (n .1)) (rw (c .before .before .before .width-of .ensures) at (c .before .before .walk-fixed .ensures))
 
 pub walk-value-spec : {M : Type 1} → statement M
 walk-value-spec =
     tie.close
     (tie.spec
     walk-body-requires
-    value-end-requires
-    visit-requires
+    width-of-requires
+    walk-fixed-requires
     same-length
     returns
     same-length-2
