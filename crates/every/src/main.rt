@@ -1,0 +1,677 @@
+// One message of each kind, with every wire type, is written step by step, read back, compared and listed.
+// What must be printed is made by the second encoder and the second reader alone: tests/second/every.py.
+use columns::Column;
+use columns::Gathered;
+use libc::STDOUT_FILENO;
+use message::Verdict;
+use query::Argued;
+use query::CellAnswer;
+use query::Part;
+use reply::Head;
+use show::Cell;
+use values::Fixed;
+use write::Answer;
+use write::Step;
+ghost use Prim.Native.Nat.{_<_};
+
+// A byte of kind, and more room than any of the messages needs.
+const ROOM: usize = 1024;
+
+// The table has a column of each type. The call has a parameter of each, with the same values, behind one that is null.
+const COLUMNS: usize = 11;
+
+const NAMES: [u8; 88] =
+    *b"TINYINT SMALLINT INTEGER BIGINT FLOAT STRING TIMESTAMP DECIMAL VARBINARY POINT GEOGRAPHY";
+
+// The columns whose values have no fixed size, and that of the decimals.
+const STRING_COLUMN: usize = 5;
+
+const VARBINARY_COLUMN: usize = 8;
+
+const GEOGRAPHY_COLUMN: usize = 10;
+
+const DECIMAL_COLUMN: usize = 7;
+
+// The parameters behind those.
+const NULL_STRING: usize = 12;
+
+const BYTE_ARRAY: usize = 13;
+
+const STRINGS: usize = 14;
+
+const DECIMALS: usize = 15;
+
+// The string, the varbinary and the geography.
+const TEXT: [u8; 5] = *b"Bodil";
+
+const BYTES: [u8; 4] = *b"\x00\xff\x80\x01";
+
+const SHAPE: [u8; 3] = *b"\xc0\x01\x7f";
+
+fn main() {
+    if login_request() && login_response() && invocation() {
+        response();
+    }
+}
+
+// ---- The messages. Each answers whether it was written and read back as it was written.
+
+fn login_request() -> bool {
+    let mut buffer = [0u8; ROOM];
+    buffer[0] = 1;
+    let answer = login::login_request(
+        &mut buffer[1..],
+        1,
+        1,
+        b"database",
+        b"harbour",
+        b"a hash of 32 bytes, as SHA-256's",
+    );
+    report(b"login request accepted\n", frame_in(&buffer, answer), true)
+}
+
+fn login_response() -> bool {
+    let mut buffer = [0u8; ROOM];
+    buffer[0] = 2;
+    let answer = login::login_response(
+        &mut buffer[1..],
+        1,
+        0,
+        0xffff_fffe,
+        12,
+        1_760_000_000_000,
+        0x0a00_0001,
+        b"6.0 harbour",
+    );
+    report(
+        b"login response accepted\n",
+        frame_in(&buffer, answer),
+        true,
+    )
+}
+
+fn invocation() -> bool {
+    let mut buffer = [0u8; ROOM];
+    buffer[0] = 3;
+    let step = write_call(&mut buffer[1..]);
+    let answer = step.answer;
+    let frame = frame_in(&buffer, answer);
+    report(
+        b"invocation accepted, parameters as written\n",
+        frame,
+        parameters_are(message_in(frame)),
+    )
+}
+
+// Writes a draft with the first row alone, and the response with that row copied from it.
+fn response() -> bool {
+    let mut draft = [0u8; ROOM];
+    let step = write_draft(&mut draft[1..]);
+    let answer = step.answer;
+    let frame = frame_in(&draft, answer);
+    frame.len() != 0 && response_from(message_in(frame))
+}
+
+fn response_from(draft: &[u8]) -> bool {
+    let mut buffer = [0u8; ROOM];
+    buffer[0] = 4;
+    let step = write_reply(&mut buffer[1..], draft);
+    let answer = step.answer;
+    let frame = frame_in(&buffer, answer);
+    report(
+        b"response accepted, cells as written\n",
+        frame,
+        cells_are(message_in(frame)),
+    )
+}
+
+// ---- What is printed.
+
+// The byte of kind and the message behind it, by the answer of its last step. After a refusal that is printed, and this is empty.
+fn frame_in(buffer: &[u8; ROOM], answer: Answer) -> &[u8] {
+    let whole: &[u8] = buffer;
+    match answer {
+        Answer::Reached(n) => {
+            if whole.len() <= n {
+                return &whole[0..0];
+            }
+            return &whole[0..n + 1];
+        }
+        Answer::No(refusal) => {
+            listing::print_refusal(refusal);
+            return &whole[0..0];
+        }
+    }
+}
+
+// The message behind the byte of kind.
+fn message_in(frame: &[u8]) -> &[u8] {
+    if frame.len() == 0 {
+        return &frame[0..0];
+    }
+    &frame[1..]
+}
+
+// Prints the verdict on a message that was read back: the one given, where it is accepted and its values are those that were written, and then
+// its bytes and its field list. Answers whether it is so.
+fn report(fine: &[u8], frame: &[u8], equal: bool) -> bool {
+    if frame.len() == 0 {
+        return false;
+    }
+    let verdict = message::accept(frame[0], &frame[1..]);
+    if let Verdict::No(refusal) = verdict {
+        listing::print_refusal(refusal);
+        return false;
+    }
+    if !equal {
+        io::write_all(STDOUT_FILENO, b"not as written\n");
+        return false;
+    }
+    io::write_all(STDOUT_FILENO, fine);
+    print_bytes(&frame[1..]);
+    listing::print(frame);
+    true
+}
+
+// Prints bytes as a line of hexadecimal digits.
+fn print_bytes(bytes: &[u8]) {
+    let mut i = 0;
+    while i < bytes.len() {
+        io::print_hex(STDOUT_FILENO, wide(bytes[i]), 2);
+        i += 1;
+    }
+    io::write_all(STDOUT_FILENO, b"\n");
+}
+
+fn wide(x: u8) -> u64 {
+    x as u64
+}
+
+// ---- Steps.
+
+// The second of two steps, or the first where that was refused.
+fn after(first: Step, second: Step) -> Step {
+    let answer = first.answer;
+    if let Answer::No(_) = answer {
+        return first;
+    }
+    second
+}
+
+// A call with a parameter of each type, and arrays.
+fn write_call(out: &mut [u8]) -> Step {
+    let begun = call::begin_call(out, 0, b"Every", b"client 3");
+    let filled = put_parameters(out, begun);
+    after(filled, call::finish_call(out, filled.state))
+}
+
+fn put_parameters(out: &mut [u8], step: Step) -> Step {
+    let each = put_each(out, step);
+    put_arrays(out, each)
+}
+
+// A null, a parameter of each type, and a null string.
+fn put_each(out: &mut [u8], before: Step) -> Step {
+    let mut step = after(before, call::null_param(out, before.state));
+    let mut c = 0;
+    while c < COLUMNS {
+        step = put_param(out, step, c);
+        c += 1;
+    }
+    after(
+        step,
+        call::body_param(out, step.state, format::STRING, true, b""),
+    )
+}
+
+// A parameter of a column's type, with its value.
+fn put_param(out: &mut [u8], step: Step, c: usize) -> Step {
+    let st = step.state;
+    match c {
+        STRING_COLUMN => after(
+            step,
+            call::body_param(out, st, format::STRING, false, &TEXT),
+        ),
+        VARBINARY_COLUMN => after(
+            step,
+            call::body_param(out, st, format::VARBINARY, false, &BYTES),
+        ),
+        GEOGRAPHY_COLUMN => after(
+            step,
+            call::body_param(out, st, format::GEOGRAPHY, false, &SHAPE),
+        ),
+        _ => {
+            let v = value(c);
+            after(
+                step,
+                call::fixed_param(out, st, v.wire_type, v.upper, v.lower),
+            )
+        }
+    }
+}
+
+// An array of bytes, one of strings and one of decimals.
+fn put_arrays(out: &mut [u8], step: Step) -> Step {
+    let bytes = after(step, call::bytes_param(out, step.state, &BYTES));
+    let strings = put_strings(out, bytes);
+    put_decimals(out, strings)
+}
+
+fn put_strings(out: &mut [u8], step: Step) -> Step {
+    let opened = after(step, call::open_array(out, step.state, format::STRING));
+    let filled = fill_strings(out, opened);
+    after(filled, call::close_array(out, filled.state))
+}
+
+// A string, a null one and an empty one.
+fn fill_strings(out: &mut [u8], step: Step) -> Step {
+    let first = put_string(out, step, false, &TEXT);
+    let second = put_string(out, first, true, b"");
+    put_string(out, second, false, b"")
+}
+
+fn put_string(out: &mut [u8], step: Step, null: bool, s: &[u8]) -> Step {
+    after(
+        step,
+        call::body_element(out, step.state, format::STRING, null, s),
+    )
+}
+
+fn put_decimals(out: &mut [u8], step: Step) -> Step {
+    let opened = after(step, call::open_array(out, step.state, format::DECIMAL));
+    let filled = fill_decimals(out, opened);
+    after(filled, call::close_array(out, filled.state))
+}
+
+// The largest decimal by its bits, and -1 as the reader shows it.
+fn fill_decimals(out: &mut [u8], step: Step) -> Step {
+    let most = value(DECIMAL_COLUMN);
+    let first = after(
+        step,
+        call::fixed_element(out, step.state, format::DECIMAL, most.upper, most.lower),
+    );
+    after(
+        first,
+        values::value_element(out, first.state, Cell::Decimal(-1, u64::MAX)),
+    )
+}
+
+// A response with one table, which has the first row alone.
+fn write_draft(out: &mut [u8]) -> Step {
+    let opened = open_table(out);
+    let filled = put_row(out, opened, false);
+    finish_reply(out, filled)
+}
+
+// A response with that table, which has two rows more, and a table with no columns.
+fn write_reply(out: &mut [u8], draft: &[u8]) -> Step {
+    let opened = open_table(out);
+    let filled = put_rows(out, opened, draft);
+    let empty = put_empty(out, filled);
+    finish_reply(out, empty)
+}
+
+// A row of values, its copy from the draft, and a row of nulls.
+fn put_rows(out: &mut [u8], step: Step, draft: &[u8]) -> Step {
+    let first = put_row(out, step, false);
+    let second = copy_row(out, first, draft);
+    put_row(out, second, true)
+}
+
+// Closes the table, and opens one with no columns.
+fn put_empty(out: &mut [u8], step: Step) -> Step {
+    let closed = after(step, rows::close_table(out, step.state));
+    after(
+        closed,
+        columns::open_gathered(out, closed.state, 0, no_columns(), b""),
+    )
+}
+
+// Closes the open table and finishes the response.
+fn finish_reply(out: &mut [u8], step: Step) -> Step {
+    let closed = after(step, rows::close_table(out, step.state));
+    after(closed, reply::finish_reply(out, closed.state))
+}
+
+// Begins the response, with all its strings, and opens the table.
+fn open_table(out: &mut [u8]) -> Step {
+    let head = Head {
+        version: 1,
+        flags: 32 + 64 + 128,
+        status: 253,
+        status_null: false,
+        app_status: 128,
+        app_null: false,
+        round_trip: 7,
+    };
+    let begun = reply::begin_reply(out, head, b"client 4", b"sunk", b"mutiny", b"\xde\xad");
+    after(
+        begun,
+        columns::open_gathered(out, begun.state, 255, all_columns(), &NAMES),
+    )
+}
+
+// A row of the columns' values, or of nulls where there are any.
+fn put_row(out: &mut [u8], before: Step, null: bool) -> Step {
+    let mut step = after(before, rows::open_row(out, before.state));
+    let mut c = 0;
+    while c < COLUMNS {
+        step = put_cell(out, step, null, c);
+        c += 1;
+    }
+    after(step, rows::close_row(out, step.state))
+}
+
+// A cell of a column's type, with its value or null.
+fn put_cell(out: &mut [u8], step: Step, null: bool, c: usize) -> Step {
+    let st = step.state;
+    match c {
+        STRING_COLUMN => after(step, rows::body_cell(out, st, format::STRING, null, &TEXT)),
+        VARBINARY_COLUMN => after(
+            step,
+            rows::body_cell(out, st, format::VARBINARY, null, &BYTES),
+        ),
+        GEOGRAPHY_COLUMN => after(
+            step,
+            rows::body_cell(out, st, format::GEOGRAPHY, null, &SHAPE),
+        ),
+        _ => {
+            let v = value_or_null(null, c);
+            after(
+                step,
+                rows::fixed_cell(out, st, v.wire_type, v.upper, v.lower),
+            )
+        }
+    }
+}
+
+// Writes a row of the cells that the reader shows of the draft's.
+fn copy_row(out: &mut [u8], before: Step, draft: &[u8]) -> Step {
+    let mut step = after(before, rows::open_row(out, before.state));
+    let mut c = 0;
+    while c < COLUMNS {
+        step = copy_cell(out, step, draft, c);
+        c += 1;
+    }
+    after(step, rows::close_row(out, step.state))
+}
+
+// A cell that can't be read is left out, and then the row can't be closed.
+fn copy_cell(out: &mut [u8], step: Step, draft: &[u8], c: usize) -> Step {
+    let st = step.state;
+    let answer = query::cell(draft, 0, 0, c);
+    let CellAnswer::Is(cell) = answer else {
+        return step;
+    };
+    let part = query::cell_part(draft, 0, 0, c);
+    match cell {
+        Cell::Text(_, _) => after(step, rows::body_cell(out, st, format::STRING, false, part)),
+        Cell::Binary(_, _) => after(
+            step,
+            rows::body_cell(out, st, format::VARBINARY, false, part),
+        ),
+        Cell::Geography(_, _) => {
+            after(
+                step,
+                rows::body_cell(out, st, format::GEOGRAPHY, false, part),
+            )
+        }
+        _ => after(step, values::value_cell(out, st, cell)),
+    }
+}
+
+// ---- What is written.
+
+// A program that lends a list of columns, as `held::open_table` takes it, isn't covered by the proofs that Rattle makes: so the columns
+// are gathered here, and given by value.
+fn all_columns() -> Gathered {
+    let mut all = no_columns();
+    let mut c = 0;
+    while c < COLUMNS {
+        all.cols[c] = column(c);
+        c += 1;
+    }
+    all.n = COLUMNS;
+    all
+}
+
+fn no_columns() -> Gathered {
+    Gathered {
+        n: 0,
+        cols: [Column {
+            wire_type: 0,
+            start: 0,
+            size: 0,
+        }; 64],
+    }
+}
+
+// The type of a column, and where its name stands.
+fn column(c: usize) -> Column {
+    match c {
+        0 => entry(format::TINYINT, 0, 7),
+        1 => entry(format::SMALLINT, 8, 8),
+        2 => entry(format::INTEGER, 17, 7),
+        3 => entry(format::BIGINT, 25, 6),
+        4 => entry(format::FLOAT, 32, 5),
+        5 => entry(format::STRING, 38, 6),
+        6 => entry(format::TIMESTAMP, 45, 9),
+        7 => entry(format::DECIMAL, 55, 7),
+        8 => entry(format::VARBINARY, 63, 9),
+        9 => entry(format::POINT, 73, 5),
+        _ => entry(format::GEOGRAPHY, 79, 9),
+    }
+}
+
+fn entry(wire_type: u8, start: usize, size: usize) -> Column {
+    Column {
+        wire_type,
+        start,
+        size,
+    }
+}
+
+// A column's value of a fixed size: -5, -300, -70,000, -5,000,000,000, -0.5, a time, 10^38 - 1 and 12.5 east, 55.75 south.
+fn value(c: usize) -> Fixed {
+    match c {
+        0 => fixed(format::TINYINT, 0, 0xfb),
+        1 => fixed(format::SMALLINT, 0, 0xfed4),
+        2 => fixed(format::INTEGER, 0, 0xfffe_ee90),
+        3 => fixed(format::BIGINT, 0, 0xffff_fffe_d5fa_0e00),
+        4 => fixed(format::FLOAT, 0, 0xbfe0_0000_0000_0000),
+        6 => fixed(format::TIMESTAMP, 0, 1_760_000_000_000_000),
+        7 => fixed(
+            format::DECIMAL,
+            0x4b3b_4ca8_5a86_c47a,
+            0x098a_223f_ffff_ffff,
+        ),
+        _ => fixed(format::POINT, 0x4029_0000_0000_0000, 0xc04b_e000_0000_0000),
+    }
+}
+
+// The same, or what stands in the row of nulls: a null decimal, a NaN whose bits are kept, and zeros.
+fn value_or_null(null: bool, c: usize) -> Fixed {
+    if !null {
+        return value(c);
+    }
+    match c {
+        4 => fixed(format::FLOAT, 0, 0xfff0_0000_0000_0001),
+        7 => fixed(format::DECIMAL, 0x8000_0000_0000_0000, 0),
+        _ => {
+            let entry = column(c);
+            fixed(entry.wire_type, 0, 0)
+        }
+    }
+}
+
+fn fixed(wire_type: u8, upper: u64, lower: u64) -> Fixed {
+    Fixed {
+        wire_type,
+        upper,
+        lower,
+    }
+}
+
+// ---- What is read back.
+
+// Whether the parameters are those of `write_call`.
+fn parameters_are(m: &[u8]) -> bool {
+    is_null(query::parameter(m, 0))
+        && each_is(m)
+        && parameter_text(m, NULL_STRING, true, b"")
+        && arrays_are(m)
+}
+
+// Whether the parameters of each type are.
+fn each_is(m: &[u8]) -> bool {
+    let mut c = 0;
+    while c < COLUMNS {
+        if !parameter_is(m, c) {
+            return false;
+        }
+        c += 1;
+    }
+    true
+}
+
+// Parameter 0 is null, so that of a column stands one behind.
+fn parameter_is(m: &[u8], c: usize) -> bool
+    requires { ⌜ c < 11 ⌝ }
+{
+    match c {
+        STRING_COLUMN => parameter_text(m, c + 1, false, &TEXT),
+        VARBINARY_COLUMN => parameter_text(m, c + 1, false, &BYTES),
+        GEOGRAPHY_COLUMN => parameter_text(m, c + 1, false, &SHAPE),
+        _ => argument_is(query::parameter(m, c + 1), value(c)),
+    }
+}
+
+fn argument_is(answer: Argued, v: Fixed) -> bool {
+    let Argued::One(cell) = answer else {
+        return false;
+    };
+    cell_is(cell, v)
+}
+
+fn is_null(answer: Argued) -> bool {
+    match answer {
+        Argued::Null => true,
+        _ => false,
+    }
+}
+
+// Whether the arrays are those of `put_arrays`.
+fn arrays_are(m: &[u8]) -> bool {
+    is_array(query::parameter(m, BYTE_ARRAY), format::TINYINT, 4)
+        && shows(
+            query::element(m, BYTE_ARRAY, 1),
+            fixed(format::TINYINT, 0, 255),
+        )
+        && is_array(query::parameter(m, STRINGS), format::STRING, 3)
+        && element_text(m, 0, false, &TEXT)
+        && element_text(m, 1, true, b"")
+        && element_text(m, 2, false, b"")
+        && is_array(query::parameter(m, DECIMALS), format::DECIMAL, 2)
+        && shows(query::element(m, DECIMALS, 0), value(DECIMAL_COLUMN))
+        && shows(
+            query::element(m, DECIMALS, 1),
+            fixed(format::DECIMAL, u64::MAX, u64::MAX),
+        )
+}
+
+fn is_array(answer: Argued, wire_type: u8, size: usize) -> bool {
+    let Argued::Array(t, n) = answer else {
+        return false;
+    };
+    t == wire_type && n == size
+}
+
+// Whether the table's cells are those of `write_reply`.
+fn cells_are(m: &[u8]) -> bool {
+    row_is(m, 0, false) && row_is(m, 1, false) && row_is(m, 2, true)
+}
+
+// Whether a row's cells are the columns' values, or nulls.
+fn row_is(m: &[u8], row: usize, null: bool) -> bool {
+    let mut c = 0;
+    while c < COLUMNS {
+        if !is_at(m, row, null, c) {
+            return false;
+        }
+        c += 1;
+    }
+    true
+}
+
+fn is_at(m: &[u8], row: usize, null: bool, c: usize) -> bool {
+    match c {
+        STRING_COLUMN => cell_text(m, row, c, null, &TEXT),
+        VARBINARY_COLUMN => cell_text(m, row, c, null, &BYTES),
+        GEOGRAPHY_COLUMN => cell_text(m, row, c, null, &SHAPE),
+        _ => shows(query::cell(m, 0, row, c), value_or_null(null, c)),
+    }
+}
+
+// Whether a fixed value is shown, in a cell or an element.
+fn shows(answer: CellAnswer, v: Fixed) -> bool {
+    let CellAnswer::Is(cell) = answer else {
+        return false;
+    };
+    cell_is(cell, v)
+}
+
+fn cell_is(cell: Cell, v: Fixed) -> bool {
+    let read = values::fixed_of(cell);
+    read.wire_type == v.wire_type && read.upper == v.upper && read.lower == v.lower
+}
+
+// Whether the bytes of a text or binary value are handed back, or that it is null: of a cell, a parameter, and an element of the strings.
+fn cell_text(m: &[u8], row: usize, c: usize, null: bool, s: &[u8]) -> bool {
+    part_is(
+        query::cell_span(m, 0, row, c),
+        query::cell_part(m, 0, row, c),
+        null,
+        s,
+    )
+}
+
+fn parameter_text(m: &[u8], p: usize, null: bool, s: &[u8]) -> bool {
+    part_is(
+        query::parameter_span(m, p),
+        query::parameter_part(m, p),
+        null,
+        s,
+    )
+}
+
+fn element_text(m: &[u8], e: usize, null: bool, s: &[u8]) -> bool {
+    part_is(
+        query::element_span(m, STRINGS, e),
+        query::element_part(m, STRINGS, e),
+        null,
+        s,
+    )
+}
+
+fn part_is(span: Part, part: &[u8], null: bool, s: &[u8]) -> bool {
+    match span {
+        Part::Is(_, _) => !null && same(part, s),
+        Part::Null => null,
+        Part::No(_) => false,
+    }
+}
+
+// Whether two parts have the same bytes.
+fn same(a: &[u8], b: &[u8]) -> bool {
+    if a.len() != b.len() {
+        return false;
+    }
+    let mut i = 0;
+    while i < a.len() {
+        if a[i] != b[i] {
+            return false;
+        }
+        i += 1;
+    }
+    true
+}
