@@ -17,7 +17,7 @@ ghost use Rattle.query.specs.Places.{tablesOf};
 ghost use Rattle.write.specs.Steps.{openTable, typesOf, beginCall, beginReply, cell, nullParam, oneParam, bytesParam, openArray, element, closeArray, finishCall, openRow, closeRow, closeTable, finishReply, loginRequest, loginResponse};
 ghost use Rattle.write.specs.Shown.{zero, padded};
 ghost use Rattle.columns.specs.Entries.{columnsOf as entriesWith};
-ghost use Rattle.numbers.specs.Listed.{entriesOf};
+ghost use Rattle.numbers.specs.Entries.{entriesOf};
 ghost use Rattle.exports.specs.Given.{opening};
 ghost use Rattle.login.specs.Told.{welcome};
 ghost use Rattle.numbers.specs.Stored.{stateOf, Wrote, WroteAll, WroteLogin};

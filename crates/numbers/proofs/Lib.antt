@@ -1,3 +1,3 @@
--- The proofs: what a step leaves, in numbers (Kept); columns in numbers, one by one (Listed).
+-- The proofs: what a step leaves, in numbers (Kept); columns in numbers, one by one (Entries).
 pub mod Kept
-pub mod Listed
+pub mod Entries

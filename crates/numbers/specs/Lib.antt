@@ -1,3 +1,3 @@
 pub mod Packed
 pub mod Stored
-pub mod Listed
+pub mod Entries

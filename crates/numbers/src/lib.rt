@@ -22,7 +22,7 @@ ghost use Rattle.numbers.specs.Packed.{above, packed, packedNo, itself, 
 ghost use Prim.Native.Nat.{_+_, _≤_};
 ghost use lib.ListN.{length};
 ghost use Rattle.columns.specs.Gathers.{empty, addAll};
-ghost use Rattle.numbers.specs.Listed.{entryAt, entriesOf};
+ghost use Rattle.numbers.specs.Entries.{entryAt, entriesOf};
 ghost use Rattle.numbers.specs.Stored.{stageOf, byteOf, stateOf, numbersOf, toldAnswer, kept, keptTypes};
 
 // A place or a number found, above the low 8 bits.

@@ -6,7 +6,7 @@ use Rattle.write.specs.Shown.{padded}
 use Rattle.columns.specs.declared.Gathered.{Gathered}
 use Rattle.columns.specs.Entries.{columnsOf, entriesIn}
 use Rattle.columns.proofs.Lent.{Opening, opens-same}
-use Rattle.numbers.specs.Listed.{entriesOf}
+use Rattle.numbers.specs.Entries.{entriesOf}
 use Rattle.numbers.specs.Stored.{stateOf}
 use Rattle.numbers.proofs.Kept.{wrote-all}
 use borrow.Author.Needs.{needs}

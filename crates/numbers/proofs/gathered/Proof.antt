@@ -8,8 +8,8 @@ use borrow.Author.Needs.{needs}
 use Rattle.columns.specs.declared.Column.{Column}
 use Rattle.columns.specs.declared.Gathered.{Gathered}
 use Rattle.columns.specs.Gathers.{empty, added, addAll}
-use Rattle.numbers.specs.Listed.{entryAt, entriesOf}
-use Rattle.numbers.proofs.Listed.{one-more, no-more}
+use Rattle.numbers.specs.Entries.{entryAt, entriesOf}
+use Rattle.numbers.proofs.Entries.{one-more, no-more}
 use Rattle.numbers.proofs.gathered.Statement.{statement}
 use Rattle.numbers.proofs.gathered.Tie as tie
 

@@ -6,7 +6,7 @@ use mathlib.Core.List.{List, [], _∷_}
 use lib.ListN.{length, drop, getD}
 use lib.Seq.{drop-cons}
 use Rattle.columns.specs.declared.Column.{Column}
-use Rattle.numbers.specs.Listed.{entryAt, entriesOf}
+use Rattle.numbers.specs.Entries.{entryAt, entriesOf}
 
 -- the list from a place on starts with what stands there
 cons : (ns : List ℕ) (i j : ℕ) → i < length ns → suc i ≡ j → drop i ns ≡ getD ns i 0 ∷ drop j ns
