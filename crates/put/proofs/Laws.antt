@@ -119,6 +119,15 @@ wrote-more xs n k i rest ys p w =
 pub wrote-all : (xs : List ℕ) (n k i rest : ℕ) (ys : List ℕ) → i ≡ 0 → Wrote xs n k i rest ys → ys ≡ numBytes k n ++ drop k xs
 wrote-all xs n k i rest ys z w = let s : k - i ≡ k = omega arith in w .so-far ∙ rw (s, z)
 
+-- four bytes, stored one after the other, are a number's
+pub four-stored : (xs : List ℕ) (n : ℕ) → 4 ≤ length xs → set (set (set (set xs 0 (n / 16777216 % 256)) 1 (n / 65536 % 256)) 2 (n / 256 % 256)) 3 (n % 256) ≡ numBytes 4 n ++ drop 4 xs
+unfolding numBytes
+four-stored [] n h = absurd (omega arith)
+four-stored (a ∷ []) n h = absurd (omega arith)
+four-stored (a ∷ (b ∷ [])) n h = absurd (omega arith)
+four-stored (a ∷ (b ∷ (c ∷ []))) n h = absurd (omega arith)
+four-stored (a ∷ (b ∷ (c ∷ (d ∷ xs)))) n h = ap (λ (m : ℕ). n / 16777216 % 256 ∷ (n / 65536 % 256 ∷ (n / 256 % 256 ∷ (m % 256 ∷ xs)))) (sym (div-one n))
+
 -- a copy, from the first byte to the last
 pub copied-length : (xs s : List ℕ) (i : ℕ) → i ≤ length s → length s ≤ length xs → length (paste xs 0 s i) ≡ length xs
 copied-length xs s i h l = length-paste xs 0 s i (omega arith) h
@@ -178,7 +187,7 @@ numBytes-low (suc k) h n =
     let e : h * 256 ^ suc k ≡ h * 256 * 256 ^ k = rw (pow-succ', mul-assoc) in
     ap₂ _∷_ (rw (e, mul-add-div-right (one-le-pow k 256 (omega arith)), mul-add-mod-self-right)) (rw e (numBytes-low k (h * 256) n))
 
-numBytes-split : (j k n : ℕ) → numBytes (j + k) n ≡ numBytes j (n / 256 ^ k) ++ numBytes k n
+pub numBytes-split : (j k n : ℕ) → numBytes (j + k) n ≡ numBytes j (n / 256 ^ k) ++ numBytes k n
 unfolding numBytes
 numBytes-split zero k n = ap (λ (m : ℕ). numBytes m n) (zero-add k)
 numBytes-split (suc j) k n =

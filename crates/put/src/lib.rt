@@ -9,8 +9,28 @@ ghost use Rattle.put.specs.Put.{put, optional, sized};
 
 const NULL: u64 = 0xffff_ffff;
 
-// Writes the k bytes of a number.
-pub fn put_number(out: &mut [u8], n: u64, k: usize)
+// Writes the 4 lowest bytes of a number.
+fn put_four(out: &mut [u8], n: u64)
+    requires { ⌜ 4 ≤ length (now out) ⌝ }
+    ensures { λ _. ⌜ now (out .exit) ≡ numBytes 4 n ++ drop 4 (now (out .entry)) ⌝ }
+{
+    out[0] = (n / 16777216 % 256) as u8;
+    out[1] = (n / 65536 % 256) as u8;
+    out[2] = (n / 256 % 256) as u8;
+    out[3] = (n % 256) as u8;
+}
+
+// Writes the 8 bytes of a number: its upper four, then its lower four.
+fn put_eight(out: &mut [u8], n: u64)
+    requires { ⌜ 8 ≤ length (now out) ⌝ }
+    ensures { λ _. ⌜ now (out .exit) ≡ numBytes 8 n ++ drop 8 (now (out .entry)) ⌝ }
+{
+    put_four(out, n / 4294967296);
+    put_four(&mut out[4..], n);
+}
+
+// Writes the k lowest bytes of a number, from its last to its first.
+fn put_each(out: &mut [u8], n: u64, k: usize)
     requires { ⌜ k ≤ length (now out) ⌝ }
     ensures { λ _. ⌜ now (out .exit) ≡ numBytes k n ++ drop k (now (out .entry)) ⌝ }
 {
@@ -21,6 +41,22 @@ pub fn put_number(out: &mut [u8], n: u64, k: usize)
         out[i] = (rest % 256) as u8;
         rest = rest / 256;
     }
+}
+
+// Writes the k bytes of a number; those of 8 and 4 bytes without a loop.
+pub fn put_number(out: &mut [u8], n: u64, k: usize)
+    requires { ⌜ k ≤ length (now out) ⌝ }
+    ensures { λ _. ⌜ now (out .exit) ≡ numBytes k n ++ drop k (now (out .entry)) ⌝ }
+{
+    if k == 8 {
+        put_eight(out, n);
+        return;
+    }
+    if k == 4 {
+        put_four(out, n);
+        return;
+    }
+    put_each(out, n, k);
 }
 
 // Writes bytes as they are.

@@ -1,52 +1,45 @@
--- `put::put_number` meets its contract: after each turn one byte more of the number stands at its end. Assumes nothing.
-use Prim.Native.Nat.{ℕ}
-use native.Mathlib.Omega.{arith}
+-- `put::put_number` meets its contract: each of its ways writes the bytes. Assumes nothing.
 use borrow.Author.Needs.{needs}
-use Rattle.put.proofs.Laws.{Wrote, wrote-none, wrote-more, wrote-all, wrote-length}
 use Rattle.put.proofs.put_number.Statement.{statement}
 use Rattle.put.proofs.put_number.Tie as tie
 
-abbrev Inv-loop : tie.InvT-loop
-Inv-loop out₀ n k rest₀ i₀ out rest i = Wrote out₀ n k i rest out
+put-eight-requires : tie.Need-put-eight-requires
+put-eight-requires c κs = search needs
 
-abbrev μ-loop : tie.MeasureT-loop
-μ-loop out₀ n k rest₀ i₀ out rest i = i
+same-length : tie.Need-same-length
+same-length c = search needs
 
-loop-holds : tie.Need-loop-holds Inv-loop μ-loop
-loop-holds c = wrote-none _ _ _ (c .pre)
+returns : tie.Need-returns
+returns c = rw (c .before .before .before .before .if1 .taken) (c .before .before .put-eight .ensures)
 
-sub-i : tie.Need-sub-i Inv-loop μ-loop
-sub-i c = search needs
+put-four-requires : tie.Need-put-four-requires
+put-four-requires c κs = search needs
 
-cast-out : tie.Need-cast-out Inv-loop μ-loop
-cast-out c = search needs
+same-length-2 : tie.Need-same-length-2
+same-length-2 c = search needs
 
-slice-write-out : tie.Need-slice-write-out Inv-loop μ-loop
-slice-write-out c = let w = c .before .loop .inv in let e = wrote-length _ _ _ _ _ _ w in let h = w .inside in let r = w .room in omega arith
+returns-2 : tie.Need-returns-2
+returns-2 c = rw (c .before .before .before .before .if2 .taken) (c .before .before .put-four .ensures)
 
-loop-less : tie.Need-loop-less Inv-loop μ-loop
-loop-less c = search needs
+put-each-requires : tie.Need-put-each-requires
+put-each-requires c κs = search needs
 
-loop-again : tie.Need-loop-again Inv-loop μ-loop
-loop-again c = wrote-more _ _ _ (c .before .loop .i) _ _ (c .loop-test .taken) (c .before .loop .inv)
+same-length-3 : tie.Need-same-length-3
+same-length-3 c = search needs
 
-same-length : tie.Need-same-length Inv-loop μ-loop
-same-length c = wrote-length _ _ _ _ _ _ (c .before .loop .inv)
-
-returns : tie.Need-returns Inv-loop μ-loop
-returns c = wrote-all _ _ _ (c .before .loop .i) _ _ (omega arith) (c .before .loop .inv)
+returns-3 : tie.Need-returns-3
+returns-3 c = search needs
 
 pub put-number-spec : {M : Type 1} → statement M
 put-number-spec =
     tie.close
     (tie.spec
-    Inv-loop
-    μ-loop
-    loop-holds
-    sub-i
-    cast-out
-    slice-write-out
-    loop-less
-    loop-again
+    put-eight-requires
     same-length
-    returns)
+    returns
+    put-four-requires
+    same-length-2
+    returns-2
+    put-each-requires
+    same-length-3
+    returns-3)
