@@ -18,6 +18,9 @@ ghost use Rattle.write.specs.Steps.{openTable, typesOf, beginCall, beginReply, 
 ghost use Rattle.write.specs.Shown.{zero, padded};
 ghost use Rattle.columns.specs.Entries.{columnsOf as entriesWith};
 ghost use Rattle.numbers.specs.Entries.{entriesOf};
+ghost use Rattle.cards.specs.Answers.{askMade, askOpen, written};
+ghost use Rattle.query.specs.Answers.{askCell, askParameter, askElement};
+ghost use Rattle.numbers.specs.Listed.{lent, cellNumbers, givenNumbers};
 ghost use Rattle.exports.specs.Given.{opening};
 ghost use Rattle.login.specs.Told.{welcome};
 ghost use Rattle.numbers.specs.Stored.{stateOf, Wrote, WroteAll, WroteLogin};
@@ -97,6 +100,52 @@ pub extern "C" fn chaloenpik_find_column(m: &[u8], t: usize, name: &[u8]) -> u64
     ensures { λ r. ⌜ r ≡ packed itself (ofTable (now (m .entry)) t (λ at b. firstNamed (now (name .entry)) (b .metadata .names) 0)) ⌝ }
 {
     numbers::pack_position(query::find_column(m, t, name))
+}
+
+// Makes the shortcut card of the first column of a name in table t of a response, at the start of the buffer, and answers the column's position.
+#[no_mangle]
+pub extern "C" fn chaloenpik_make_card(m: &[u8], t: usize, name: &[u8], out: &mut [u8]) -> u64
+    ensures { λ r. ⌜ (r ≡ packed itself (bind (askMade (now (m .entry)) t (now (name .entry)) (length (now (out .entry)))) (λ c. ok (c .position)))) × (now (out .exit) ≡ written (askMade (now (m .entry)) t (now (name .entry)) (length (now (out .entry)))) (now (out .entry))) ⌝ }
+{
+    numbers::pack_position(cards::make_card(m, t, name, out))
+}
+
+// The position of the column of table t of a response that a card stands for.
+#[no_mangle]
+pub extern "C" fn chaloenpik_open_card(m: &[u8], t: usize, card: &[u8]) -> u64
+    ensures { λ r. ⌜ r ≡ packed itself (askOpen (now (m .entry)) t (now (card .entry))) ⌝ }
+{
+    numbers::pack_position(cards::open_card(m, t, card))
+}
+
+// The cell at a row and column c of table t of a response, as four numbers (numbers/specs/Listed.antt).
+#[no_mangle]
+pub extern "C" fn chaloenpik_cell(
+    m: &[u8],
+    t: usize,
+    row: usize,
+    c: usize,
+    list: &mut [u64; 4],
+) -> u64
+    ensures { λ r. ⌜ (r ≡ packed nothing (askCell (now (m .entry)) t row c)) × (now (list .exit) ≡ lent cellNumbers (askCell (now (m .entry)) t row c) (now (list .entry))) ⌝ }
+{
+    numbers::lend_cell(list, query::cell(m, t, row, c))
+}
+
+// Parameter p of an invocation, likewise.
+#[no_mangle]
+pub extern "C" fn chaloenpik_parameter(m: &[u8], p: usize, list: &mut [u64; 4]) -> u64
+    ensures { λ r. ⌜ (r ≡ packed nothing (askParameter (now (m .entry)) p)) × (now (list .exit) ≡ lent givenNumbers (askParameter (now (m .entry)) p) (now (list .entry))) ⌝ }
+{
+    numbers::lend_argument(list, query::parameter(m, p))
+}
+
+// Element e of the array that parameter p of an invocation is, likewise.
+#[no_mangle]
+pub extern "C" fn chaloenpik_element(m: &[u8], p: usize, e: usize, list: &mut [u64; 4]) -> u64
+    ensures { λ r. ⌜ (r ≡ packed nothing (askElement (now (m .entry)) p e)) × (now (list .exit) ≡ lent cellNumbers (askElement (now (m .entry)) p e) (now (list .entry))) ⌝ }
+{
+    numbers::lend_cell(list, query::element(m, p, e))
 }
 
 // ---- The writer: a step each, over a state in numbers, the types of the open table and a buffer.

@@ -1,3 +1,4 @@
--- The proofs: what a step leaves, in numbers (Kept); columns in numbers, one by one (Entries).
+-- The proofs: what a step leaves, in numbers (Kept); what is put into a lent list (Lent); columns in numbers, one by one (Entries).
 pub mod Kept
+pub mod Lent
 pub mod Entries

@@ -1,3 +1,4 @@
 pub mod Packed
 pub mod Stored
 pub mod Entries
+pub mod Listed

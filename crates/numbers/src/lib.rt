@@ -5,25 +5,30 @@ use fields::Counted;
 use fields::Owned;
 use fields::Written;
 use format::Refusal;
+use query::Argued;
+use query::CellAnswer;
 use query::ColumnAnswer;
 use query::Count;
 use query::Position;
 use query::TableAnswer;
+use show::Cell;
 use write::Answer;
 use write::Columns;
 use write::Stage;
 use write::State;
 use write::Step;
 ghost use mathlib.Core.Path.{_≡_};
+ghost use mathlib.Core.List.{[], _∷_};
 ghost use Rattle.fields.specs.Told.{toldCounted, toldOwned, toldWritten};
-ghost use Rattle.query.specs.Answers.{toldCount, toldTable, toldColumn, toldPosition};
+ghost use Rattle.query.specs.Answers.{toldCount, toldTable, toldColumn, toldPosition, toldCell, toldArgument};
 ghost use Rattle.write.specs.State.{stageNumber};
-ghost use Rattle.numbers.specs.Packed.{above, packed, packedNo, itself, numberIn, rowsOf, columnsOf, typeOf};
 ghost use Prim.Native.Nat.{_+_, _≤_};
 ghost use lib.ListN.{length};
 ghost use Rattle.columns.specs.Gathers.{empty, addAll};
 ghost use Rattle.numbers.specs.Entries.{entryAt, entriesOf};
+ghost use Rattle.numbers.specs.Packed.{above, packed, packedNo, nothing, itself, numberIn, rowsOf, columnsOf, typeOf};
 ghost use Rattle.numbers.specs.Stored.{stageOf, byteOf, stateOf, numbersOf, toldAnswer, kept, keptTypes};
+ghost use Rattle.numbers.specs.Listed.{lent, cellNumbers, givenNumbers};
 
 // A place or a number found, above the low 8 bits.
 pub fn above(value: usize) -> u64
@@ -255,4 +260,68 @@ pub fn gathered(list: &[u64]) -> Gathered
         i += 3;
     }
     a
+}
+
+// ---- Values and records in a lent list; a refusal leaves it as it was.
+
+fn four(t: u8, form: u64, a: u64, b: u64) -> [u64; 4]
+    ensures { λ r. ⌜ r ≡ t ∷ form ∷ a ∷ b ∷ [] ⌝ }
+{
+    [t as u64, form, a, b]
+}
+
+// The numbers of a shown value.
+fn list_cell(c: Cell) -> [u64; 4]
+    ensures { λ r. ⌜ r ≡ cellNumbers c ⌝ }
+{
+    match c {
+        Cell::Text(start, size) => four(format::STRING, 1, start as u64, size as u64),
+        Cell::Binary(start, size) => four(format::VARBINARY, 1, start as u64, size as u64),
+        Cell::Geography(start, size) => four(format::GEOGRAPHY, 1, start as u64, size as u64),
+        Cell::NullText => four(format::STRING, 2, 0, 0),
+        Cell::NullBinary => four(format::VARBINARY, 2, 0, 0),
+        Cell::NullGeography => four(format::GEOGRAPHY, 2, 0, 0),
+        _ => {
+            let v = values::fixed_of(c);
+            four(v.wire_type, 0, v.upper, v.lower)
+        }
+    }
+}
+
+// A cell or an element.
+pub fn lend_cell(list: &mut [u64; 4], answer: CellAnswer) -> u64
+    ensures { λ r. ⌜ (r ≡ packed nothing (toldCell answer)) × (now (list .exit) ≡ lent cellNumbers (toldCell answer) (now (list .entry))) ⌝ }
+{
+    match answer {
+        CellAnswer::Is(c) => {
+            let found = list_cell(c);
+            *list = found;
+            0
+        }
+        CellAnswer::No(refusal) => refused(refusal),
+    }
+}
+
+// A parameter.
+pub fn lend_argument(list: &mut [u64; 4], answer: Argued) -> u64
+    ensures { λ r. ⌜ (r ≡ packed nothing (toldArgument answer)) × (now (list .exit) ≡ lent givenNumbers (toldArgument answer) (now (list .entry))) ⌝ }
+{
+    match answer {
+        Argued::Null => {
+            let found = four(format::NULL, 2, 0, 0);
+            *list = found;
+            0
+        }
+        Argued::One(c) => {
+            let found = list_cell(c);
+            *list = found;
+            0
+        }
+        Argued::Array(t, n) => {
+            let found = four(format::ARRAY, 3, t as u64, n as u64);
+            *list = found;
+            0
+        }
+        Argued::No(refusal) => refused(refusal),
+    }
 }

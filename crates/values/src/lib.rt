@@ -87,7 +87,7 @@ fn unsigned32(z: i32) -> u64
     unsigned64(z as i64) % 0x1_0000_0000
 }
 
-fn unsigned64(z: i64) -> u64
+pub fn unsigned64(z: i64) -> u64
     ensures { λ r. ⌜ r ≡ unsigned 8 z ⌝ }
 {
     if z < 0 {
