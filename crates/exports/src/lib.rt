@@ -21,6 +21,8 @@ ghost use Rattle.numbers.specs.Entries.{entriesOf};
 ghost use Rattle.cards.specs.Answers.{askMade, askOpen, written};
 ghost use Rattle.query.specs.Answers.{askCell, askParameter, askElement};
 ghost use Rattle.numbers.specs.Listed.{lent, cellNumbers, givenNumbers};
+ghost use Rattle.numbers.specs.Records.{loginRequestNumbers, loginResponseNumbers, invocationNumbers, responseNumbers};
+ghost use Rattle.record.specs.Records.{shownLoginRequest, shownLoginResponse, shownInvocation, shownResponse};
 ghost use Rattle.exports.specs.Given.{opening};
 ghost use Rattle.login.specs.Told.{welcome};
 ghost use Rattle.numbers.specs.Stored.{stateOf, Wrote, WroteAll, WroteLogin};
@@ -146,6 +148,38 @@ pub extern "C" fn chaloenpik_element(m: &[u8], p: usize, e: usize, list: &mut [u
     ensures { λ r. ⌜ (r ≡ packed nothing (askElement (now (m .entry)) p e)) × (now (list .exit) ≡ lent cellNumbers (askElement (now (m .entry)) p e) (now (list .entry))) ⌝ }
 {
     numbers::lend_cell(list, query::element(m, p, e))
+}
+
+// The record of a login request, as nine numbers (numbers/specs/Records.antt).
+#[no_mangle]
+pub extern "C" fn chaloenpik_login_request(m: &[u8], list: &mut [u64; 9]) -> u64
+    ensures { λ r. ⌜ (r ≡ packed nothing (readMessage 1 (now (m .entry)))) × (now (list .exit) ≡ lent (λ p. loginRequestNumbers (shownLoginRequest (ok p))) (readMessage 1 (now (m .entry))) (now (list .entry))) ⌝ }
+{
+    numbers::lend_login_request(list, record::login_request(m))
+}
+
+// The record of a login response, as nine numbers.
+#[no_mangle]
+pub extern "C" fn chaloenpik_login_response(m: &[u8], list: &mut [u64; 9]) -> u64
+    ensures { λ r. ⌜ (r ≡ packed nothing (readMessage 2 (now (m .entry)))) × (now (list .exit) ≡ lent (λ p. loginResponseNumbers (shownLoginResponse (ok p))) (readMessage 2 (now (m .entry))) (now (list .entry))) ⌝ }
+{
+    numbers::lend_login_response(list, record::login_response(m))
+}
+
+// The record of an invocation, as six numbers.
+#[no_mangle]
+pub extern "C" fn chaloenpik_invocation(m: &[u8], list: &mut [u64; 6]) -> u64
+    ensures { λ r. ⌜ (r ≡ packed nothing (readMessage 3 (now (m .entry)))) × (now (list .exit) ≡ lent (λ p. invocationNumbers (shownInvocation (ok p))) (readMessage 3 (now (m .entry))) (now (list .entry))) ⌝ }
+{
+    numbers::lend_invocation(list, record::invocation(m))
+}
+
+// The record of a response, as seventeen numbers.
+#[no_mangle]
+pub extern "C" fn chaloenpik_response(m: &[u8], list: &mut [u64; 17]) -> u64
+    ensures { λ r. ⌜ (r ≡ packed nothing (readMessage 4 (now (m .entry)))) × (now (list .exit) ≡ lent (λ p. responseNumbers (shownResponse (ok p))) (readMessage 4 (now (m .entry))) (now (list .entry))) ⌝ }
+{
+    numbers::lend_response(list, record::response(m))
 }
 
 // ---- The writer: a step each, over a state in numbers, the types of the open table and a buffer.

@@ -2,3 +2,4 @@ pub mod Packed
 pub mod Stored
 pub mod Entries
 pub mod Listed
+pub mod Records

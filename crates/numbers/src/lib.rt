@@ -5,12 +5,23 @@ use fields::Counted;
 use fields::Owned;
 use fields::Written;
 use format::Refusal;
+use message::Verdict;
 use query::Argued;
 use query::CellAnswer;
 use query::ColumnAnswer;
 use query::Count;
 use query::Position;
 use query::TableAnswer;
+use record::Edition;
+use record::InvocationRecord;
+use record::InvocationShown;
+use record::LoginRequestRecord;
+use record::LoginRequestShown;
+use record::LoginResponseRecord;
+use record::LoginResponseShown;
+use record::ResponseRecord;
+use record::ResponseShown;
+use record::Span;
 use show::Cell;
 use write::Answer;
 use write::Columns;
@@ -19,6 +30,10 @@ use write::State;
 use write::Step;
 ghost use mathlib.Core.Path.{_≡_};
 ghost use mathlib.Core.List.{[], _∷_};
+ghost use Prim.Native.Nat.{_+_, _*_, _<_};
+ghost use Rattle.format.specs.Number.{numAt};
+ghost use Rattle.scan.specs.Signed.{unsigned};
+ghost use Rattle.message.specs.Verdict.{toldVerdict};
 ghost use Rattle.fields.specs.Told.{toldCounted, toldOwned, toldWritten};
 ghost use Rattle.query.specs.Answers.{toldCount, toldTable, toldColumn, toldPosition, toldCell, toldArgument};
 ghost use Rattle.write.specs.State.{stageNumber};
@@ -29,6 +44,7 @@ ghost use Rattle.numbers.specs.Entries.{entryAt, entriesOf};
 ghost use Rattle.numbers.specs.Packed.{above, packed, packedNo, nothing, itself, numberIn, rowsOf, columnsOf, typeOf};
 ghost use Rattle.numbers.specs.Stored.{stageOf, byteOf, stateOf, numbersOf, toldAnswer, kept, keptTypes};
 ghost use Rattle.numbers.specs.Listed.{lent, cellNumbers, givenNumbers};
+ghost use Rattle.numbers.specs.Records.{form, startOf, sizeOf, there, hasEdition, editionNumber, loginRequestNumbers, loginResponseNumbers, invocationNumbers, responseNumbers};
 
 // A place or a number found, above the low 8 bits.
 pub fn above(value: usize) -> u64
@@ -264,6 +280,7 @@ pub fn gathered(list: &[u64]) -> Gathered
 
 // ---- Values and records in a lent list; a refusal leaves it as it was.
 
+// A value by its type, its form and two more numbers.
 fn four(t: u8, form: u64, a: u64, b: u64) -> [u64; 4]
     ensures { λ r. ⌜ r ≡ t ∷ form ∷ a ∷ b ∷ [] ⌝ }
 {
@@ -288,7 +305,7 @@ fn list_cell(c: Cell) -> [u64; 4]
     }
 }
 
-// A cell or an element.
+// Lends a cell or an element.
 pub fn lend_cell(list: &mut [u64; 4], answer: CellAnswer) -> u64
     ensures { λ r. ⌜ (r ≡ packed nothing (toldCell answer)) × (now (list .exit) ≡ lent cellNumbers (toldCell answer) (now (list .entry))) ⌝ }
 {
@@ -302,7 +319,7 @@ pub fn lend_cell(list: &mut [u64; 4], answer: CellAnswer) -> u64
     }
 }
 
-// A parameter.
+// Lends a parameter.
 pub fn lend_argument(list: &mut [u64; 4], answer: Argued) -> u64
     ensures { λ r. ⌜ (r ≡ packed nothing (toldArgument answer)) × (now (list .exit) ≡ lent givenNumbers (toldArgument answer) (now (list .entry))) ⌝ }
 {
@@ -323,5 +340,244 @@ pub fn lend_argument(list: &mut [u64; 4], answer: Argued) -> u64
             0
         }
         Argued::No(refusal) => refused(refusal),
+    }
+}
+
+// A number with a sign, by its two's complement of 64 bits.
+fn wide8(z: i8) -> u64
+    ensures { λ r. ⌜ r ≡ unsigned 8 z ⌝ }
+{
+    values::unsigned64(z as i64)
+}
+
+fn wide32(z: i32) -> u64
+    ensures { λ r. ⌜ r ≡ unsigned 8 z ⌝ }
+{
+    values::unsigned64(z as i64)
+}
+
+// The number that 4 bytes are.
+fn number4(a: u8, b: u8, c: u8, d: u8) -> u64
+    ensures { λ r. ⌜ (r ≡ a * 16777216 + b * 65536 + c * 256 + d) × (r < 4294967296) ⌝ }
+{
+    a as u64 * 0x100_0000 + b as u64 * 0x1_0000 + c as u64 * 0x100 + d as u64
+}
+
+// The number that 8 bytes are.
+fn number8(b: [u8; 8]) -> u64
+    ensures { λ r. ⌜ r ≡ numAt 8 b 0 ⌝ }
+{
+    let upper = number4(b[0], b[1], b[2], b[3]);
+    let lower = number4(b[4], b[5], b[6], b[7]);
+    upper * 0x1_0000_0000 + lower
+}
+
+// A string as numbers: its form, where it starts and how many bytes it has.
+struct Shape {
+    form: u64,
+    start: u64,
+    size: u64,
+}
+
+fn shape_of(s: Span) -> Shape
+    ensures { λ r. ⌜ r ≡ record { form = form s; start = startOf s; size = sizeOf s } ⌝ }
+{
+    match s {
+        Span::Absent => Shape {
+            form: 0,
+            start: 0,
+            size: 0,
+        },
+        Span::Null => Shape {
+            form: 1,
+            start: 0,
+            size: 0,
+        },
+        Span::At(start, size) => Shape {
+            form: 2,
+            start: start as u64,
+            size: size as u64,
+        },
+    }
+}
+
+// Whether a string is there: 1 or 0.
+fn there(s: Span) -> u64
+    ensures { λ r. ⌜ r ≡ there s ⌝ }
+{
+    match s {
+        Span::At(_, _) => 1,
+        _ => 0,
+    }
+}
+
+// Whether a hash version is there: 1 or 0.
+fn has_edition(e: Edition) -> u64
+    ensures { λ r. ⌜ r ≡ hasEdition e ⌝ }
+{
+    match e {
+        Edition::Is(_) => 1,
+        Edition::Absent => 0,
+    }
+}
+
+// A hash version, or 0.
+fn edition_number(e: Edition) -> u64
+    ensures { λ r. ⌜ r ≡ editionNumber e ⌝ }
+{
+    match e {
+        Edition::Is(z) => wide8(z),
+        Edition::Absent => 0,
+    }
+}
+
+// The numbers of a login request. So it is of the three records below.
+fn list_login_request(r: LoginRequestRecord) -> [u64; 9]
+    ensures { λ n. ⌜ n ≡ loginRequestNumbers r ⌝ }
+{
+    let edition = r.hash_version;
+    let service_span = r.service;
+    let user_span = r.user;
+    let hash_span = r.hash;
+    let service = shape_of(service_span);
+    let user = shape_of(user_span);
+    let hash = shape_of(hash_span);
+    [
+        wide8(r.version),
+        has_edition(edition),
+        edition_number(edition),
+        service.start,
+        service.size,
+        user.start,
+        user.size,
+        hash.start,
+        hash.size,
+    ]
+}
+
+fn list_login_response(r: LoginResponseRecord) -> [u64; 9]
+    ensures { λ n. ⌜ n ≡ loginResponseNumbers r ⌝ }
+{
+    let text = r.build;
+    let leader = r.leader;
+    let build = shape_of(text);
+    [
+        wide8(r.version),
+        wide8(r.result),
+        wide32(r.host),
+        values::unsigned64(r.connection),
+        values::unsigned64(r.start),
+        number4(leader[0], leader[1], leader[2], leader[3]),
+        there(text),
+        build.start,
+        build.size,
+    ]
+}
+
+fn list_invocation(r: InvocationRecord) -> [u64; 6]
+    ensures { λ n. ⌜ n ≡ invocationNumbers r ⌝ }
+{
+    let text = r.procedure;
+    let client = r.client;
+    let procedure = shape_of(text);
+    [
+        wide8(r.version),
+        procedure.start,
+        procedure.size,
+        number8(client),
+        r.params as u64,
+        r.params_at as u64,
+    ]
+}
+
+fn list_response(r: ResponseRecord) -> [u64; 17]
+    ensures { λ n. ⌜ n ≡ responseNumbers r ⌝ }
+{
+    let client = r.client;
+    let status_string = r.status_string;
+    let app_string = r.app_string;
+    let blob = r.exception;
+    let status = shape_of(status_string);
+    let app = shape_of(app_string);
+    let exception = shape_of(blob);
+    [
+        wide8(r.version),
+        number8(client),
+        r.flags as u64,
+        wide8(r.status),
+        status.form,
+        status.start,
+        status.size,
+        wide8(r.app_status),
+        app.form,
+        app.start,
+        app.size,
+        wide32(r.round_trip),
+        exception.form,
+        exception.start,
+        exception.size,
+        r.tables as u64,
+        r.tables_at as u64,
+    ]
+}
+
+// Lends the record of a login request. So it is of the three kinds below.
+pub fn lend_login_request(list: &mut [u64; 9], answer: LoginRequestShown) -> u64
+    ensures { λ r. ⌜ (r ≡ packed nothing (toldVerdict (answer .verdict))) × (now (list .exit) ≡ lent (λ _. loginRequestNumbers (answer .shown)) (toldVerdict (answer .verdict)) (now (list .entry))) ⌝ }
+{
+    let verdict = answer.verdict;
+    let shown = answer.shown;
+    match verdict {
+        Verdict::Fine => {
+            let found = list_login_request(shown);
+            *list = found;
+            0
+        }
+        Verdict::No(refusal) => refused(refusal),
+    }
+}
+
+pub fn lend_login_response(list: &mut [u64; 9], answer: LoginResponseShown) -> u64
+    ensures { λ r. ⌜ (r ≡ packed nothing (toldVerdict (answer .verdict))) × (now (list .exit) ≡ lent (λ _. loginResponseNumbers (answer .shown)) (toldVerdict (answer .verdict)) (now (list .entry))) ⌝ }
+{
+    let verdict = answer.verdict;
+    let shown = answer.shown;
+    match verdict {
+        Verdict::Fine => {
+            let found = list_login_response(shown);
+            *list = found;
+            0
+        }
+        Verdict::No(refusal) => refused(refusal),
+    }
+}
+
+pub fn lend_invocation(list: &mut [u64; 6], answer: InvocationShown) -> u64
+    ensures { λ r. ⌜ (r ≡ packed nothing (toldVerdict (answer .verdict))) × (now (list .exit) ≡ lent (λ _. invocationNumbers (answer .shown)) (toldVerdict (answer .verdict)) (now (list .entry))) ⌝ }
+{
+    let verdict = answer.verdict;
+    let shown = answer.shown;
+    match verdict {
+        Verdict::Fine => {
+            let found = list_invocation(shown);
+            *list = found;
+            0
+        }
+        Verdict::No(refusal) => refused(refusal),
+    }
+}
+
+pub fn lend_response(list: &mut [u64; 17], answer: ResponseShown) -> u64
+    ensures { λ r. ⌜ (r ≡ packed nothing (toldVerdict (answer .verdict))) × (now (list .exit) ≡ lent (λ _. responseNumbers (answer .shown)) (toldVerdict (answer .verdict)) (now (list .entry))) ⌝ }
+{
+    let verdict = answer.verdict;
+    let shown = answer.shown;
+    match verdict {
+        Verdict::Fine => {
+            let found = list_response(shown);
+            *list = found;
+            0
+        }
+        Verdict::No(refusal) => refused(refusal),
     }
 }
