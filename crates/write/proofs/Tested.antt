@@ -1,20 +1,19 @@
 -- Tests that agree, and what a step answers by the first test that fails.
 use Prim.Native.Nat.{ℕ, zero, suc, _+_, _<_, _≤_}
 use mathlib.Core.Path.{_≡_, refl, sym, ap, _∙_}
-use mathlib.Core.Bool.{Bool, true, false, _&&_}
+use mathlib.Core.Bool.{Bool, true, false, not, _&&_, _||_}
 use mathlib.Core.List.{List, [], _∷_, _++_}
 use lib.ListN.{length, take, getD}
-use lib.Dec.{leb}
+use lib.Dec.{leb, eqb}
 use lib.Seq.{take-suc}
 use native.Mathlib.Numerals.{add-one}
 use native.Mathlib.Omega.{arith}
 use borrow.Author.Tests.{le-leb, lt-leb, leb-true, leb-false}
 use Rattle.format.specs.declared.Fault.the-variants.{Limit, Output}
-use Rattle.format.specs.Result.{ok, no}
+use Rattle.format.specs.Result.{ok, no, pick}
 use Rattle.format.specs.Format.{fine}
 use Rattle.format.specs.Value.{isColumn}
 use Rattle.format.specs.Message.{mostMessage}
-use Rattle.format.proofs.Results.{and-true-both}
 use Rattle.write.specs.State.{allColumns}
 use Rattle.write.specs.Steps.{answerAt}
 
@@ -26,23 +25,43 @@ same-leb a b x y f g = go (leb a b) refl
     go false e = e ∙ sym (lt-leb x y (g (leb-false a b e)))
 
 -- columns, one more at a time
-all-snoc : (l : List ℕ) (t : ℕ) → allColumns l ≡ true → allColumns (l ++ (t ∷ [])) ≡ isColumn t && true
-all-snoc [] t e = refl
-all-snoc (x ∷ l) t e = let w = and-true-both (isColumn x) (allColumns l) e in rw (w .0) (all-snoc l t (w .1))
-
-pub all-more : (l : List ℕ) (i : ℕ) → i < length l → isColumn (getD l i 0) ≡ true → allColumns (take i l) ≡ true → allColumns (take (i + 1) l) ≡ true
-all-more l i h e a = rw (add-one, take-suc l i 0 h) (all-snoc (take i l) (getD l i 0) a ∙ ap (λ (b : Bool). b && true) e)
-
-pub all-fails : (l : List ℕ) (i n : ℕ) → i < n → i < length l → isColumn (getD l i 0) ≡ false → allColumns (take n l) ≡ false
-all-fails [] i n h k e = absurd (omega arith)
-all-fails (x ∷ l) zero zero h k e = absurd (omega arith)
-all-fails (x ∷ l) zero (suc n) h k e = ap (λ (b : Bool). b && allColumns (take n l)) e
-all-fails (x ∷ l) (suc i) zero h k e = absurd (omega arith)
-all-fails (x ∷ l) (suc i) (suc n) h k e = ap (λ (b : Bool). isColumn x && b) (all-fails l i n (omega arith) (omega arith) e) ∙ and-false (isColumn x)
+all-snoc : (l : List ℕ) (t : ℕ) → allColumns (l ++ (t ∷ [])) ≡ isColumn t && allColumns l
+all-snoc [] t = refl
+all-snoc (x ∷ l) t = ap (λ (b : Bool). isColumn x && b) (all-snoc l t) ∙ swap (isColumn x) (isColumn t) (allColumns l)
   where
-    and-false : (b : Bool) → b && false ≡ false
-    and-false true = refl
-    and-false false = refl
+    swap : (a b c : Bool) → a && (b && c) ≡ b && (a && c)
+    swap true true c = refl
+    swap true false c = refl
+    swap false true c = refl
+    swap false false c = refl
+
+pub all-next : (l : List ℕ) (i : ℕ) → i < length l → isColumn (getD l i 0) && allColumns (take i l) ≡ allColumns (take (i + 1) l)
+all-next l i h = sym (rw (add-one, take-suc l i 0 h) (all-snoc (take i l) (getD l i 0)))
+
+-- a column's type by its number alone
+pub column-is : (t : ℕ)
+    → ((eqb t 3 || (eqb t 4 || eqb t 5)) || (eqb t 6 || (eqb t 8 || eqb t 9))) || ((eqb t 11 || (eqb t 22 || eqb t 25)) || (eqb t 26 || (eqb t 27 || eqb t 27))) ≡ isColumn t
+column-is t = go (eqb t 3) (eqb t 4) (eqb t 5) (eqb t 6) (eqb t 8) (eqb t 9) (eqb t 11) (eqb t 22) (eqb t 25) (eqb t 26) (eqb t 27)
+  where
+    or-true : (b : Bool) → true ≡ b || true
+    or-true true = refl
+    or-true false = refl
+
+    go : (e₃ e₄ e₅ e₆ e₈ e₉ e₁₁ e₂₂ e₂₅ e₂₆ e₂₇ : Bool)
+        → ((e₃ || (e₄ || e₅)) || (e₆ || (e₈ || e₉))) || ((e₁₁ || (e₂₂ || e₂₅)) || (e₂₆ || (e₂₇ || e₂₇)))
+        ≡ (e₉ || (e₂₅ || e₂₇)) || not (eqb (pick e₃ 1 (pick e₄ 2 (pick e₅ 4 (pick (e₆ || (e₈ || e₁₁)) 8 (pick (e₂₂ || e₂₆) 16 0))))) 0)
+    go true _ _ _ _ e₉ _ _ e₂₅ _ e₂₇ = or-true (e₉ || (e₂₅ || e₂₇))
+    go false true _ _ _ e₉ _ _ e₂₅ _ e₂₇ = or-true (e₉ || (e₂₅ || e₂₇))
+    go false false true _ _ e₉ _ _ e₂₅ _ e₂₇ = or-true (e₉ || (e₂₅ || e₂₇))
+    go false false false true _ e₉ _ _ e₂₅ _ e₂₇ = or-true (e₉ || (e₂₅ || e₂₇))
+    go false false false false true e₉ _ _ e₂₅ _ e₂₇ = or-true (e₉ || (e₂₅ || e₂₇))
+    go false false false false false true _ _ _ _ _ = refl
+    go false false false false false false true _ e₂₅ _ e₂₇ = or-true (e₂₅ || e₂₇)
+    go false false false false false false false true e₂₅ _ e₂₇ = or-true (e₂₅ || e₂₇)
+    go false false false false false false false false true _ _ = refl
+    go false false false false false false false false false true e₂₇ = or-true e₂₇
+    go false false false false false false false false false false true = refl
+    go false false false false false false false false false false false = refl
 
 -- past the message's limit, past the buffer, and there
 pub too-far : (at n size : ℕ) → 4 + mostMessage < at + n → answerAt true fine true at n size ≡ no Limit at
