@@ -264,18 +264,28 @@ fn column_at(list: &[u64], i: usize) -> Column
     }
 }
 
-// The columns that a list of numbers says, three for each. One or two numbers behind the last are left out.
+// The columns that a list of numbers says, three for each. One or two numbers behind the last are left out. It sets them in place, since
+// columns::with_column would copy all of them for each.
 pub fn gathered(list: &[u64]) -> Gathered
     ensures { λ r. ⌜ r ≡ addAll empty (entriesOf (now (list .entry))) ⌝ }
 {
-    let mut a = columns::no_columns();
+    let mut cols = [Column {
+        wire_type: 0,
+        start: 0,
+        size: 0,
+    }; 64];
+    let mut n = 0;
     let mut i = 0;
     while 3 <= list.len() - i {
-        let c = column_at(list, i);
-        a = columns::with_column(a, c);
+        if n < 64 {
+            cols[n] = column_at(list, i);
+            n += 1;
+        } else {
+            n = 65;
+        }
         i += 3;
     }
-    a
+    Gathered { n: n, cols: cols }
 }
 
 // ---- Values and records in a lent list; a refusal leaves it as it was.
