@@ -23,10 +23,11 @@ ghost use Rattle.cards.specs.Card.{aCard, nameByte, wrongFrom, cardBody,
 ghost use Rattle.cards.specs.Answers.{opened, askOpen, shortNamed, roomFor, askMade, Made};
 ghost use Rattle.cards.specs.Shown.{shownWrong, shownForm};
 
-// The one kind of card, how many bytes it has, and the most that each of its parts may be.
-const KIND: u8 = 1;
+// How many bytes a card has.
+pub const SIZE: usize = 36;
 
-const SIZE: usize = 36;
+// The one kind of card, and the most that each of its parts may be.
+const KIND: u8 = 1;
 
 const MOST_POSITION: u8 = 63;
 

@@ -25,7 +25,7 @@ const CELL: u64 = 51;
 // A proved loop has to end, and nothing says that the input does. So this one counts its turns down, from a number that no
 // run uses up.
 fn main() {
-    let mut card = [0u8; 36];
+    let mut card = [0u8; cards::SIZE];
     if !make_card(&mut card) {
         return;
     }
