@@ -6,7 +6,7 @@ use Rattle.format.specs.Format.{Entry}
 use Rattle.query.specs.declared.TableLayout.{TableLayout}
 use Rattle.query.specs.declared.ColumnLayout.{ColumnLayout}
 
--- no slice is so long that a place in it has more than 56 bits
+-- no slice is so long that a place in it has more than 56 bits; a forged writer's position may, and then its low 56 are told
 abbrev pub above : ℕ → ℕ
 above n = n * 2 ^ 8 % 2 ^ 64
 
