@@ -126,7 +126,8 @@ uint64_t rewrite_plain(const uint8_t *message, size_t size, uint8_t *out, size_t
 
 /* ---- The proved hand. */
 
-#define PEN p->out, p->room, p->state, p->types
+#define PEN p->out, p->room, p->state
+#define TABLE PEN, p->types
 
 static uint64_t proved_begin(pen *p, const uint8_t *m) {
     return chaloenpik_begin_reply(PEN, m[VERSION], m + CLIENT, 0, m[STATUS], true, m, 0, m[APP_STATUS], true, m, 0, load32(m + ROUND_TRIP), m, 0);
@@ -141,20 +142,20 @@ static uint64_t proved_open_table(pen *p, uint8_t status, const columns *c) {
         entries[3 * k + 2] = size;
         at += 4 + size;
     }
-    return chaloenpik_open_table(PEN, status, entries, 3 * c->count, c->message, c->size);
+    return chaloenpik_open_table(TABLE, status, entries, 3 * c->count, c->message, c->size);
 }
 
-static uint64_t proved_open_row(pen *p) { return chaloenpik_open_row(PEN); }
+static uint64_t proved_open_row(pen *p) { return chaloenpik_open_row(TABLE); }
 
-static uint64_t proved_fixed(pen *p, uint8_t type, uint64_t upper, uint64_t lower) { return chaloenpik_fixed_cell(PEN, type, upper, lower); }
+static uint64_t proved_fixed(pen *p, uint8_t type, uint64_t upper, uint64_t lower) { return chaloenpik_fixed_cell(TABLE, type, upper, lower); }
 
 static uint64_t proved_body(pen *p, uint8_t type, bool null, const uint8_t *bytes, size_t size) {
-    return chaloenpik_body_cell(PEN, type, null, bytes, size);
+    return chaloenpik_body_cell(TABLE, type, null, bytes, size);
 }
 
-static uint64_t proved_close_row(pen *p) { return chaloenpik_close_row(PEN); }
+static uint64_t proved_close_row(pen *p) { return chaloenpik_close_row(TABLE); }
 
-static uint64_t proved_close_table(pen *p) { return chaloenpik_close_table(PEN); }
+static uint64_t proved_close_table(pen *p) { return chaloenpik_close_table(TABLE); }
 
 static uint64_t proved_finish(pen *p) { return chaloenpik_finish_reply(PEN); }
 

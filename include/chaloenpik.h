@@ -120,47 +120,47 @@ uint64_t chaloenpik_write_login_response(uint8_t *out, size_t size, uint8_t vers
 /* The other kinds are written by steps, which keep where they are in numbers that the caller lends: the stage, the position, and
    what is open. Beginning a message sets them. Any numbers may stand in them: a step that they don't permit is refused 13, at
    the low 56 bits of the position. */
-enum { CHALOENPIK_STATE = 11, CHALOENPIK_TYPES = 64 /* the types of the open table's columns */ };
+enum { CHALOENPIK_STATE = 11, CHALOENPIK_TYPES = 64 /* the types of the open table's columns: opening it sets them, its steps look at them */ };
 
 /* Begins an invocation; `client` has 8 bytes. */
-uint64_t chaloenpik_begin_call(uint8_t *out, size_t size, uint64_t state[CHALOENPIK_STATE], uint8_t types[CHALOENPIK_TYPES], uint8_t version,
+uint64_t chaloenpik_begin_call(uint8_t *out, size_t size, uint64_t state[CHALOENPIK_STATE], uint8_t version,
                                const uint8_t *procedure, size_t procedure_length, const uint8_t client[8]);
 
 /* A null parameter. */
-uint64_t chaloenpik_null_param(uint8_t *out, size_t size, uint64_t state[CHALOENPIK_STATE], const uint8_t types[CHALOENPIK_TYPES]);
+uint64_t chaloenpik_null_param(uint8_t *out, size_t size, uint64_t state[CHALOENPIK_STATE]);
 
 /* A parameter of a fixed size, by its upper and lower 64 bits; one of at most 8 bytes stands in the lower. */
-uint64_t chaloenpik_fixed_param(uint8_t *out, size_t size, uint64_t state[CHALOENPIK_STATE], const uint8_t types[CHALOENPIK_TYPES], uint8_t type,
+uint64_t chaloenpik_fixed_param(uint8_t *out, size_t size, uint64_t state[CHALOENPIK_STATE], uint8_t type,
                                 uint64_t upper, uint64_t lower);
 
 /* A text or binary parameter, or a null of its type. */
-uint64_t chaloenpik_body_param(uint8_t *out, size_t size, uint64_t state[CHALOENPIK_STATE], const uint8_t types[CHALOENPIK_TYPES], uint8_t type,
+uint64_t chaloenpik_body_param(uint8_t *out, size_t size, uint64_t state[CHALOENPIK_STATE], uint8_t type,
                                bool null, const uint8_t *bytes, size_t length);
 
 /* An array of tinyints, in one step. */
-uint64_t chaloenpik_bytes_param(uint8_t *out, size_t size, uint64_t state[CHALOENPIK_STATE], const uint8_t types[CHALOENPIK_TYPES],
+uint64_t chaloenpik_bytes_param(uint8_t *out, size_t size, uint64_t state[CHALOENPIK_STATE],
                                 const uint8_t *bytes, size_t length);
 
 /* Opens an array of elements of a type. */
-uint64_t chaloenpik_open_array(uint8_t *out, size_t size, uint64_t state[CHALOENPIK_STATE], const uint8_t types[CHALOENPIK_TYPES], uint8_t type);
+uint64_t chaloenpik_open_array(uint8_t *out, size_t size, uint64_t state[CHALOENPIK_STATE], uint8_t type);
 
 /* An element of the open array, of a fixed size. */
-uint64_t chaloenpik_fixed_element(uint8_t *out, size_t size, uint64_t state[CHALOENPIK_STATE], const uint8_t types[CHALOENPIK_TYPES], uint8_t type,
+uint64_t chaloenpik_fixed_element(uint8_t *out, size_t size, uint64_t state[CHALOENPIK_STATE], uint8_t type,
                                   uint64_t upper, uint64_t lower);
 
 /* A text or binary element of the open array. */
-uint64_t chaloenpik_body_element(uint8_t *out, size_t size, uint64_t state[CHALOENPIK_STATE], const uint8_t types[CHALOENPIK_TYPES], uint8_t type,
+uint64_t chaloenpik_body_element(uint8_t *out, size_t size, uint64_t state[CHALOENPIK_STATE], uint8_t type,
                                  bool null, const uint8_t *bytes, size_t length);
 
 /* Closes the array. */
-uint64_t chaloenpik_close_array(uint8_t *out, size_t size, uint64_t state[CHALOENPIK_STATE], const uint8_t types[CHALOENPIK_TYPES]);
+uint64_t chaloenpik_close_array(uint8_t *out, size_t size, uint64_t state[CHALOENPIK_STATE]);
 
 /* Finishes the invocation. */
-uint64_t chaloenpik_finish_call(uint8_t *out, size_t size, uint64_t state[CHALOENPIK_STATE], const uint8_t types[CHALOENPIK_TYPES]);
+uint64_t chaloenpik_finish_call(uint8_t *out, size_t size, uint64_t state[CHALOENPIK_STATE]);
 
 /* Begins a response with all fields before its table count; `client` has 8 bytes. A string, or an exception, whose flag isn't
    set is ignored. */
-uint64_t chaloenpik_begin_reply(uint8_t *out, size_t size, uint64_t state[CHALOENPIK_STATE], uint8_t types[CHALOENPIK_TYPES], uint8_t version,
+uint64_t chaloenpik_begin_reply(uint8_t *out, size_t size, uint64_t state[CHALOENPIK_STATE], uint8_t version,
                                 const uint8_t client[8], uint8_t flags, uint8_t status, bool status_null, const uint8_t *status_string,
                                 size_t status_length, uint8_t app_status, bool app_null, const uint8_t *app_string, size_t app_length,
                                 uint32_t round_trip, const uint8_t *exception, size_t exception_length);
@@ -188,6 +188,6 @@ uint64_t chaloenpik_close_row(uint8_t *out, size_t size, uint64_t state[CHALOENP
 uint64_t chaloenpik_close_table(uint8_t *out, size_t size, uint64_t state[CHALOENPIK_STATE], const uint8_t types[CHALOENPIK_TYPES]);
 
 /* Finishes the response. */
-uint64_t chaloenpik_finish_reply(uint8_t *out, size_t size, uint64_t state[CHALOENPIK_STATE], const uint8_t types[CHALOENPIK_TYPES]);
+uint64_t chaloenpik_finish_reply(uint8_t *out, size_t size, uint64_t state[CHALOENPIK_STATE]);
 
 #endif

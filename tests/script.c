@@ -67,23 +67,38 @@ static size_t fixed_size(uint8_t type) {
 
 /* ---- Steps. */
 
-typedef uint64_t simple_step(uint8_t *, size_t, uint64_t *, const uint8_t *);
-typedef uint64_t fixed_step(uint8_t *, size_t, uint64_t *, const uint8_t *, uint8_t, uint64_t, uint64_t);
-typedef uint64_t body_step(uint8_t *, size_t, uint64_t *, const uint8_t *, uint8_t, bool, const uint8_t *, size_t);
+typedef uint64_t simple_step(uint8_t *, size_t, uint64_t *);
+typedef uint64_t fixed_step(uint8_t *, size_t, uint64_t *, uint8_t, uint64_t, uint64_t);
+typedef uint64_t body_step(uint8_t *, size_t, uint64_t *, uint8_t, bool, const uint8_t *, size_t);
 
-static uint64_t simple(simple_step *step) { return step(out, size, state, types); }
+static uint64_t simple(simple_step *step) { return step(out, size, state); }
+
+/* Those of a table are lent the types of its columns too. */
+static uint64_t open_row(uint8_t *o, size_t n, uint64_t *s) { return chaloenpik_open_row(o, n, s, types); }
+
+static uint64_t close_row(uint8_t *o, size_t n, uint64_t *s) { return chaloenpik_close_row(o, n, s, types); }
+
+static uint64_t close_table(uint8_t *o, size_t n, uint64_t *s) { return chaloenpik_close_table(o, n, s, types); }
+
+static uint64_t fixed_cell(uint8_t *o, size_t n, uint64_t *s, uint8_t type, uint64_t upper, uint64_t lower) {
+    return chaloenpik_fixed_cell(o, n, s, types, type, upper, lower);
+}
+
+static uint64_t body_cell(uint8_t *o, size_t n, uint64_t *s, uint8_t type, bool null, const uint8_t *bytes, size_t count) {
+    return chaloenpik_body_cell(o, n, s, types, type, null, bytes, count);
+}
 
 /* A value by the step for its type; one of a type that has no values is 0. */
 static uint64_t value(fixed_step *fixed, body_step *body) {
     uint8_t type = *take(1);
     if (type == CHALOENPIK_STRING || type == CHALOENPIK_VARBINARY || type == CHALOENPIK_GEOGRAPHY) {
         part p = counted();
-        return body(out, size, state, types, type, p.null, p.bytes, p.size);
+        return body(out, size, state, type, p.null, p.bytes, p.size);
     }
     size_t bytes = fixed_size(type);
     uint64_t upper = bytes == 16 ? big_endian(8) : 0;
     uint64_t lower = big_endian(bytes == 16 ? 8 : bytes);
-    return fixed(out, size, state, types, type, upper, lower);
+    return fixed(out, size, state, type, upper, lower);
 }
 
 static uint64_t login(void) {
@@ -105,7 +120,7 @@ static uint64_t login_reply(void) {
 static uint64_t begin_invocation(void) {
     uint8_t version = byte();
     part procedure = counted(), client = counted();
-    return chaloenpik_begin_call(out, size, state, types, version, procedure.bytes, procedure.size, client.bytes);
+    return chaloenpik_begin_call(out, size, state, version, procedure.bytes, procedure.size, client.bytes);
 }
 
 static uint64_t begin_reply(void) {
@@ -117,17 +132,17 @@ static uint64_t begin_reply(void) {
     part application_string = counted();
     uint32_t round_trip = (uint32_t)number();
     part exception = counted();
-    return chaloenpik_begin_reply(out, size, state, types, version, client.bytes, flags, status, status_string.null, status_string.bytes,
+    return chaloenpik_begin_reply(out, size, state, version, client.bytes, flags, status, status_string.null, status_string.bytes,
                                   status_string.size, application, application_string.null, application_string.bytes,
                                   application_string.size, round_trip, exception.bytes, exception.size);
 }
 
 static uint64_t add_byte_array(void) {
     part body = counted();
-    return chaloenpik_bytes_param(out, size, state, types, body.bytes, body.size);
+    return chaloenpik_bytes_param(out, size, state, body.bytes, body.size);
 }
 
-static uint64_t open_array(void) { return chaloenpik_open_array(out, size, state, types, byte()); }
+static uint64_t open_array(void) { return chaloenpik_open_array(out, size, state, byte()); }
 
 static uint64_t open_table(void) {
     static uint64_t columns[3 * MOST_COLUMNS];
@@ -184,10 +199,10 @@ static uint64_t stepped(uint8_t name) {
     case CLOSE_ARRAY: return simple(chaloenpik_close_array);
     case FINISH_INVOCATION: return simple(chaloenpik_finish_call);
     case OPEN_TABLE: return open_table();
-    case OPEN_ROW: return simple(chaloenpik_open_row);
-    case ADD_CELL: return value(chaloenpik_fixed_cell, chaloenpik_body_cell);
-    case CLOSE_ROW: return simple(chaloenpik_close_row);
-    case CLOSE_TABLE: return simple(chaloenpik_close_table);
+    case OPEN_ROW: return simple(open_row);
+    case ADD_CELL: return value(fixed_cell, body_cell);
+    case CLOSE_ROW: return simple(close_row);
+    case CLOSE_TABLE: return simple(close_table);
     case FINISH_REPLY: return simple(chaloenpik_finish_reply);
     default: exit(1);
     }

@@ -67,9 +67,11 @@ pub struct Writer<'b> {
     types: Types,
 }
 
-type Simple = unsafe extern "C" fn(*mut u8, usize, *mut State, *const Types) -> u64;
-type Fixed = unsafe extern "C" fn(*mut u8, usize, *mut State, *const Types, u8, u64, u64) -> u64;
-type Body = unsafe extern "C" fn(*mut u8, usize, *mut State, *const Types, u8, bool, *const u8, usize) -> u64;
+type Simple = unsafe extern "C" fn(*mut u8, usize, *mut State) -> u64;
+type Fixed = unsafe extern "C" fn(*mut u8, usize, *mut State, u8, u64, u64) -> u64;
+type Body = unsafe extern "C" fn(*mut u8, usize, *mut State, u8, bool, *const u8, usize) -> u64;
+/// A step inside a table, which is lent the types of its columns.
+type InTable = unsafe extern "C" fn(*mut u8, usize, *mut State, *const Types) -> u64;
 
 impl<'b> Writer<'b> {
     /// Begins an invocation.
@@ -78,7 +80,7 @@ impl<'b> Writer<'b> {
         // SAFETY: as above; state and types are the writer's own.
         reached(unsafe {
             foreign::chaloenpik_begin_call(
-                w.out.as_mut_ptr(), w.out.len(), &mut w.state, &mut w.types, version, procedure.as_ptr(), procedure.len(), &client,
+                w.out.as_mut_ptr(), w.out.len(), &mut w.state, version, procedure.as_ptr(), procedure.len(), &client,
             )
         })?;
         Ok(w)
@@ -99,7 +101,7 @@ impl<'b> Writer<'b> {
         // SAFETY: as above.
         reached(unsafe {
             foreign::chaloenpik_bytes_param(
-                self.out.as_mut_ptr(), self.out.len(), &mut self.state, &self.types, bytes.as_ptr(), bytes.len(),
+                self.out.as_mut_ptr(), self.out.len(), &mut self.state, bytes.as_ptr(), bytes.len(),
             )
         })
     }
@@ -108,7 +110,7 @@ impl<'b> Writer<'b> {
     pub fn open_array(&mut self, wire_type: u8) -> Result<usize, Refusal> {
         // SAFETY: as above.
         reached(unsafe {
-            foreign::chaloenpik_open_array(self.out.as_mut_ptr(), self.out.len(), &mut self.state, &self.types, wire_type)
+            foreign::chaloenpik_open_array(self.out.as_mut_ptr(), self.out.len(), &mut self.state, wire_type)
         })
     }
 
@@ -133,7 +135,7 @@ impl<'b> Writer<'b> {
         // SAFETY: as above.
         reached(unsafe {
             foreign::chaloenpik_begin_reply(
-                w.out.as_mut_ptr(), w.out.len(), &mut w.state, &mut w.types, version, &opening.client, opening.flags, opening.status as u8,
+                w.out.as_mut_ptr(), w.out.len(), &mut w.state, version, &opening.client, opening.flags, opening.status as u8,
                 opening.status_string.is_none(), status.as_ptr(), status.len(), opening.app_status as u8, opening.app_string.is_none(),
                 app.as_ptr(), app.len(), opening.round_trip as u32, opening.exception.as_ptr(), opening.exception.len(),
             )
@@ -154,20 +156,28 @@ impl<'b> Writer<'b> {
     }
 
     pub fn open_row(&mut self) -> Result<usize, Refusal> {
-        self.simple(foreign::chaloenpik_open_row)
+        self.in_table(foreign::chaloenpik_open_row)
     }
 
     /// A cell of the open row.
     pub fn cell(&mut self, wire_type: u8, value: Value<'_>) -> Result<usize, Refusal> {
-        self.value(foreign::chaloenpik_fixed_cell, foreign::chaloenpik_body_cell, wire_type, value)
+        let (out, size, state, types) = (self.out.as_mut_ptr(), self.out.len(), &mut self.state, &self.types);
+        // SAFETY: as above.
+        reached(unsafe {
+            match value {
+                Value::Fixed(bits) => foreign::chaloenpik_fixed_cell(out, size, state, types, wire_type, (bits >> 64) as u64, bits as u64),
+                Value::Bytes(s) => foreign::chaloenpik_body_cell(out, size, state, types, wire_type, false, s.as_ptr(), s.len()),
+                Value::Null => foreign::chaloenpik_body_cell(out, size, state, types, wire_type, true, [].as_ptr(), 0),
+            }
+        })
     }
 
     pub fn close_row(&mut self) -> Result<usize, Refusal> {
-        self.simple(foreign::chaloenpik_close_row)
+        self.in_table(foreign::chaloenpik_close_row)
     }
 
     pub fn close_table(&mut self) -> Result<usize, Refusal> {
-        self.simple(foreign::chaloenpik_close_table)
+        self.in_table(foreign::chaloenpik_close_table)
     }
 
     /// Finishes the response; the position is its size.
@@ -181,6 +191,11 @@ impl<'b> Writer<'b> {
 
     fn simple(&mut self, step: Simple) -> Result<usize, Refusal> {
         // SAFETY: as above.
+        reached(unsafe { step(self.out.as_mut_ptr(), self.out.len(), &mut self.state) })
+    }
+
+    fn in_table(&mut self, step: InTable) -> Result<usize, Refusal> {
+        // SAFETY: as above.
         reached(unsafe { step(self.out.as_mut_ptr(), self.out.len(), &mut self.state, &self.types) })
     }
 
@@ -190,9 +205,9 @@ impl<'b> Writer<'b> {
         // SAFETY: as above.
         reached(unsafe {
             match value {
-                Value::Fixed(bits) => fixed(out, size, &mut self.state, &self.types, wire_type, (bits >> 64) as u64, bits as u64),
-                Value::Bytes(s) => body(out, size, &mut self.state, &self.types, wire_type, false, s.as_ptr(), s.len()),
-                Value::Null => body(out, size, &mut self.state, &self.types, wire_type, true, [].as_ptr(), 0),
+                Value::Fixed(bits) => fixed(out, size, &mut self.state, wire_type, (bits >> 64) as u64, bits as u64),
+                Value::Bytes(s) => body(out, size, &mut self.state, wire_type, false, s.as_ptr(), s.len()),
+                Value::Null => body(out, size, &mut self.state, wire_type, true, [].as_ptr(), 0),
             }
         })
     }

@@ -8,9 +8,9 @@ use write::Step;
 ghost use mathlib.Core.Path.{_≡_};
 ghost use Prim.Native.Nat.{_+_, _*_, _^_, _≤_};
 ghost use mathlib.Core.Option.{some};
-ghost use lib.ListN.{length, replicate};
+ghost use mathlib.Core.List.{[]};
+ghost use lib.ListN.{length};
 ghost use Rattle.format.specs.Value.{fixed, body};
-ghost use Rattle.format.specs.Message.{mostColumns};
 ghost use Rattle.put.specs.Put.{put, optional, sized};
 ghost use Rattle.write.specs.State.{closed};
 ghost use Rattle.write.specs.Steps.{answerOf, plan, beginCall, nullParam, oneParam, bytesParam, openArray, element, closeArray, finishCall};
@@ -18,14 +18,14 @@ ghost use Rattle.write.specs.Shown.{zero, shownAnswer, Stepped};
 
 // Begins an invocation; its length and its count hold zeros until it is finished.
 pub fn begin_call(out: &mut [u8], version: u8, procedure: &[u8], client: &[u8; 8]) -> Step
-    ensures { λ r. ⌜ Stepped (beginCall version (now (procedure .entry)) (now (client .entry))) zero (replicate mostColumns 0) (now (out .entry)) r (now (out .exit)) ⌝ }
+    ensures { λ r. ⌜ Stepped (beginCall version (now (procedure .entry)) (now (client .entry))) zero [] (now (out .entry)) r (now (out .exit)) ⌝ }
 {
     begin(out, version, procedure, client)
 }
 
 // Writes a null parameter.
 pub fn null_param(out: &mut [u8], st: State) -> Step
-    ensures { λ r. ⌜ Stepped nullParam st (st .columns .types) (now (out .entry)) r (now (out .exit)) ⌝ }
+    ensures { λ r. ⌜ Stepped nullParam st [] (now (out .entry)) r (now (out .exit)) ⌝ }
 {
     let at = st.position;
     let size = out.len();
@@ -48,7 +48,7 @@ pub fn null_param(out: &mut [u8], st: State) -> Step
 
 // Opens an array of elements of a type; its count holds zeros until it is closed.
 pub fn open_array(out: &mut [u8], st: State, t: u8) -> Step
-    ensures { λ r. ⌜ Stepped (openArray t) st (st .columns .types) (now (out .entry)) r (now (out .exit)) ⌝ }
+    ensures { λ r. ⌜ Stepped (openArray t) st [] (now (out .entry)) r (now (out .exit)) ⌝ }
 {
     let at = st.position;
     let size = out.len();
@@ -74,7 +74,7 @@ pub fn open_array(out: &mut [u8], st: State, t: u8) -> Step
 
 // Closes the open array, and fills its count.
 pub fn close_array(out: &mut [u8], st: State) -> Step
-    ensures { λ r. ⌜ Stepped closeArray st (st .columns .types) (now (out .entry)) r (now (out .exit)) ⌝ }
+    ensures { λ r. ⌜ Stepped closeArray st [] (now (out .entry)) r (now (out .exit)) ⌝ }
 {
     let at = st.position;
     let size = out.len();
@@ -96,7 +96,7 @@ pub fn close_array(out: &mut [u8], st: State) -> Step
 
 // Finishes the invocation: its length and its parameter count are filled.
 pub fn finish_call(out: &mut [u8], st: State) -> Step
-    ensures { λ r. ⌜ Stepped finishCall st (st .columns .types) (now (out .entry)) r (now (out .exit)) ⌝ }
+    ensures { λ r. ⌜ Stepped finishCall st [] (now (out .entry)) r (now (out .exit)) ⌝ }
 {
     let at = st.position;
     let size = out.len();
@@ -110,7 +110,7 @@ pub fn finish_call(out: &mut [u8], st: State) -> Step
     };
     put::number_at(out, 0, (at - 4) as u64, 4);
     put::number_at(out, st.count_at, st.count as u64, 2);
-    let next = write::finished(st, n);
+    let next = write::finished(n);
     Step {
         answer: a,
         state: next,
@@ -119,7 +119,7 @@ pub fn finish_call(out: &mut [u8], st: State) -> Step
 
 // Writes a parameter of a fixed size: its type, and its value by its upper and lower 64 bits.
 pub fn fixed_param(out: &mut [u8], st: State, t: u8, upper: u64, lower: u64) -> Step
-    ensures { λ r. ⌜ Stepped (oneParam t (fixed (upper * 2 ^ 64 + lower))) st (st .columns .types) (now (out .entry)) r (now (out .exit)) ⌝ }
+    ensures { λ r. ⌜ Stepped (oneParam t (fixed (upper * 2 ^ 64 + lower))) st [] (now (out .entry)) r (now (out .exit)) ⌝ }
 {
     let at = st.position;
     let size = out.len();
@@ -145,7 +145,7 @@ pub fn fixed_param(out: &mut [u8], st: State, t: u8, upper: u64, lower: u64) -> 
 
 // Writes a text or binary parameter: its type, and its bytes or null.
 pub fn body_param(out: &mut [u8], st: State, t: u8, null: bool, s: &[u8]) -> Step
-    ensures { λ r. ⌜ Stepped (oneParam t (body (optional null (now (s .entry))))) st (st .columns .types) (now (out .entry)) r (now (out .exit)) ⌝ }
+    ensures { λ r. ⌜ Stepped (oneParam t (body (optional null (now (s .entry))))) st [] (now (out .entry)) r (now (out .exit)) ⌝ }
 {
     let at = st.position;
     let size = out.len();
@@ -171,7 +171,7 @@ pub fn body_param(out: &mut [u8], st: State, t: u8, null: bool, s: &[u8]) -> Ste
 
 // Writes an array of bytes, in one step.
 pub fn bytes_param(out: &mut [u8], st: State, s: &[u8]) -> Step
-    ensures { λ r. ⌜ Stepped (bytesParam (now (s .entry))) st (st .columns .types) (now (out .entry)) r (now (out .exit)) ⌝ }
+    ensures { λ r. ⌜ Stepped (bytesParam (now (s .entry))) st [] (now (out .entry)) r (now (out .exit)) ⌝ }
 {
     let at = st.position;
     let size = out.len();
@@ -198,7 +198,7 @@ pub fn bytes_param(out: &mut [u8], st: State, s: &[u8]) -> Step
 
 // Writes an element of a fixed size into the open array.
 pub fn fixed_element(out: &mut [u8], st: State, t: u8, upper: u64, lower: u64) -> Step
-    ensures { λ r. ⌜ Stepped (element t (fixed (upper * 2 ^ 64 + lower))) st (st .columns .types) (now (out .entry)) r (now (out .exit)) ⌝ }
+    ensures { λ r. ⌜ Stepped (element t (fixed (upper * 2 ^ 64 + lower))) st [] (now (out .entry)) r (now (out .exit)) ⌝ }
 {
     let at = st.position;
     let size = out.len();
@@ -231,7 +231,7 @@ pub fn fixed_element(out: &mut [u8], st: State, t: u8, upper: u64, lower: u64) -
 
 // Writes a text or binary element into the open array.
 pub fn body_element(out: &mut [u8], st: State, t: u8, null: bool, s: &[u8]) -> Step
-    ensures { λ r. ⌜ Stepped (element t (body (optional null (now (s .entry))))) st (st .columns .types) (now (out .entry)) r (now (out .exit)) ⌝ }
+    ensures { λ r. ⌜ Stepped (element t (body (optional null (now (s .entry))))) st [] (now (out .entry)) r (now (out .exit)) ⌝ }
 {
     let at = st.position;
     let size = out.len();
@@ -266,7 +266,7 @@ pub fn body_element(out: &mut [u8], st: State, t: u8, null: bool, s: &[u8]) -> S
 // Begins an invocation whose client data is a slice.
 fn begin(out: &mut [u8], version: u8, procedure: &[u8], client: &[u8]) -> Step
     requires { ⌜ length (now client) ≡ 8 ⌝ }
-    ensures { λ r. ⌜ Stepped (beginCall version (now (procedure .entry)) (now (client .entry))) zero (replicate mostColumns 0) (now (out .entry)) r (now (out .exit)) ⌝ }
+    ensures { λ r. ⌜ Stepped (beginCall version (now (procedure .entry)) (now (client .entry))) zero [] (now (out .entry)) r (now (out .exit)) ⌝ }
 {
     let a = ask_begin(version, procedure, client, out.len());
     let Answer::Reached(n) = a else {

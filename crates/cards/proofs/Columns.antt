@@ -16,12 +16,12 @@ use Rattle.format.specs.Result.{Res, ok, no, bind, pick}
 use Rattle.format.specs.Number.{numBytes, Bytes}
 use Rattle.format.specs.Format.{counted, room, into, both, ruled, fine, bad}
 use Rattle.format.specs.Value.{isColumn, asciiFrom}
-use Rattle.format.specs.Message.{third, columnType, mostColumns, Metadata, metadata, Table, table, Message, readMessage}
+use Rattle.format.specs.Message.{third, columnType, mostColumns, Metadata, metadata, Table, table, Message, responseLayout, readMessage}
 use Rattle.format.proofs.Results.{ok-same, no-ok, bound}
 use Rattle.format.proofs.Numbers.{length-numBytes}
 use Rattle.query.specs.declared.ColumnLayout.{ColumnLayout}
 use Rattle.query.specs.declared.Position.{Position}
-use Rattle.query.specs.Answers.{entry, perhaps, ofTable, same, nameBytes, columnOf, firstNamed, namedOf, askPlaced, askNamed}
+use Rattle.query.specs.Answers.{entry, perhaps, ofTable, same, nameBytes, columnOf, firstNamed, namedOf, askNamed}
 use Rattle.query.specs.Places.{tablesOf, tableAt, nameAt}
 use Rattle.query.specs.Stands.{Stands}
 use Rattle.query.proofs.Stands.{stands-at}
@@ -103,7 +103,10 @@ told {m} {at} {b} i {l} d e =
     })
 
 -- ---- the column at a card's position
-module _ (m : List ℕ) (t i w : ℕ) (wanted : List ℕ) where
+module _ (timed : Bool) (m : List ℕ) (t i w : ℕ) (wanted : List ℕ) where
+  abbrev placed : Res (Option ColumnLayout)
+  placed = ofTable timed m t (λ at b. ok (perhaps (columnOf at b i)))
+
   abbrev ask : ℕ → Table → Res ℕ
   ask at b = opened b (aCard i w wanted)
 
@@ -112,22 +115,22 @@ module _ (m : List ℕ) (t i w : ℕ) (wanted : List ℕ) where
   misfits (ok a) (no f p) k e = refl
   misfits (no f p) y k e = refl
 
-  pub past-stale : ok none ≡ askPlaced m t i → no Stale 0 ≡ ofTable m t (λ at b. opened b (aCard i w wanted))
+  pub past-stale : ok none ≡ placed → no Stale 0 ≡ ofTable timed m t (λ at b. opened b (aCard i w wanted))
   unfolding fits
   past-stale e =
-      let f = found 4 tablesOf tableAt m t (λ at b. perhaps (columnOf at b i)) e in
-      sym (found-asked 4 tablesOf tableAt m t f ask ∙ ap (λ (z : Bool). pick z (ok i) (no Stale 0)) (misfits (entry (f .part .metadata .types) i) (entry (f .part .metadata .names) i) _ (f .is)))
+      let f = found (responseLayout timed) tablesOf (tableAt timed) m t (λ at b. perhaps (columnOf at b i)) e in
+      sym (found-asked (responseLayout timed) tablesOf (tableAt timed) m t f ask ∙ ap (λ (z : Bool). pick z (ok i) (no Stale 0)) (misfits (entry (f .part .metadata .types) i) (entry (f .part .metadata .names) i) _ (f .is)))
 
-  module _ (all : Bytes m) {l : ColumnLayout} (e : ok (some l) ≡ askPlaced m t i) where
+  module _ (all : Bytes m) {l : ColumnLayout} (e : ok (some l) ≡ placed) where
     pub inside : l .name + l .«name_length» ≤ length m
-    inside = let f = found 4 tablesOf tableAt m t (λ at b. perhaps (columnOf at b i)) e in told i (table-stands m all (f .message) (f .accepted) t (f .there)) (some-ok _ (f .is)) .inside
+    inside = let f = found (responseLayout timed) tablesOf (tableAt timed) m t (λ at b. perhaps (columnOf at b i)) e in told i (table-stands timed m all (f .message) (f .accepted) t (f .there)) (some-ok _ (f .is)) .inside
 
-    pub opens-by : pick (eqb (l .«wire_type») w && same (take (l .«name_length») (drop (l .name) m)) wanted) (ok i) (no Stale 0) ≡ ofTable m t (λ at b. opened b (aCard i w wanted))
+    pub opens-by : pick (eqb (l .«wire_type») w && same (take (l .«name_length») (drop (l .name) m)) wanted) (ok i) (no Stale 0) ≡ ofTable timed m t (λ at b. opened b (aCard i w wanted))
     unfolding fits
     opens-by =
-        let f = found 4 tablesOf tableAt m t (λ at b. perhaps (columnOf at b i)) e in
-        let c = told i (table-stands m all (f .message) (f .accepted) t (f .there)) (some-ok _ (f .is)) in
-        sym (found-asked 4 tablesOf tableAt m t f ask ∙ rw (c .typed, c .named, c .part))
+        let f = found (responseLayout timed) tablesOf (tableAt timed) m t (λ at b. perhaps (columnOf at b i)) e in
+        let c = told i (table-stands timed m all (f .message) (f .accepted) t (f .there)) (some-ok _ (f .is)) in
+        sym (found-asked (responseLayout timed) tablesOf (tableAt timed) m t f ask ∙ rw (c .typed, c .named, c .part))
 
 -- ---- the first column of a name
 module _ (m : List ℕ) (t : ℕ) (wanted : List ℕ) where
@@ -152,9 +155,9 @@ module _ (m : List ℕ) (t : ℕ) (wanted : List ℕ) where
       by-table at (ok b) e = by-name b at (firstNamed wanted (b .metadata .names) 0) refl e
       by-table at (no x q) e = sym (retold e)
 
-      by-message : (x : Res Message) → no f p ≡ bind x (λ r. bind (entry (tablesOf r) t) (λ b. namedOf (tableAt r t) b wanted))
-          → bind x (λ r. bind (entry (tablesOf r) t) (λ b. cardOf (tableAt r t) b wanted)) ≡ no f p
-      by-message (ok r) e = by-table (tableAt r t) (entry (tablesOf r) t) e
+      by-message : (x : Res Message) → no f p ≡ bind x (λ r. bind (entry (tablesOf r) t) (λ b. namedOf (tableAt true r t) b wanted))
+          → bind x (λ r. bind (entry (tablesOf r) t) (λ b. cardOf (tableAt true r t) b wanted)) ≡ no f p
+      by-message (ok r) e = by-table (tableAt true r t) (entry (tablesOf r) t) e
       by-message (no x q) e = sym (retold e)
 
   -- where there is one, there is, if its name is short
@@ -171,17 +174,17 @@ module _ (m : List ℕ) (t : ℕ) (wanted : List ℕ) where
       let r = bound (readMessage 4 m) (sym e) in
       let q = bound (entry (tablesOf (r .0)) t) (r .2) in
       let b = q .0 in
-      let at = tableAt (r .0) t in
+      let at = tableAt true (r .0) t in
       let n = bound (firstNamed wanted (b .metadata .names) 0) (q .2) in
       let y = bound (columnOf at b (n .0)) (n .2) in
       let pair = ok-same (y .2) in
       let first : n .0 ≡ i = ap (λ (z : ℕ × ColumnLayout). z .0) pair in
       let layout : y .0 ≡ l = ap (λ (z : ℕ × ColumnLayout). z .1) pair in
-      let c = told (n .0) (table-stands m all (r .0) (r .1) t (q .1)) (y .1) in
+      let c = told (n .0) (table-stands true m all (r .0) (r .1) t (q .1)) (y .1) in
       let starts = c .starts in
       let place : y .0 .name - 4 ≡ nameAt at (b .metadata) (n .0) = omega arith in
       let is : askCard m t wanted ≡ shortNamed (y .0 .name - 4) (aCard (n .0) (y .0 .«wire_type») wanted)
-      = ap (λ (z : Res Message). bind z (λ v. bind (entry (tablesOf v) t) (λ x. cardOf (tableAt v t) x wanted))) (r .1)
+      = ap (λ (z : Res Message). bind z (λ v. bind (entry (tablesOf v) t) (λ x. cardOf (tableAt true v t) x wanted))) (r .1)
       ∙ ap (λ (z : Res Table). bind z (λ x. cardOf at x wanted)) (q .1)
       ∙ ap (λ (z : Res ℕ). bind z (λ j. bind (entry (b .metadata .types) j) (λ a. shortNamed (nameAt at (b .metadata) j) (aCard j a wanted)))) (n .1)
       ∙ ap (λ (z : Res ℕ). bind z (λ a. shortNamed (nameAt at (b .metadata) (n .0)) (aCard (n .0) a wanted))) (c .typed)

@@ -185,8 +185,8 @@ module _ (m : List ℕ) (t : ℕ) (bs : List ℕ) where
     same-card : {a b c d : ℕ} {x y : List ℕ} → a ≡ b → c ≡ d → x ≡ y → aCard a c x ≡ aCard b d y
     same-card e f g = rw (e, f, g)
 
-    pub opens-as : ofTable m t (λ at b. opened b (aCard p w (take (namePlace + n - namePlace) (drop namePlace bs)))) ≡ askOpen m t bs
+    pub opens-as : ofTable true m t (λ at b. opened b (aCard p w (take (namePlace + n - namePlace) (drop namePlace bs)))) ≡ askOpen m t bs
     opens-as =
         let part : take (namePlace + n - namePlace) (drop namePlace bs) ≡ s .card .name = ap (λ (k : ℕ). take k (drop namePlace bs)) (add-sub-cancel-left namePlace n ∙ sym (s .size)) ∙ name-in bs (s .card) (s .formed) .1 in
         let card : aCard p w (take (namePlace + n - namePlace) (drop namePlace bs)) ≡ s .card = same-card (sym (s .position)) (sym (s .type)) part in
-        ap (λ (c : Card). ofTable m t (λ at b. opened b c)) card ∙ sym (ap (λ (z : Res Card). bind (readMessage 4 m) (λ r. bind z (λ c. bind (entry (tablesOf r) t) (λ b. opened b c)))) (s .formed))
+        ap (λ (c : Card). ofTable true m t (λ at b. opened b c)) card ∙ sym (ap (λ (z : Res Card). bind (readMessage 4 m) (λ r. bind z (λ c. bind (entry (tablesOf r) t) (λ b. opened b c)))) (s .formed))

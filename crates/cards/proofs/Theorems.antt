@@ -91,9 +91,9 @@ made-from m all t wanted c e =
     let d = q .0 .metadata in
     let i = bound (firstNamed wanted (d .names) 0) (q .2) in
     let y = bound (entry (d .types) (i .0)) (i .2) in
-    let w = passed (leb (length wanted) mostName) Limit (nameAt (tableAt (r .0) t) d (i .0)) (y .2) in
+    let w = passed (leb (length wanted) mostName) Limit (nameAt (tableAt true (r .0) t) d (i .0)) (y .2) in
     let first = finds-first wanted (d .names) (i .0) (i .1) in
-    let md = metadata-stands (table-stands m all (r .0) (r .1) t (q .1)) in
+    let md = metadata-stands (table-stands true m all (r .0) (r .1) t (q .1)) in
     let below = entry-below (d .types) (i .0) (y .1) in
     let few = few-columns md in
     let good : GoodCard (aCard (i .0) (y .0) wanted) = record { near = omega arith; column = column-type md (i .0) (y .1); short = leb-true (length wanted) mostName (w .0); low = column-name md (i .0) (first .there) } in

@@ -1,7 +1,7 @@
 -- What making and opening a card are answered with.
 use Prim.Native.Nat.{ℕ}
 use mathlib.Core.Path.{_≡_}
-use mathlib.Core.Bool.{Bool, false, _&&_}
+use mathlib.Core.Bool.{Bool, true, false, _&&_}
 use mathlib.Core.List.{List, _++_}
 use mathlib.Core.Option.{Option}
 use lib.ListN.{length, drop}
@@ -43,7 +43,7 @@ abbrev pub cardOf : ℕ → Table → List ℕ → Res Card
 cardOf at b name = bind (firstNamed name (b .metadata .names) 0) (λ i. bind (entry (b .metadata .types) i) (λ t. shortNamed (nameAt at (b .metadata) i) (aCard i t name)))
 
 abbrev pub askCard : List ℕ → ℕ → List ℕ → Res Card
-askCard m t name = ofTable m t (λ at b. cardOf at b name)
+askCard m t name = ofTable true m t (λ at b. cardOf at b name)
 
 -- making it in a buffer of so many bytes
 abbrev pub askMade : List ℕ → ℕ → List ℕ → ℕ → Res Card

@@ -16,7 +16,7 @@ ghost use lib.ListN.{length, getD, take, drop};
 ghost use lib.Dec.{eqb};
 ghost use Rattle.format.specs.declared.Fault.the-variants.{CardForm};
 ghost use Rattle.format.specs.Result.{no, bind};
-ghost use Rattle.format.specs.Message.{readMessage};
+ghost use Rattle.format.specs.Message.{readMessage, responseLayout};
 ghost use Rattle.scan.specs.Shown.{refusal};
 ghost use Rattle.query.specs.Answers.{ofTable, same, toldPosition};
 ghost use Rattle.cards.specs.Card.{aCard, nameByte, wrongFrom, cardBody, cardForm, cardBytes, cardSize, mostPosition, mostName};
@@ -171,11 +171,11 @@ fn is_alike(m: &[u8], column: ColumnLayout, wire_type: u8, name: &[u8]) -> bool
     same_bytes(&m[start..end], name)
 }
 
-// Opens a card that says this.
-fn open_at(m: &[u8], t: usize, position: usize, wire_type: u8, name: &[u8]) -> Position
-    ensures { λ r. ⌜ toldPosition r ≡ ofTable (now (m .entry)) t (λ at b. opened b (aCard position «wire_type» (now (name .entry)))) ⌝ }
+// Opens a card that says this, in a response with its round trip or without.
+fn open_at(m: &[u8], timed: bool, t: usize, position: usize, wire_type: u8, name: &[u8]) -> Position
+    ensures { λ r. ⌜ toldPosition r ≡ ofTable timed (now (m .entry)) t (λ at b. opened b (aCard position «wire_type» (now (name .entry)))) ⌝ }
 {
-    let placed = query::placed_column(m, t, position);
+    let placed = query::find_placed(m, timed, t, position);
     match placed {
         Placed::No(r) => Position::No(r),
         Placed::Past => Position::No(STALE),
@@ -190,10 +190,10 @@ fn open_at(m: &[u8], t: usize, position: usize, wire_type: u8, name: &[u8]) -> P
 }
 
 // A refusal that the message's own comes before.
-fn after_message(m: &[u8], r: Refusal) -> Position
-    ensures { λ x. ⌜ toldPosition x ≡ bind (readMessage 4 (now (m .entry))) (λ p. no (r .fault) (r .place)) ⌝ }
+fn after_message(m: &[u8], timed: bool, r: Refusal) -> Position
+    ensures { λ x. ⌜ toldPosition x ≡ bind (readMessage (responseLayout timed) (now (m .entry))) (λ p. no (r .fault) (r .place)) ⌝ }
 {
-    let verdict = message::accept(4, m);
+    let verdict = message::accept_layout(format::response_layout(timed), m);
     match verdict {
         Verdict::No(own) => Position::No(own),
         Verdict::Fine => Position::No(r),
@@ -206,10 +206,10 @@ pub fn open_card(m: &[u8], t: usize, card: &[u8]) -> Position
 {
     let form = read_card(card);
     match form {
-        Form::No(r) => after_message(m, r),
+        Form::No(r) => after_message(m, true, r),
         Form::Is(position, wire_type, size) => {
             let end = NAME + size;
-            open_at(m, t, position as usize, wire_type, &card[NAME..end])
+            open_at(m, true, t, position as usize, wire_type, &card[NAME..end])
         }
     }
 }

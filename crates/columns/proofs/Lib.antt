@@ -1,6 +1,9 @@
--- The proofs. Entries that are walked one by one (Walk), the bytes of names and metadata (Metadata), the step (Opens); what is gathered of a list opens the table
--- that the list does (Lent).
-pub mod Walk
+-- The proofs. What a name's fault is (Names); what is written of columns (Metadata); what is put apart (Apart); what a survey finds
+-- (Surveys); what is written around them (Heads); what the walk that writes them leaves (Pages); and that both are the step of the definition (Opens).
+pub mod Names
 pub mod Metadata
+pub mod Apart
+pub mod Surveys
+pub mod Heads
+pub mod Pages
 pub mod Opens
-pub mod Lent

@@ -1,4 +1,4 @@
--- What the step makes of its columns: where nothing is wrong with them their names stand in their buffer, and what is written is the plan's.
+-- What is written of columns: where nothing is wrong with them their names stand in their buffer, and their bytes are the metadata's.
 use Prim.Native.Nat.{ℕ, zero, suc, _+_, _-_, _<_, _≤_}
 use native.Mathlib.Omega.{arith}
 use mathlib.Core.Path.{_≡_, refl, sym, ap, ap₂, _∙_}
@@ -22,9 +22,7 @@ use Rattle.write.specs.State.{allColumns}
 use Rattle.write.specs.Steps.{also, test, placed, nameFault, nameFaults, typesOf, metadataOf}
 use Rattle.write.proofs.Back.{also-fine, test-fine}
 use Rattle.columns.specs.declared.Column.{Column as Entry}
-use Rattle.columns.specs.declared.Gathered.{Gathered}
-use Rattle.columns.specs.Entries.{noEntry, nameOf, columnsOf, entriesIn, typesIn, typeBytes, nameBytes, namesSize, columnsFault, Placed}
-use Rattle.columns.proofs.Walk.{entries-length, entry-at, sizes-more, flat-more}
+use Rattle.columns.specs.Entries.{nameOf, columnsOf, typesIn, typeBytes, nameBytes, namesSize}
 
 -- columns are as many as their entries, and have their types
 pub columns-length : (es : List Entry) (names : List ℕ) → length (columnsOf es names) ≡ length es
@@ -35,7 +33,7 @@ types-same [] names = refl
 types-same (e ∷ es) names = ap (λ (ts : List ℕ). e .«wire_type» ∷ ts) (types-same es names)
 
 -- a name that has no fault stands in its buffer and is short
-name-fine : (p : ℕ) (names : List ℕ) (e : Entry) → nameFault p (nameOf names e) ≡ fine → (e .start + e .size ≤ length names) × (e .size ≤ mostBytes)
+pub name-fine : (p : ℕ) (names : List ℕ) (e : Entry) → nameFault p (nameOf names e) ≡ fine → (e .start + e .size ≤ length names) × (e .size ≤ mostBytes)
 unfolding nameOf
 name-fine p names e = go (leb (e .start + e .size) (length names)) refl
   where
@@ -49,25 +47,17 @@ name-fine p names e = go (leb (e .start + e .size) (length names)) refl
         (inside, omega arith)
     go false i f = absurd (let z : _≡_ {A = ℕ} 0 1 = cc in omega arith)
 
-fault-at : (p : ℕ) (names : List ℕ) (es : List Entry) (i : ℕ) → i < length es → nameFaults p (columnsOf es names) ≡ fine → nameFault p (nameOf names (getD es i noEntry)) ≡ fine
-unfolding nameFaults
-fault-at p names [] i h f = absurd (omega arith)
-fault-at p names (e ∷ es) zero h f = also-fine (nameFault p (nameOf names e)) (nameFaults p (columnsOf es names)) f .0
-fault-at p names (e ∷ es) (suc i) h f = fault-at p names es i (omega arith) (also-fine (nameFault p (nameOf names e)) (nameFaults p (columnsOf es names)) f .1)
+-- names that stand in their buffer
+unfoldable pub Standing : List ℕ → List Entry → Type 0
+Standing names [] = Unit
+Standing names (e ∷ es) = (e .start + e .size ≤ length names) × Standing names es
 
-pub columns-placed : (p : ℕ) (names : List ℕ) (g : Gathered) → length (g .cols) ≡ 64 → columnsFault p (columnsOf (entriesIn g) names) ≡ fine → Placed g names
-columns-placed p names g h f =
-    let cs = columnsOf (entriesIn g) names in
-    let n = entries-length g h in
-    let same = columns-length (entriesIn g) names in
-    let a = also-fine (test (leb (length cs) mostColumns) Limit p) (also (test (allColumns (typesOf cs)) WireType p) (nameFaults p cs)) f in
-    let b = also-fine (test (allColumns (typesOf cs)) WireType p) (nameFaults p cs) (a .1) in
-    let few : g .n ≤ mostColumns = let m = leb-true (length cs) mostColumns (test-fine _ Limit p (a .0)) in omega arith in
-    let each-one : (i : ℕ) → i < g .n → (getD (g .cols) i noEntry .start + getD (g .cols) i noEntry .size ≤ length names) × (getD (g .cols) i noEntry .size ≤ mostBytes) =
-    λ i less.
-    let there : getD (entriesIn g) i noEntry ≡ getD (g .cols) i noEntry = entry-at g few i less in
-    name-fine p names (getD (g .cols) i noEntry) (rw there at (fault-at p names (entriesIn g) i (omega arith) (b .1))) in
-    record { limits = record { few = few; short = λ i less. each-one i less .1 }; inside = λ i less. each-one i less .0 }
+pub all-standing : (p : ℕ) (names : List ℕ) (es : List Entry) → nameFaults p (columnsOf es names) ≡ fine → Standing names es
+unfolding nameFaults Standing
+all-standing p names [] f = tt
+all-standing p names (e ∷ es) f =
+    let a = also-fine (nameFault p (nameOf names e)) (nameFaults p (columnsOf es names)) f in
+    (name-fine p names e (a .0) .0, all-standing p names es (a .1))
 
 -- a name in its buffer
 pub name-there : (names : List ℕ) (e : Entry) → e .start + e .size ≤ length names → nameOf names e ≡ some (take (e .size) (drop (e .start) names))
@@ -101,25 +91,14 @@ name-judged p names e {u} {v} {w} h i j k =
     let l : length bs ≡ e .size = length-take-le (e .size) (drop (e .start) names) (omega arith) in
     i ∙ ap₂ also (j ∙ ap (λ (m : ℕ). test (leb m mostBytes) Limit p) (sym l)) (k ∙ ap (λ (m : ℕ). placed p (ascii (take m (drop (e .start) names)))) same) ∙ ap (nameFault p) (sym (name-there names e h))
 
-sizes-upto : (names : List ℕ) (l : List Entry) → ((i : ℕ) → i < length l → getD l i noEntry .start + getD l i noEntry .size ≤ length names)
-    → (k : ℕ) → k ≤ length l → length (flatMap (nameBytes names) (take k l)) ≡ namesSize (take k l)
-unfolding flatMap namesSize
-sizes-upto names l inside zero m = refl
-sizes-upto names l inside (suc k) m =
-    let e : suc k ≡ k + 1 = omega arith in
-    let so-far = sizes-upto names l inside k (omega arith) in
-    let bytes = ap length (flat-more (nameBytes names) l k noEntry (omega arith)) in
-    let sum = length-append (flatMap (nameBytes names) (take k l)) (nameBytes names (getD l k noEntry)) in
-    let one = name-size names (getD l k noEntry) (inside k (omega arith)) in
-    let sizes = sizes-more l k (omega arith) in
-    rw e (omega arith)
-
-pub names-length : (names : List ℕ) (g : Gathered) → length (g .cols) ≡ 64 → Placed g names → length (flatMap (nameBytes names) (entriesIn g)) ≡ namesSize (entriesIn g)
-names-length names g h p =
-    let l = entriesIn g in
-    let n = entries-length g h in
-    let stand : (i : ℕ) → i < length l → getD l i noEntry .start + getD l i noEntry .size ≤ length names = λ i less. let k : i < g .n = omega arith in rw (entry-at g (p .limits .few) i k) (p .inside i k) in
-    rw take-length at (sizes-upto names l stand (length l) (omega arith))
+pub names-length : (names : List ℕ) (es : List Entry) → Standing names es → length (flatMap (nameBytes names) es) ≡ namesSize es
+unfolding flatMap namesSize Standing
+names-length names [] h = refl
+names-length names (e ∷ es) h =
+    let sum = length-append (nameBytes names e) (flatMap (nameBytes names) es) in
+    let one = name-size names e (h .0) in
+    let rest = names-length names es (h .1) in
+    omega arith
 
 -- the metadata, part by part
 text-bytes : (o : Option (List ℕ)) → string false ascii 46 47 .bytes o ≡ sized o
@@ -172,16 +151,12 @@ metadata-length status es names =
     let d = inside-length status es names in
     omega arith
 
--- what is written of the metadata of columns that have no fault: their length is that of what follows it
-pub metadata-is : (status : ℕ) (names : List ℕ) (g : Gathered) → length (g .cols) ≡ 64 → Placed g names → {size : ℕ} → size ≡ 3 + (g .n + namesSize (entriesIn g))
-    → numBytes 4 size ++ (numBytes 1 status ++ (numBytes 2 (g .n) ++ (flatMap typeBytes (entriesIn g) ++ flatMap (nameBytes names) (entriesIn g)))) ≡ metadata .bytes (metadataOf status (columnsOf (entriesIn g) names))
-metadata-is status names g h p {size} e =
-    let es = entriesIn g in
-    let n = entries-length g h in
-    let l = names-length names g h p in
-    let k = inside-length status es names in
-    let same : size ≡ length (inside status es names) = omega arith in
-    sym (metadata-parts status es names ∙ ap₂ (λ (m x : ℕ). numBytes 4 m ++ (numBytes 1 status ++ (numBytes 2 x ++ (flatMap typeBytes es ++ flatMap (nameBytes names) es)))) (sym same) n)
+-- what is written of the metadata: their length is that of what follows it
+pub metadata-is : (status : ℕ) (names : List ℕ) (es : List Entry) {n size : ℕ} → n ≡ length es → size ≡ 3 + (length es + length (flatMap (nameBytes names) es))
+    → numBytes 4 size ++ (numBytes 1 status ++ (numBytes 2 n ++ (flatMap typeBytes es ++ flatMap (nameBytes names) es))) ≡ metadata .bytes (metadataOf status (columnsOf es names))
+metadata-is status names es {n} {size} e f =
+    let same : size ≡ length (inside status es names) = f ∙ sym (inside-length status es names) in
+    sym (metadata-parts status es names ∙ ap₂ (λ (m x : ℕ). numBytes 4 m ++ (numBytes 1 status ++ (numBytes 2 x ++ (flatMap typeBytes es ++ flatMap (nameBytes names) es)))) (sym same) (sym e))
 
 -- what the step writes
 pub around : (m : List ℕ) → length (numBytes 4 0 ++ (m ++ numBytes 4 0)) ≡ 8 + length m

@@ -1,20 +1,18 @@
 -- The columns that a caller gives: entries, each with a type and a name's place in a name buffer.
-use Prim.Native.Nat.{ℕ, _+_, _<_, _≤_}
+use Prim.Native.Nat.{ℕ, _+_}
 use mathlib.Core.List.{List, [], _∷_, map}
 use mathlib.Core.Option.{Option, some, none}
-use lib.ListN.{length, take, drop, getD, replicate}
+use lib.ListN.{length, take, drop}
 use lib.Dec.{leb}
 use Rattle.format.specs.declared.Fault.the-variants.{Limit, WireType}
 use Rattle.format.specs.Result.{pick}
 use Rattle.format.specs.Number.{numBytes}
 use Rattle.format.specs.Format.{Verdict}
-use Rattle.format.specs.Value.{mostBytes}
 use Rattle.format.specs.Message.{mostColumns}
 use Rattle.put.specs.Put.{sized}
 use Rattle.write.specs.State.{allColumns}
 use Rattle.write.specs.Steps.{Column, also, test, nameFaults, typesOf}
 use Rattle.columns.specs.declared.Column.{Column as Entry}
-use Rattle.columns.specs.declared.Gathered.{Gathered}
 
 -- what stands where an entry is not told
 abbrev pub noEntry : Entry
@@ -30,10 +28,6 @@ columnOf names e = record { type = e .«wire_type»; name = nameOf names e }
 -- the columns that entries stand for, with a name buffer
 abbrev pub columnsOf : List Entry → List ℕ → List Column
 columnsOf es names = map (columnOf names) es
-
--- the entries that were gathered: the first n of the array. Of more than a table may have only their number counts
-unfoldable pub entriesIn : Gathered → List Entry
-entriesIn g = pick (leb (g .n) mostColumns) (take (g .n) (g .cols)) (replicate (g .n) noEntry)
 
 abbrev pub typesIn : List Entry → List ℕ
 typesIn es = map (λ e. e .«wire_type») es
@@ -53,13 +47,3 @@ namesSize (e ∷ es) = 4 + e .size + namesSize es
 -- what is wrong with columns, in wire order: their number, their types, their names
 abbrev pub columnsFault : ℕ → List Column → Verdict
 columnsFault p cs = also (test (leb (length cs) mostColumns) Limit p) (also (test (allColumns (typesOf cs)) WireType p) (nameFaults p cs))
-
--- columns that are not too many, with names that are not too long
-pub record Short (g : Gathered) : Type 0 where
-  pub few : g .n ≤ mostColumns
-  pub short : (i : ℕ) → i < g .n → getD (g .cols) i noEntry .size ≤ mostBytes
-
--- and that stand in their buffer
-pub record Placed (g : Gathered) (names : List ℕ) : Type 0 where
-  pub limits : Short g
-  pub inside : (i : ℕ) → i < g .n → getD (g .cols) i noEntry .start + getD (g .cols) i noEntry .size ≤ length names

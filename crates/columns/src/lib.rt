@@ -1,25 +1,24 @@
-// The step that opens a table. Its columns are entries, each with a type and a name's place in a name buffer.
+// The step that opens a table. Its columns are entries, each with a type and a name's place in a name buffer. They are looked at one by one,
+// then what stands around them is written, and then they are, one by one again: so a table costs what its columns cost, wherever they are lent.
 use format::Fault;
 use format::Refusal;
 use write::Answer;
+use write::COLUMNS;
 use write::Check;
-use write::Columns;
 use write::Stage;
 use write::State;
 use write::Step;
 ghost use mathlib.Core.Path.{_≡_};
 ghost use Prim.Native.Nat.{_+_, _*_, _<_, _≤_};
-ghost use mathlib.Core.List.{[], flatMap};
 ghost use lib.ListN.{length};
 ghost use lib.Dec.{leb};
-ghost use Rattle.format.specs.Value.{ascii, mostBytes};
-ghost use Rattle.format.specs.Message.{metadata, mostColumns, mostItems};
+ghost use Rattle.format.specs.Value.{ascii};
+ghost use Rattle.format.specs.Message.{mostColumns, mostItems};
 ghost use Rattle.put.specs.Put.{put};
-ghost use Rattle.write.specs.State.{allColumns};
-ghost use Rattle.write.specs.Steps.{answerOf, plan, openTable, placed, nameFault, nameFaults, typesOf, metadataOf};
-ghost use Rattle.write.specs.Shown.{seen, shown, shownAnswer, verdictOf, padded, Stepped};
-ghost use Rattle.columns.specs.Gathers.{empty, added};
-ghost use Rattle.columns.specs.Entries.{nameOf, entriesIn, columnsOf, typesIn, typeBytes, nameBytes, namesSize, columnsFault, Short, Placed};
+ghost use Rattle.write.specs.Steps.{placed, nameFault};
+ghost use Rattle.write.specs.Shown.{shownAnswer, verdictOf};
+ghost use Rattle.columns.specs.Entries.{nameOf, nameBytes};
+ghost use Rattle.columns.specs.Walks.{noneAt, nextFault, added, Bounded, surveyFault, headAnswer, headBytes, openedAt, headOf, headOut, Fits, moved, columnOut, columnTypes};
 
 // A column: its type, and where its name stands in a name buffer.
 pub struct Column {
@@ -28,125 +27,190 @@ pub struct Column {
     pub size: usize,
 }
 
-// The columns of a table: how many, and the first 64 of them. Of more than 64 only their number counts.
-pub struct Gathered {
+// What was found of columns, one after the other: how many they are, whether their types are columns', the first fault of their names, and how
+// many bytes their names have, with their lengths. Of more than a table may have only that counts. `at` is the writer's position, where faults stand.
+pub struct Survey {
+    pub at: usize,
     pub n: usize,
-    pub cols: [Column; 64],
+    pub kinds: bool,
+    pub fault: Check,
+    pub size: usize,
 }
 
-// Opens a table: its length and its row count hold zeros until it is closed, its metadata are written.
-pub fn open_gathered(out: &mut [u8], st: State, status: u8, cols: Gathered, names: &[u8]) -> Step
-    ensures { λ r. ⌜ Stepped (openTable status (columnsOf (entriesIn cols) (now (names .entry)))) st (padded (typesOf (columnsOf (entriesIn cols) (now (names .entry))))) (now (out .entry)) r (now (out .exit)) ⌝ }
+// Where the next column is written, of so many that are left: the place of its type in the memory for types, and in the output those of its
+// type and of its name.
+pub struct Walk {
+    pub left: usize,
+    pub i: usize,
+    pub kind_at: usize,
+    pub name_at: usize,
+}
+
+// What was written around the columns: the step that was made, and where they go. Of a step that was refused none are left.
+pub struct Head {
+    pub step: Step,
+    pub walk: Walk,
+}
+
+// No column yet, for a table that a state's next step opens.
+pub fn no_columns(st: State) -> Survey
+    ensures { λ r. ⌜ r ≡ noneAt (st .position) ⌝ }
 {
-    let a = ask_open_table(st, cols, names, out.len());
+    Survey {
+        at: st.position,
+        n: 0,
+        kinds: true,
+        fault: Check::Fine,
+        size: 0,
+    }
+}
+
+// One column more. Behind the first fault of a name none is looked for.
+pub fn surveyed(s: Survey, c: Column, names: &[u8]) -> Survey
+    requires { ⌜ Bounded s ⌝ }
+    ensures { λ r. ⌜ r ≡ added (now (names .entry)) s c ⌝ }
+{
+    let before = s.fault;
+    if COLUMNS <= s.n {
+        return Survey {
+            at: s.at,
+            n: COLUMNS + 1,
+            kinds: s.kinds,
+            fault: before,
+            size: s.size,
+        };
+    }
+    let kinds = write::both(scan::is_column(c.wire_type), s.kinds);
+    let fault = next_fault(s.at, before, c, names);
+    let Check::Fine = fault else {
+        return Survey {
+            at: s.at,
+            n: s.n + 1,
+            kinds: kinds,
+            fault: fault,
+            size: s.size,
+        };
+    };
+    Survey {
+        at: s.at,
+        n: s.n + 1,
+        kinds: kinds,
+        fault: fault,
+        size: s.size + (4 + c.size),
+    }
+}
+
+// The first fault of the names so far, and of one more.
+fn next_fault(at: usize, before: Check, c: Column, names: &[u8]) -> Check
+    ensures { λ r. ⌜ r ≡ nextFault at (now (names .entry)) before c ⌝ }
+{
+    let Check::Fine = before else {
+        return before;
+    };
+    name_fault(at, c, names)
+}
+
+// Opens a table with the columns that were looked at: writes what stands around them, where the step is taken. Its length and its row count
+// hold zeros until it is closed.
+pub fn open_head(out: &mut [u8], st: State, status: u8, s: Survey) -> Head
+    requires { ⌜ Bounded s ⌝ }
+    ensures { λ r. ⌜ (r ≡ headOf st s (headAnswer st s (length (now (out .entry))))) × (now (out .exit) ≡ headOut st status s (headAnswer st s (length (now (out .entry)))) (now (out .entry))) ⌝ }
+{
+    let a = ask_open_table(st, s, out.len());
     let Answer::Reached(n) = a else {
-        return Step {
+        let step = Step {
             answer: a,
             state: st,
         };
+        let walk = Walk {
+            left: 0,
+            i: 0,
+            kind_at: 0,
+            name_at: 0,
+        };
+        return Head { step, walk };
     };
-    let metadata = put::number_at(out, st.position, 0, 4);
-    let rows = metadata_at(out, metadata, status, cols, names);
-    put::number_at(out, rows, 0, 4);
-    let next = opened(st, n, cols);
-    Step {
+    let kinds = head_at(out, st.position, status, s);
+    put::number_at(out, n - 4, 0, 4);
+    let step = Step {
         answer: a,
-        state: next,
-    }
+        state: opened(st, n, s.n),
+    };
+    let walk = Walk {
+        left: s.n,
+        i: 0,
+        kind_at: kinds,
+        name_at: kinds + s.n,
+    };
+    Head { step, walk }
 }
 
-// No column yet.
-pub fn no_columns() -> Gathered
-    ensures { λ r. ⌜ r ≡ empty ⌝ }
+// Writes a column, where any is left, and says where the next goes.
+pub fn put_column(
+    out: &mut [u8],
+    types: &mut [u8; COLUMNS],
+    w: Walk,
+    c: Column,
+    names: &[u8],
+) -> Walk
+    requires { ⌜ Fits (now names) (length (now out)) w c ⌝ }
+    ensures { λ r. ⌜ (r ≡ moved (now (names .entry)) w c) × (now (out .exit) ≡ columnOut (now (names .entry)) w c (now (out .entry))) × (now (types .exit) ≡ columnTypes w c (now (types .entry))) ⌝ }
 {
-    Gathered {
-        n: 0,
-        cols: [Column {
-            wire_type: 0,
-            start: 0,
-            size: 0,
-        }; 64],
+    if w.left == 0 {
+        return w;
+    }
+    let i = w.i;
+    types[i] = c.wire_type;
+    let kind = put::number_at(out, w.kind_at, c.wire_type as u64, 1);
+    let name = name_at(out, w.name_at, c, names);
+    Walk {
+        left: w.left - 1,
+        i: i + 1,
+        kind_at: kind,
+        name_at: name,
     }
 }
 
-// One column more. A 65th is only counted, and so is every one behind it.
-pub fn with_column(g: Gathered, c: Column) -> Gathered
-    ensures { λ r. ⌜ r ≡ added g c ⌝ }
+// The parts of a head.
+pub fn step_in(h: Head) -> Step
+    ensures { λ r. ⌜ r ≡ h .step ⌝ }
 {
-    let n = g.n;
-    if n < 64 {
-        let mut more = g;
-        more.cols[n] = c;
-        more.n = n + 1;
-        return more;
-    }
-    let mut more = g;
-    more.n = 65;
-    more
+    h.step
 }
 
-// What the step is answered, in a buffer of so many bytes. On the table's status it doesn't depend.
-fn ask_open_table(st: State, cols: Gathered, names: &[u8], size: usize) -> Answer
-    ensures { λ r. ⌜ r ≡ shownAnswer (answerOf (plan (openTable 0 (columnsOf (entriesIn cols) (now (names .entry)))) (seen st) size) size) ⌝ }
+pub fn walk_in(h: Head) -> Walk
+    ensures { λ r. ⌜ r ≡ h .walk ⌝ }
+{
+    h.walk
+}
+
+// What the step is answered, in a buffer of so many bytes.
+fn ask_open_table(st: State, s: Survey, size: usize) -> Answer
+    requires { ⌜ Bounded s ⌝ }
+    ensures { λ r. ⌜ r ≡ shownAnswer (headAnswer st s size) ⌝ }
 {
     let permitted = write::at_reply(st, size);
-    let fault = columns_fault(st.position, cols, names);
-    let Check::Fine = fault else {
-        return write::judge(permitted, fault, true, st.position, 0, size);
-    };
+    let fault = survey_fault(s);
     let more = write::one_more(st.count, write::MOST_ITEMS);
-    // The table's length, the metadata's and the row count have 4 bytes each.
-    let bytes = 12 + metadata_size(cols);
-    write::judge(permitted, fault, more, st.position, bytes, size)
+    // The table's length, the metadata's and the row count have 4 bytes each, status and column count 3.
+    write::judge(
+        permitted,
+        fault,
+        more,
+        st.position,
+        15 + (s.n + s.size),
+        size,
+    )
 }
 
 // What is wrong with the columns: their number, their types, their names.
-fn columns_fault(at: usize, cols: Gathered, names: &[u8]) -> Check
-    ensures { λ r. ⌜ verdictOf r ≡ columnsFault at (columnsOf (entriesIn cols) (now (names .entry))) ⌝ }
+fn survey_fault(s: Survey) -> Check
+    ensures { λ r. ⌜ verdictOf r ≡ surveyFault s ⌝ }
 {
-    if format::MOST_COLUMNS < cols.n as u64 {
-        return Check::Bad(Refusal {
-            fault: Fault::Limit,
-            place: at,
-        });
-    }
-    let kinds = write::test(all_columns(cols), Fault::WireType, at);
-    write::also(kinds, names_fault(at, cols, names))
-}
-
-// Whether the types are columns'.
-fn all_columns(cols: Gathered) -> bool
-    requires { ⌜ cols .n ≤ mostColumns ⌝ }
-    ensures { λ r. ⌜ r ≡ allColumns (typesIn (entriesIn cols)) ⌝ }
-{
-    let n = cols.n;
-    let mut i = 0;
-    while i < n {
-        let c = cols.cols[i];
-        if !scan::is_column(c.wire_type) {
-            return false;
-        }
-        i += 1;
-    }
-    true
-}
-
-// The first fault of the names, in wire order.
-fn names_fault(at: usize, cols: Gathered, names: &[u8]) -> Check
-    requires { ⌜ cols .n ≤ mostColumns ⌝ }
-    ensures { λ r. ⌜ verdictOf r ≡ nameFaults at (columnsOf (entriesIn cols) (now (names .entry))) ⌝ }
-{
-    let n = cols.n;
-    let mut i = 0;
-    while i < n {
-        let c = cols.cols[i];
-        let fault = name_fault(at, c, names);
-        let Check::Fine = fault else {
-            return fault;
-        };
-        i += 1;
-    }
-    Check::Fine
+    let few = write::test(s.n <= COLUMNS, Fault::Limit, s.at);
+    let kinds = write::test(s.kinds, Fault::WireType, s.at);
+    let names = s.fault;
+    write::also(few, write::also(kinds, names))
 }
 
 // What is wrong with a name: that it ends past its buffer, its length, a byte above 127.
@@ -192,72 +256,16 @@ fn ascii_fault(at: usize, name: &[u8]) -> Check
     Check::Fine
 }
 
-// How many bytes the metadata have after their length: status, column count, types and names.
-fn metadata_size(cols: Gathered) -> usize
-    requires { ⌜ Short cols ⌝ }
-    ensures { λ r. ⌜ (r ≡ 3 + (cols .n + namesSize (entriesIn cols))) × (r ≤ 3 + (mostColumns + mostColumns * (4 + mostBytes))) ⌝ }
+// Writes what stands before the columns' types at a place: the table's length, which holds zeros, the metadata's, the status and how many
+// columns there are. It says where these end.
+fn head_at(out: &mut [u8], at: usize, status: u8, s: Survey) -> usize
+    requires { ⌜ Bounded s × (s .n ≤ mostColumns) × (at + 11 ≤ length (now out)) ⌝ }
+    ensures { λ r. ⌜ (r ≡ at + 11) × (now (out .exit) ≡ put (now (out .entry)) at (headBytes status s)) ⌝ }
 {
-    3 + (cols.n + names_size(cols))
-}
-
-// How many bytes the names have, with their lengths.
-fn names_size(cols: Gathered) -> usize
-    requires { ⌜ Short cols ⌝ }
-    ensures { λ r. ⌜ (r ≡ namesSize (entriesIn cols)) × (r ≤ mostColumns * (4 + mostBytes)) ⌝ }
-{
-    let n = cols.n;
-    let mut size = 0;
-    let mut i = 0;
-    while i < n {
-        let c = cols.cols[i];
-        size = size + (4 + c.size);
-        i += 1;
-    }
-    size
-}
-
-// Writes the metadata at a place, and says where they end.
-fn metadata_at(out: &mut [u8], at: usize, status: u8, cols: Gathered, names: &[u8]) -> usize
-    requires { ⌜ Placed cols (now names) × (at + length (metadata .bytes (metadataOf status (columnsOf (entriesIn cols) (now names)))) ≤ length (now out)) ⌝ }
-    ensures { λ r. ⌜ (r ≡ at + length (metadata .bytes (metadataOf status (columnsOf (entriesIn cols) (now (names .entry)))))) × (now (out .exit) ≡ put (now (out .entry)) at (metadata .bytes (metadataOf status (columnsOf (entriesIn cols) (now (names .entry)))))) ⌝ }
-{
-    let second = put::number_at(out, at, metadata_size(cols) as u64, 4);
-    let third = put::number_at(out, second, status as u64, 1);
-    let types = put::number_at(out, third, cols.n as u64, 2);
-    let last = types_at(out, types, cols);
-    names_at(out, last, cols, names)
-}
-
-// Writes the types at a place, and says where they end.
-fn types_at(out: &mut [u8], at: usize, cols: Gathered) -> usize
-    requires { ⌜ (cols .n ≤ mostColumns) × (at + length (flatMap typeBytes (entriesIn cols)) ≤ length (now out)) ⌝ }
-    ensures { λ r. ⌜ (r ≡ at + length (flatMap typeBytes (entriesIn cols))) × (now (out .exit) ≡ put (now (out .entry)) at (flatMap typeBytes (entriesIn cols))) ⌝ }
-{
-    let n = cols.n;
-    let mut next = at;
-    let mut i = 0;
-    while i < n {
-        let c = cols.cols[i];
-        next = put::number_at(out, next, c.wire_type as u64, 1);
-        i += 1;
-    }
-    next
-}
-
-// Writes the names at a place, each with its length, and says where they end.
-fn names_at(out: &mut [u8], at: usize, cols: Gathered, names: &[u8]) -> usize
-    requires { ⌜ Placed cols (now names) × (at + length (flatMap (nameBytes (now names)) (entriesIn cols)) ≤ length (now out)) ⌝ }
-    ensures { λ r. ⌜ (r ≡ at + length (flatMap (nameBytes (now (names .entry))) (entriesIn cols))) × (now (out .exit) ≡ put (now (out .entry)) at (flatMap (nameBytes (now (names .entry))) (entriesIn cols))) ⌝ }
-{
-    let n = cols.n;
-    let mut next = at;
-    let mut i = 0;
-    while i < n {
-        let c = cols.cols[i];
-        next = name_at(out, next, c, names);
-        i += 1;
-    }
-    next
+    let second = put::number_at(out, at, 0, 4);
+    let third = put::number_at(out, second, (3 + (s.n + s.size)) as u64, 4);
+    let fourth = put::number_at(out, third, status as u64, 1);
+    put::number_at(out, fourth, s.n as u64, 2)
 }
 
 // Writes a name at a place, with its length, and says where it ends.
@@ -271,11 +279,10 @@ fn name_at(out: &mut [u8], at: usize, c: Column, names: &[u8]) -> usize
 }
 
 // The state after a table with so many columns was opened.
-fn opened(st: State, position: usize, cols: Gathered) -> State
-    requires { ⌜ (cols .n ≤ mostColumns) × (4 ≤ position) × (st .count < mostItems) ⌝ }
-    ensures { λ r. ⌜ r ≡ shown (plan (openTable 0 (columnsOf (entriesIn cols) [])) (seen st) 0 .next position) (padded (typesIn (entriesIn cols))) ⌝ }
+fn opened(st: State, position: usize, n: usize) -> State
+    requires { ⌜ (4 ≤ position) × (st .count < mostItems) ⌝ }
+    ensures { λ r. ⌜ r ≡ openedAt st position n ⌝ }
 {
-    let types = types_of(cols);
     State {
         stage: Stage::Table,
         position: position,
@@ -287,25 +294,6 @@ fn opened(st: State, position: usize, cols: Gathered) -> State
         table_at: st.position,
         rows_at: position - 4,
         rows: 0,
-        columns: Columns {
-            n: cols.n,
-            types: types,
-        },
+        columns: n,
     }
-}
-
-// The types of the columns, and zeros.
-fn types_of(cols: Gathered) -> [u8; 64]
-    requires { ⌜ cols .n ≤ mostColumns ⌝ }
-    ensures { λ r. ⌜ r ≡ padded (typesIn (entriesIn cols)) ⌝ }
-{
-    let n = cols.n;
-    let mut types = [0; 64];
-    let mut i = 0;
-    while i < n {
-        let c = cols.cols[i];
-        types[i] = c.wire_type;
-        i += 1;
-    }
-    types
 }

@@ -2,20 +2,23 @@
 // Each function answers one number: what was found, or the refusal's number and place (numbers/specs/Packed.antt).
 use message::Verdict;
 use reply::Head;
+use write::COLUMNS;
+ghost use mathlib.Core.Bool.{true};
 ghost use mathlib.Core.Path.{_≡_};
 ghost use Prim.Native.Nat.{_+_, _*_, _^_};
 ghost use Rattle.format.specs.Value.{fixed, body};
 ghost use Rattle.put.specs.Put.{optional};
-ghost use lib.ListN.{length, replicate};
+ghost use mathlib.Core.List.{[]};
+ghost use lib.ListN.{length};
 ghost use Rattle.format.specs.Result.{ok, bind};
-ghost use Rattle.format.specs.Message.{readMessage, mostColumns};
+ghost use Rattle.format.specs.Message.{readMessage, kindLayout};
 ghost use Rattle.tour.specs.Tour.{fieldsOf};
 ghost use Rattle.fields.specs.Questions.{ownerOf, windowCount, windowOut};
 ghost use Rattle.fields.specs.Told.{toldCounted, toldOwned, toldWritten};
 ghost use Rattle.query.specs.Answers.{ofTable, layoutOf, columnOf, firstNamed, toldCount, toldTable, toldColumn, toldPosition};
 ghost use Rattle.query.specs.Places.{tablesOf};
-ghost use Rattle.write.specs.Steps.{openTable, typesOf, beginCall, beginReply, cell, nullParam, oneParam, bytesParam, openArray, element, closeArray, finishCall, openRow, closeRow, closeTable, finishReply, loginRequest, loginResponse};
-ghost use Rattle.write.specs.Shown.{zero, padded};
+ghost use Rattle.write.specs.Steps.{openTable, beginCall, beginReply, cell, nullParam, oneParam, bytesParam, openArray, element, closeArray, finishCall, openRow, closeRow, closeTable, finishReply, loginRequest, loginResponse};
+ghost use Rattle.write.specs.Shown.{zero};
 ghost use Rattle.columns.specs.Entries.{columnsOf as entriesWith};
 ghost use Rattle.numbers.specs.Entries.{entriesOf};
 ghost use Rattle.cards.specs.Answers.{askMade, askOpen, written};
@@ -25,13 +28,13 @@ ghost use Rattle.numbers.specs.Records.{loginRequestNumbers, loginResponseNumbe
 ghost use Rattle.record.specs.Records.{shownLoginRequest, shownLoginResponse, shownInvocation, shownResponse};
 ghost use Rattle.exports.specs.Given.{opening};
 ghost use Rattle.login.specs.Told.{welcome};
-ghost use Rattle.numbers.specs.Stored.{stateOf, Wrote, WroteAll, WroteLogin};
+ghost use Rattle.numbers.specs.Stored.{WroteFrom, Wrote, WroteAll, WroteLogin};
 ghost use Rattle.numbers.specs.Packed.{above, packed, packedNo, nothing, itself, numberIn, rowsOf, columnsOf, typeOf};
 
 // Whether a message of a kind is accepted.
 #[no_mangle]
 pub extern "C" fn chaloenpik_accept(kind: u8, m: &[u8]) -> u64
-    ensures { λ r. ⌜ r ≡ packed nothing (readMessage kind (now (m .entry))) ⌝ }
+    ensures { λ r. ⌜ r ≡ packed nothing (readMessage (kindLayout kind) (now (m .entry))) ⌝ }
 {
     let verdict = message::accept(kind, m);
     let Verdict::No(refusal) = verdict else {
@@ -43,7 +46,7 @@ pub extern "C" fn chaloenpik_accept(kind: u8, m: &[u8]) -> u64
 // How many fields a message of a kind has.
 #[no_mangle]
 pub extern "C" fn chaloenpik_field_count(kind: u8, m: &[u8]) -> u64
-    ensures { λ r. ⌜ r ≡ packed itself (bind (fieldsOf kind (now (m .entry))) (λ es. ok (length es))) ⌝ }
+    ensures { λ r. ⌜ r ≡ packed itself (bind (fieldsOf (kindLayout kind) (now (m .entry))) (λ es. ok (length es))) ⌝ }
 {
     numbers::pack_counted(fields::count(kind, m))
 }
@@ -51,7 +54,7 @@ pub extern "C" fn chaloenpik_field_count(kind: u8, m: &[u8]) -> u64
 // The entries of the field list from number `first` on, six numbers for each, as many as fit a lent list.
 #[no_mangle]
 pub extern "C" fn chaloenpik_fields(kind: u8, m: &[u8], first: usize, out: &mut [u64]) -> u64
-    ensures { λ r. ⌜ (r ≡ packed itself (bind (fieldsOf kind (now (m .entry))) (λ es. windowCount es first (length (now (out .entry)))))) × (now (out .exit) ≡ windowOut (fieldsOf kind (now (m .entry))) first (now (out .entry))) ⌝ }
+    ensures { λ r. ⌜ (r ≡ packed itself (bind (fieldsOf (kindLayout kind) (now (m .entry))) (λ es. windowCount es first (length (now (out .entry)))))) × (now (out .exit) ≡ windowOut (fieldsOf (kindLayout kind) (now (m .entry))) first (now (out .entry))) ⌝ }
 {
     numbers::pack_written(fields::window(kind, m, first, out))
 }
@@ -59,7 +62,7 @@ pub extern "C" fn chaloenpik_fields(kind: u8, m: &[u8], first: usize, out: &mut 
 // The number in the field list of the entry that owns a byte.
 #[no_mangle]
 pub extern "C" fn chaloenpik_owner(kind: u8, m: &[u8], offset: usize) -> u64
-    ensures { λ r. ⌜ r ≡ packed numberIn (bind (fieldsOf kind (now (m .entry))) (λ es. ownerOf es offset)) ⌝ }
+    ensures { λ r. ⌜ r ≡ packed numberIn (bind (fieldsOf (kindLayout kind) (now (m .entry))) (λ es. ownerOf es offset)) ⌝ }
 {
     numbers::pack_owned(fields::owner(kind, m, offset))
 }
@@ -75,7 +78,7 @@ pub extern "C" fn chaloenpik_tables(m: &[u8]) -> u64
 // How many rows table t of a response has.
 #[no_mangle]
 pub extern "C" fn chaloenpik_rows(m: &[u8], t: usize) -> u64
-    ensures { λ r. ⌜ r ≡ packed rowsOf (ofTable (now (m .entry)) t (λ at b. ok (layoutOf at b))) ⌝ }
+    ensures { λ r. ⌜ r ≡ packed rowsOf (ofTable true (now (m .entry)) t (λ at b. ok (layoutOf at b))) ⌝ }
 {
     numbers::pack_rows(query::table(m, t))
 }
@@ -83,7 +86,7 @@ pub extern "C" fn chaloenpik_rows(m: &[u8], t: usize) -> u64
 // How many columns table t of a response has.
 #[no_mangle]
 pub extern "C" fn chaloenpik_columns(m: &[u8], t: usize) -> u64
-    ensures { λ r. ⌜ r ≡ packed columnsOf (ofTable (now (m .entry)) t (λ at b. ok (layoutOf at b))) ⌝ }
+    ensures { λ r. ⌜ r ≡ packed columnsOf (ofTable true (now (m .entry)) t (λ at b. ok (layoutOf at b))) ⌝ }
 {
     numbers::pack_columns(query::table(m, t))
 }
@@ -91,7 +94,7 @@ pub extern "C" fn chaloenpik_columns(m: &[u8], t: usize) -> u64
 // The wire type of column c of table t of a response.
 #[no_mangle]
 pub extern "C" fn chaloenpik_column_type(m: &[u8], t: usize, c: usize) -> u64
-    ensures { λ r. ⌜ r ≡ packed typeOf (ofTable (now (m .entry)) t (λ at b. columnOf at b c)) ⌝ }
+    ensures { λ r. ⌜ r ≡ packed typeOf (ofTable true (now (m .entry)) t (λ at b. columnOf at b c)) ⌝ }
 {
     numbers::pack_type(query::column(m, t, c))
 }
@@ -99,7 +102,7 @@ pub extern "C" fn chaloenpik_column_type(m: &[u8], t: usize, c: usize) -> u64
 // The position of the first column of table t of a response whose name is equal.
 #[no_mangle]
 pub extern "C" fn chaloenpik_find_column(m: &[u8], t: usize, name: &[u8]) -> u64
-    ensures { λ r. ⌜ r ≡ packed itself (ofTable (now (m .entry)) t (λ at b. firstNamed (now (name .entry)) (b .metadata .names) 0)) ⌝ }
+    ensures { λ r. ⌜ r ≡ packed itself (ofTable true (now (m .entry)) t (λ at b. firstNamed (now (name .entry)) (b .metadata .names) 0)) ⌝ }
 {
     numbers::pack_position(query::find_column(m, t, name))
 }
@@ -189,27 +192,22 @@ pub extern "C" fn chaloenpik_response(m: &[u8], list: &mut [u64; 17]) -> u64
 pub extern "C" fn chaloenpik_begin_call(
     out: &mut [u8],
     state: &mut [u64; 11],
-    types: &mut [u8; 64],
     version: u8,
     procedure: &[u8],
     client: &[u8; 8],
 ) -> u64
-    ensures { λ r. ⌜ WroteAll (beginCall version (now (procedure .entry)) (now (client .entry))) zero (replicate mostColumns 0) (now (state .entry)) (now (types .entry)) (now (out .entry)) r (now (state .exit)) (now (types .exit)) (now (out .exit)) ⌝ }
+    ensures { λ r. ⌜ WroteFrom (beginCall version (now (procedure .entry)) (now (client .entry))) zero (now (state .entry)) [] (now (out .entry)) r (now (state .exit)) (now (out .exit)) ⌝ }
 {
     let step = call::begin_call(out, version, procedure, client);
-    numbers::keep_all(state, types, step)
+    numbers::keep(state, step)
 }
 
 // Writes a null parameter.
 #[no_mangle]
-pub extern "C" fn chaloenpik_null_param(
-    out: &mut [u8],
-    state: &mut [u64; 11],
-    types: &[u8; 64],
-) -> u64
-    ensures { λ r. ⌜ Wrote nullParam (now (state .entry)) (now (types .entry)) (now (out .entry)) r (now (state .exit)) (now (out .exit)) ⌝ }
+pub extern "C" fn chaloenpik_null_param(out: &mut [u8], state: &mut [u64; 11]) -> u64
+    ensures { λ r. ⌜ Wrote nullParam (now (state .entry)) [] (now (out .entry)) r (now (state .exit)) (now (out .exit)) ⌝ }
 {
-    let st = numbers::load(state, types);
+    let st = numbers::load(state);
     let step = call::null_param(out, st);
     numbers::keep(state, step)
 }
@@ -219,14 +217,13 @@ pub extern "C" fn chaloenpik_null_param(
 pub extern "C" fn chaloenpik_fixed_param(
     out: &mut [u8],
     state: &mut [u64; 11],
-    types: &[u8; 64],
     t: u8,
     upper: u64,
     lower: u64,
 ) -> u64
-    ensures { λ r. ⌜ Wrote (oneParam t (fixed (upper * 2 ^ 64 + lower))) (now (state .entry)) (now (types .entry)) (now (out .entry)) r (now (state .exit)) (now (out .exit)) ⌝ }
+    ensures { λ r. ⌜ Wrote (oneParam t (fixed (upper * 2 ^ 64 + lower))) (now (state .entry)) [] (now (out .entry)) r (now (state .exit)) (now (out .exit)) ⌝ }
 {
-    let st = numbers::load(state, types);
+    let st = numbers::load(state);
     let step = call::fixed_param(out, st, t, upper, lower);
     numbers::keep(state, step)
 }
@@ -236,44 +233,33 @@ pub extern "C" fn chaloenpik_fixed_param(
 pub extern "C" fn chaloenpik_body_param(
     out: &mut [u8],
     state: &mut [u64; 11],
-    types: &[u8; 64],
     t: u8,
     null: bool,
     s: &[u8],
 ) -> u64
-    ensures { λ r. ⌜ Wrote (oneParam t (body (optional null (now (s .entry))))) (now (state .entry)) (now (types .entry)) (now (out .entry)) r (now (state .exit)) (now (out .exit)) ⌝ }
+    ensures { λ r. ⌜ Wrote (oneParam t (body (optional null (now (s .entry))))) (now (state .entry)) [] (now (out .entry)) r (now (state .exit)) (now (out .exit)) ⌝ }
 {
-    let st = numbers::load(state, types);
+    let st = numbers::load(state);
     let step = call::body_param(out, st, t, null, s);
     numbers::keep(state, step)
 }
 
 // Writes an array of bytes.
 #[no_mangle]
-pub extern "C" fn chaloenpik_bytes_param(
-    out: &mut [u8],
-    state: &mut [u64; 11],
-    types: &[u8; 64],
-    s: &[u8],
-) -> u64
-    ensures { λ r. ⌜ Wrote (bytesParam (now (s .entry))) (now (state .entry)) (now (types .entry)) (now (out .entry)) r (now (state .exit)) (now (out .exit)) ⌝ }
+pub extern "C" fn chaloenpik_bytes_param(out: &mut [u8], state: &mut [u64; 11], s: &[u8]) -> u64
+    ensures { λ r. ⌜ Wrote (bytesParam (now (s .entry))) (now (state .entry)) [] (now (out .entry)) r (now (state .exit)) (now (out .exit)) ⌝ }
 {
-    let st = numbers::load(state, types);
+    let st = numbers::load(state);
     let step = call::bytes_param(out, st, s);
     numbers::keep(state, step)
 }
 
 // Opens an array of elements of a type.
 #[no_mangle]
-pub extern "C" fn chaloenpik_open_array(
-    out: &mut [u8],
-    state: &mut [u64; 11],
-    types: &[u8; 64],
-    t: u8,
-) -> u64
-    ensures { λ r. ⌜ Wrote (openArray t) (now (state .entry)) (now (types .entry)) (now (out .entry)) r (now (state .exit)) (now (out .exit)) ⌝ }
+pub extern "C" fn chaloenpik_open_array(out: &mut [u8], state: &mut [u64; 11], t: u8) -> u64
+    ensures { λ r. ⌜ Wrote (openArray t) (now (state .entry)) [] (now (out .entry)) r (now (state .exit)) (now (out .exit)) ⌝ }
 {
-    let st = numbers::load(state, types);
+    let st = numbers::load(state);
     let step = call::open_array(out, st, t);
     numbers::keep(state, step)
 }
@@ -283,14 +269,13 @@ pub extern "C" fn chaloenpik_open_array(
 pub extern "C" fn chaloenpik_fixed_element(
     out: &mut [u8],
     state: &mut [u64; 11],
-    types: &[u8; 64],
     t: u8,
     upper: u64,
     lower: u64,
 ) -> u64
-    ensures { λ r. ⌜ Wrote (element t (fixed (upper * 2 ^ 64 + lower))) (now (state .entry)) (now (types .entry)) (now (out .entry)) r (now (state .exit)) (now (out .exit)) ⌝ }
+    ensures { λ r. ⌜ Wrote (element t (fixed (upper * 2 ^ 64 + lower))) (now (state .entry)) [] (now (out .entry)) r (now (state .exit)) (now (out .exit)) ⌝ }
 {
-    let st = numbers::load(state, types);
+    let st = numbers::load(state);
     let step = call::fixed_element(out, st, t, upper, lower);
     numbers::keep(state, step)
 }
@@ -300,42 +285,33 @@ pub extern "C" fn chaloenpik_fixed_element(
 pub extern "C" fn chaloenpik_body_element(
     out: &mut [u8],
     state: &mut [u64; 11],
-    types: &[u8; 64],
     t: u8,
     null: bool,
     s: &[u8],
 ) -> u64
-    ensures { λ r. ⌜ Wrote (element t (body (optional null (now (s .entry))))) (now (state .entry)) (now (types .entry)) (now (out .entry)) r (now (state .exit)) (now (out .exit)) ⌝ }
+    ensures { λ r. ⌜ Wrote (element t (body (optional null (now (s .entry))))) (now (state .entry)) [] (now (out .entry)) r (now (state .exit)) (now (out .exit)) ⌝ }
 {
-    let st = numbers::load(state, types);
+    let st = numbers::load(state);
     let step = call::body_element(out, st, t, null, s);
     numbers::keep(state, step)
 }
 
 // Closes the open array, and fills its count.
 #[no_mangle]
-pub extern "C" fn chaloenpik_close_array(
-    out: &mut [u8],
-    state: &mut [u64; 11],
-    types: &[u8; 64],
-) -> u64
-    ensures { λ r. ⌜ Wrote closeArray (now (state .entry)) (now (types .entry)) (now (out .entry)) r (now (state .exit)) (now (out .exit)) ⌝ }
+pub extern "C" fn chaloenpik_close_array(out: &mut [u8], state: &mut [u64; 11]) -> u64
+    ensures { λ r. ⌜ Wrote closeArray (now (state .entry)) [] (now (out .entry)) r (now (state .exit)) (now (out .exit)) ⌝ }
 {
-    let st = numbers::load(state, types);
+    let st = numbers::load(state);
     let step = call::close_array(out, st);
     numbers::keep(state, step)
 }
 
 // Finishes the invocation: its length and its parameter count are filled.
 #[no_mangle]
-pub extern "C" fn chaloenpik_finish_call(
-    out: &mut [u8],
-    state: &mut [u64; 11],
-    types: &[u8; 64],
-) -> u64
-    ensures { λ r. ⌜ Wrote finishCall (now (state .entry)) (now (types .entry)) (now (out .entry)) r (now (state .exit)) (now (out .exit)) ⌝ }
+pub extern "C" fn chaloenpik_finish_call(out: &mut [u8], state: &mut [u64; 11]) -> u64
+    ensures { λ r. ⌜ Wrote finishCall (now (state .entry)) [] (now (out .entry)) r (now (state .exit)) (now (out .exit)) ⌝ }
 {
-    let st = numbers::load(state, types);
+    let st = numbers::load(state);
     let step = call::finish_call(out, st);
     numbers::keep(state, step)
 }
@@ -345,7 +321,6 @@ pub extern "C" fn chaloenpik_finish_call(
 pub extern "C" fn chaloenpik_begin_reply(
     out: &mut [u8],
     state: &mut [u64; 11],
-    types: &mut [u8; 64],
     version: u8,
     client: &[u8; 8],
     flags: u8,
@@ -358,7 +333,7 @@ pub extern "C" fn chaloenpik_begin_reply(
     roundtrip: u32,
     exception: &[u8],
 ) -> u64
-    ensures { λ r. ⌜ WroteAll (beginReply version (opening (now (client .entry)) flags status statusnull (now (statustext .entry)) appstatus appnull (now (apptext .entry)) roundtrip (now (exception .entry)))) zero (replicate mostColumns 0) (now (state .entry)) (now (types .entry)) (now (out .entry)) r (now (state .exit)) (now (types .exit)) (now (out .exit)) ⌝ }
+    ensures { λ r. ⌜ WroteFrom (beginReply version (opening (now (client .entry)) flags status statusnull (now (statustext .entry)) appstatus appnull (now (apptext .entry)) roundtrip (now (exception .entry)))) zero (now (state .entry)) [] (now (out .entry)) r (now (state .exit)) (now (out .exit)) ⌝ }
 {
     let h = Head {
         version,
@@ -370,7 +345,7 @@ pub extern "C" fn chaloenpik_begin_reply(
         round_trip: roundtrip,
     };
     let step = reply::begin_reply(out, h, client, statustext, apptext, exception);
-    numbers::keep_all(state, types, step)
+    numbers::keep(state, step)
 }
 
 // Opens a table: its status, its columns as numbers, three for each (its type, and where its name starts in `names` and how long it is).
@@ -378,17 +353,16 @@ pub extern "C" fn chaloenpik_begin_reply(
 pub extern "C" fn chaloenpik_open_table(
     out: &mut [u8],
     state: &mut [u64; 11],
-    types: &mut [u8; 64],
+    types: &mut [u8; COLUMNS],
     status: u8,
     list: &[u64],
     names: &[u8],
 ) -> u64
-    ensures { λ r. ⌜ WroteAll (openTable status (entriesWith (entriesOf (now (list .entry))) (now (names .entry)))) (stateOf (now (state .entry)) (now (types .entry))) (padded (typesOf (entriesWith (entriesOf (now (list .entry))) (now (names .entry))))) (now (state .entry)) (now (types .entry)) (now (out .entry)) r (now (state .exit)) (now (types .exit)) (now (out .exit)) ⌝ }
+    ensures { λ r. ⌜ WroteAll (openTable status (entriesWith (entriesOf (now (list .entry))) (now (names .entry)))) (now (state .entry)) (now (types .entry)) (now (out .entry)) r (now (state .exit)) (now (types .exit)) (now (out .exit)) ⌝ }
 {
-    let st = numbers::load(state, types);
-    let cols = numbers::gathered(list);
-    let step = columns::open_gathered(out, st, status, cols, names);
-    numbers::keep_all(state, types, step)
+    let st = numbers::load(state);
+    let step = numbers::open_listed(out, st, types, status, list, names);
+    numbers::keep(state, step)
 }
 
 // Opens a row.
@@ -396,12 +370,12 @@ pub extern "C" fn chaloenpik_open_table(
 pub extern "C" fn chaloenpik_open_row(
     out: &mut [u8],
     state: &mut [u64; 11],
-    types: &[u8; 64],
+    types: &[u8; COLUMNS],
 ) -> u64
     ensures { λ r. ⌜ Wrote openRow (now (state .entry)) (now (types .entry)) (now (out .entry)) r (now (state .exit)) (now (out .exit)) ⌝ }
 {
-    let st = numbers::load(state, types);
-    let step = rows::open_row(out, st);
+    let st = numbers::load(state);
+    let step = rows::open_row(out, st, types);
     numbers::keep(state, step)
 }
 
@@ -410,15 +384,15 @@ pub extern "C" fn chaloenpik_open_row(
 pub extern "C" fn chaloenpik_fixed_cell(
     out: &mut [u8],
     state: &mut [u64; 11],
-    types: &[u8; 64],
+    types: &[u8; COLUMNS],
     t: u8,
     upper: u64,
     lower: u64,
 ) -> u64
     ensures { λ r. ⌜ Wrote (cell t (fixed (upper * 2 ^ 64 + lower))) (now (state .entry)) (now (types .entry)) (now (out .entry)) r (now (state .exit)) (now (out .exit)) ⌝ }
 {
-    let st = numbers::load(state, types);
-    let step = rows::fixed_cell(out, st, t, upper, lower);
+    let st = numbers::load(state);
+    let step = rows::fixed_cell(out, st, types, t, upper, lower);
     numbers::keep(state, step)
 }
 
@@ -427,15 +401,15 @@ pub extern "C" fn chaloenpik_fixed_cell(
 pub extern "C" fn chaloenpik_body_cell(
     out: &mut [u8],
     state: &mut [u64; 11],
-    types: &[u8; 64],
+    types: &[u8; COLUMNS],
     t: u8,
     null: bool,
     s: &[u8],
 ) -> u64
     ensures { λ r. ⌜ Wrote (cell t (body (optional null (now (s .entry))))) (now (state .entry)) (now (types .entry)) (now (out .entry)) r (now (state .exit)) (now (out .exit)) ⌝ }
 {
-    let st = numbers::load(state, types);
-    let step = rows::body_cell(out, st, t, null, s);
+    let st = numbers::load(state);
+    let step = rows::body_cell(out, st, types, t, null, s);
     numbers::keep(state, step)
 }
 
@@ -444,12 +418,12 @@ pub extern "C" fn chaloenpik_body_cell(
 pub extern "C" fn chaloenpik_close_row(
     out: &mut [u8],
     state: &mut [u64; 11],
-    types: &[u8; 64],
+    types: &[u8; COLUMNS],
 ) -> u64
     ensures { λ r. ⌜ Wrote closeRow (now (state .entry)) (now (types .entry)) (now (out .entry)) r (now (state .exit)) (now (out .exit)) ⌝ }
 {
-    let st = numbers::load(state, types);
-    let step = rows::close_row(out, st);
+    let st = numbers::load(state);
+    let step = rows::close_row(out, st, types);
     numbers::keep(state, step)
 }
 
@@ -458,25 +432,21 @@ pub extern "C" fn chaloenpik_close_row(
 pub extern "C" fn chaloenpik_close_table(
     out: &mut [u8],
     state: &mut [u64; 11],
-    types: &[u8; 64],
+    types: &[u8; COLUMNS],
 ) -> u64
     ensures { λ r. ⌜ Wrote closeTable (now (state .entry)) (now (types .entry)) (now (out .entry)) r (now (state .exit)) (now (out .exit)) ⌝ }
 {
-    let st = numbers::load(state, types);
-    let step = rows::close_table(out, st);
+    let st = numbers::load(state);
+    let step = rows::close_table(out, st, types);
     numbers::keep(state, step)
 }
 
 // Finishes the response: its length and its table count are filled.
 #[no_mangle]
-pub extern "C" fn chaloenpik_finish_reply(
-    out: &mut [u8],
-    state: &mut [u64; 11],
-    types: &[u8; 64],
-) -> u64
-    ensures { λ r. ⌜ Wrote finishReply (now (state .entry)) (now (types .entry)) (now (out .entry)) r (now (state .exit)) (now (out .exit)) ⌝ }
+pub extern "C" fn chaloenpik_finish_reply(out: &mut [u8], state: &mut [u64; 11]) -> u64
+    ensures { λ r. ⌜ Wrote finishReply (now (state .entry)) [] (now (out .entry)) r (now (state .exit)) (now (out .exit)) ⌝ }
 {
-    let st = numbers::load(state, types);
+    let st = numbers::load(state);
     let step = reply::finish_reply(out, st);
     numbers::keep(state, step)
 }

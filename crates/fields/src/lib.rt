@@ -6,6 +6,7 @@ ghost use mathlib.Core.Path.{_≡_};
 ghost use lib.ListN.{length};
 ghost use Rattle.format.specs.declared.Fault.the-variants.{PastEnd};
 ghost use Rattle.format.specs.Result.{ok, bind};
+ghost use Rattle.format.specs.Message.{kindLayout};
 ghost use Rattle.tour.specs.Tour.{fieldsOf};
 ghost use Rattle.fields.specs.Questions.{nth, ownerOf, windowCount, windowOut, entryAt};
 ghost use Rattle.fields.specs.Told.{toldEntry, toldCounted, toldListed, toldOwned, toldWritten};
@@ -46,10 +47,11 @@ pub enum Written {
 
 // How many fields a message of a kind has.
 pub fn count(kind: u8, m: &[u8]) -> Counted
-    ensures { λ r. ⌜ toldCounted r ≡ bind (fieldsOf kind (now (m .entry))) (λ es. ok (length es)) ⌝ }
+    ensures { λ r. ⌜ toldCounted r ≡ bind (fieldsOf (kindLayout kind) (now (m .entry))) (λ es. ok (length es)) ⌝ }
 {
+    let layout = format::kind_layout(kind);
     let mut six: [u64; 6] = [0; 6];
-    let toured = tour::over(kind, m, &mut six, 0, 0);
+    let toured = tour::over(layout, m, &mut six, 0, 0);
     let Toured::Over(tour) = toured else {
         return Counted::No(tour::toured_refusal(toured));
     };
@@ -58,10 +60,11 @@ pub fn count(kind: u8, m: &[u8]) -> Counted
 
 // The entry of a number in the list, from 0 on.
 pub fn field(kind: u8, m: &[u8], n: usize) -> Listed
-    ensures { λ r. ⌜ toldListed r ≡ bind (fieldsOf kind (now (m .entry))) (λ es. nth es n) ⌝ }
+    ensures { λ r. ⌜ toldListed r ≡ bind (fieldsOf (kindLayout kind) (now (m .entry))) (λ es. nth es n) ⌝ }
 {
+    let layout = format::kind_layout(kind);
     let mut six: [u64; 6] = [0; 6];
-    let toured = tour::over(kind, m, &mut six, n, 0);
+    let toured = tour::over(layout, m, &mut six, n, 0);
     let Toured::Over(tour) = toured else {
         return Listed::No(tour::toured_refusal(toured));
     };
@@ -73,10 +76,11 @@ pub fn field(kind: u8, m: &[u8], n: usize) -> Listed
 
 // The entry that owns a byte, and its number in the list.
 pub fn owner(kind: u8, m: &[u8], offset: usize) -> Owned
-    ensures { λ r. ⌜ toldOwned r ≡ bind (fieldsOf kind (now (m .entry))) (λ es. ownerOf es offset) ⌝ }
+    ensures { λ r. ⌜ toldOwned r ≡ bind (fieldsOf (kindLayout kind) (now (m .entry))) (λ es. ownerOf es offset) ⌝ }
 {
+    let layout = format::kind_layout(kind);
     let mut six: [u64; 6] = [0; 6];
-    let toured = tour::over(kind, m, &mut six, 0, offset);
+    let toured = tour::over(layout, m, &mut six, 0, offset);
     let Toured::Over(tour) = toured else {
         return Owned::No(tour::toured_refusal(toured));
     };
@@ -89,9 +93,10 @@ pub fn owner(kind: u8, m: &[u8], offset: usize) -> Owned
 
 // The entries from a number on, six numbers for each, as many whole entries as fit a lent list; how many were written.
 pub fn window(kind: u8, m: &[u8], first: usize, out: &mut [u64]) -> Written
-    ensures { λ r. ⌜ (toldWritten r ≡ bind (fieldsOf kind (now (m .entry))) (λ es. windowCount es first (length (now (out .entry))))) × (now (out .exit) ≡ windowOut (fieldsOf kind (now (m .entry))) first (now (out .entry))) ⌝ }
+    ensures { λ r. ⌜ (toldWritten r ≡ bind (fieldsOf (kindLayout kind) (now (m .entry))) (λ es. windowCount es first (length (now (out .entry))))) × (now (out .exit) ≡ windowOut (fieldsOf (kindLayout kind) (now (m .entry))) first (now (out .entry))) ⌝ }
 {
-    let toured = tour::over(kind, m, out, first, 0);
+    let layout = format::kind_layout(kind);
+    let toured = tour::over(layout, m, out, first, 0);
     let Toured::Over(tour) = toured else {
         return Written::No(tour::toured_refusal(toured));
     };

@@ -1,21 +1,24 @@
 // What holds a reference: a reader over one table of a message, each function thin over one of `query` or `cards`; and the step that is lent
 // a table's columns, thin over one of `columns`.
 use columns::Column;
-use columns::Gathered;
+use columns::Head;
+use columns::Survey;
 use query::CellAnswer;
 use query::ColumnAnswer;
 use query::Part;
 use query::Position;
 use query::TableAnswer;
+use write::COLUMNS;
 use write::State;
 use write::Step;
 ghost use mathlib.Core.Path.{_≡_};
+ghost use lib.ListN.{length};
 ghost use Rattle.cards.specs.Answers.{askOpen};
 ghost use Rattle.query.specs.Answers.{toldTable, askTable, toldColumn, askColumn, toldPosition, askPosition, toldCell, askCell, toldPart, askCellSpan, partIn};
-ghost use Rattle.write.specs.Steps.{openTable, typesOf};
-ghost use Rattle.write.specs.Shown.{padded, Stepped};
+ghost use Rattle.write.specs.Steps.{openTable};
+ghost use Rattle.write.specs.Shown.{Opened};
 ghost use Rattle.columns.specs.Entries.{columnsOf};
-ghost use Rattle.columns.specs.Gathers.{empty, addAll};
+ghost use Rattle.columns.specs.Walks.{Bounded, addAll, putAll, FitsAll};
 
 // One table, kept open over its message. Making it looks at nothing: each call on it refuses as the call on the message does.
 pub struct TableReader<'a> {
@@ -79,23 +82,53 @@ pub fn part<'a>(r: TableReader<'a>, row: usize, c: usize) -> &'a [u8]
     query::cell_part(r.msg, r.table, row, c)
 }
 
-// The columns of a lent list, by value.
-pub fn gather(cols: &[Column]) -> Gathered
-    ensures { λ r. ⌜ r ≡ addAll empty (now (cols .entry)) ⌝ }
+// What is found of the columns of a lent list, behind those of a survey.
+fn survey(s: Survey, cols: &[Column], names: &[u8]) -> Survey
+    requires { ⌜ Bounded s ⌝ }
+    ensures { λ r. ⌜ r ≡ addAll (now (names .entry)) s (now (cols .entry)) ⌝ }
 {
-    let mut a = columns::no_columns();
+    let mut a = s;
     let mut i = 0;
     while i < cols.len() {
-        a = columns::with_column(a, cols[i]);
+        a = columns::surveyed(a, cols[i], names);
         i = i + 1;
     }
     a
 }
 
-// Opens a table, with its columns as a lent list of entries that point into a lent name buffer.
-pub fn open_table(out: &mut [u8], st: State, status: u8, cols: &[Column], names: &[u8]) -> Step
-    ensures { λ r. ⌜ Stepped (openTable status (columnsOf (now (cols .entry)) (now (names .entry)))) st (padded (typesOf (columnsOf (now (cols .entry)) (now (names .entry))))) (now (out .entry)) r (now (out .exit)) ⌝ }
+// Writes the columns of a lent list behind a head.
+fn put_columns(
+    out: &mut [u8],
+    types: &mut [u8; COLUMNS],
+    head: Head,
+    cols: &[Column],
+    names: &[u8],
+) -> Step
+    requires { ⌜ FitsAll (now names) (length (now out)) (head .walk) (now cols) ⌝ }
+    ensures { λ r. ⌜ (r ≡ head .step) × (now (out .exit) ≡ putAll (now (names .entry)) (record { out = now (out .entry); types = now (types .entry); walk = head .walk }) (now (cols .entry)) .out) × (now (types .exit) ≡ putAll (now (names .entry)) (record { out = now (out .entry); types = now (types .entry); walk = head .walk }) (now (cols .entry)) .types) ⌝ }
 {
-    let a = gather(cols);
-    columns::open_gathered(out, st, status, a, names)
+    let mut w = columns::walk_in(head);
+    let mut i = 0;
+    while i < cols.len() {
+        w = columns::put_column(out, types, w, cols[i], names);
+        i = i + 1;
+    }
+    columns::step_in(head)
+}
+
+// Opens a table, with its columns as a lent list of entries that point into a lent name buffer.
+pub fn open_table(
+    out: &mut [u8],
+    st: State,
+    types: &mut [u8; COLUMNS],
+    status: u8,
+    cols: &[Column],
+    names: &[u8],
+) -> Step
+    ensures { λ r. ⌜ Opened (openTable status (columnsOf (now (cols .entry)) (now (names .entry)))) st (now (types .entry)) (now (out .entry)) r (now (types .exit)) (now (out .exit)) ⌝ }
+{
+    let z = columns::no_columns(st);
+    let a = survey(z, cols, names);
+    let h = columns::open_head(out, st, status, a);
+    put_columns(out, types, h, cols, names)
 }

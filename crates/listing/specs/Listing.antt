@@ -5,7 +5,7 @@ use lib.ListN.{length, drop, getD}
 use lib.Dec.{eqb, leb}
 use Rattle.format.specs.declared.Fault.the-variants.{WireType, Limit}
 use Rattle.format.specs.Result.{Res, no, pick}
-use Rattle.format.specs.Message.{readMessage, isKind}
+use Rattle.format.specs.Message.{readMessage, kindLayout, isKind}
 use Rattle.message.specs.Verdict.{verdictOf}
 
 -- the longest input: a byte of kind and a message of 65,536 bytes
@@ -16,5 +16,5 @@ mostInput = 65537
 unfoldable pub listingOf : List ℕ → Res Unit
 listingOf input =
     pick (eqb (length input) 0) (no WireType 0)
-    (pick (leb (length input) mostInput) (verdictOf (readMessage (getD input 0 0) (drop 1 input)))
+    (pick (leb (length input) mostInput) (verdictOf (readMessage (kindLayout (getD input 0 0)) (drop 1 input)))
     (pick (isKind (getD input 0 0)) (no Limit 0) (no WireType 0)))

@@ -1,4 +1,4 @@
--- A whole message: its length, its version, its content by its kind, and that nothing is left over.
+-- A whole message: its length, its version, its content by its layout, and that nothing is left over.
 use Prim.Native.Nat.{ℕ, _+_, _≤_, _<_}
 use mathlib.Core.Path.{_≡_, refl, sym, _∙_, ap}
 use mathlib.Core.Bool.{Bool, true, false, _||_}
@@ -7,15 +7,14 @@ use lib.ListN.{length}
 use lib.Dec.{leb, ltb, eqb}
 use borrow.Author.Tests.{eq-eqb, ne-eqb, lt-ltb, le-ltb, le-leb, lt-leb}
 use Rattle.format.specs.declared.Fault.{Fault}
-use Rattle.format.specs.declared.Fault.the-variants.{Short, Negative, Limit, Extra, WireType}
+use Rattle.format.specs.declared.Fault.the-variants.{Short, Negative, Limit, Extra, Version, WireType}
 use Rattle.format.specs.Result.{Res, ok, no, bind, pick}
 use Rattle.format.specs.Number.{half}
-use Rattle.format.specs.Format.{number, both}
+use Rattle.format.specs.Format.{Format, number, ruled, into, both}
 use Rattle.format.specs.Message.{
   Message,
   message,
   contentOf,
-  edition,
   aLoginRequest,
   loginRequest-of,
   loginRequest,
@@ -28,7 +27,9 @@ use Rattle.format.specs.Message.{
   aResponse,
   response-of,
   response,
-  isKind,
+  newest,
+  isLayout,
+  responseLayout,
   mostMessage,
   filled,
   readMessage,
@@ -88,30 +89,40 @@ module _ (m : List ℕ) where
       let t₄ = spared (ltb (4 + k) (length m)) _ _ (t₃ .1) in
       sym (ap (λ (q : ℕ × ℕ). q .1) (ok-same (t₄ .1))) ∙ took 4 1 m 0 k (p .0 .1) (p .1) .place
 
--- the content, by the kind
-module _ (s : List ℕ) (at kind version : ℕ) where
+-- the content, by the layout
+module _ (s : List ℕ) (at layout version : ℕ) where
   abbrev Ends : {A : Type 0} → Res (A × ℕ) → Type 0
-  Ends r = shownNext r ≡ shownNext (contentOf kind version .read s at)
+  Ends r = shownNext r ≡ shownNext (contentOf layout version .read s at)
 
-  pub content-1 : kind ≡ 1 → Ends (loginRequest version .read s at)
+  pub content-1 : layout ≡ 1 → Ends (loginRequest version .read s at)
   unfolding contentOf
   content-1 e = rw e (sym (into-ends aLoginRequest loginRequest-of (loginRequest version) s at))
 
-  pub content-2 : kind ≡ 2 → Ends (loginResponse .read s at)
+  pub content-2 : layout ≡ 2 → Ends (loginResponse .read s at)
   unfolding contentOf
   content-2 e = rw e (sym (into-ends aLoginResponse loginResponse-of loginResponse s at))
 
-  pub content-3 : kind ≡ 3 → Ends (invocation .read s at)
+  pub content-3 : layout ≡ 3 → Ends (invocation .read s at)
   unfolding contentOf
   content-3 e = rw e (sym (into-ends anInvocation invocation-of invocation s at))
 
-  pub content-4 : (kind ≡ 1 → ⊥) → (kind ≡ 2 → ⊥) → (kind ≡ 3 → ⊥) → Ends (response .read s at)
+  pub content-4 : (layout ≡ 1 → ⊥) → (layout ≡ 2 → ⊥) → (layout ≡ 3 → ⊥) → Ends (response (eqb layout 4) .read s at)
   unfolding contentOf
-  content-4 a b c = rw (ne-eqb kind 1 a, ne-eqb kind 2 b, ne-eqb kind 3 c) (sym (into-ends aResponse response-of response s at))
+  content-4 a b c = rw (ne-eqb layout 1 a, ne-eqb layout 2 b, ne-eqb layout 3 c) (sym (into-ends aResponse response-of (response (eqb layout 4)) s at))
 
-pub message-ends : (s : List ℕ) (at kind : ℕ) → shownNext (message kind .read s at) ≡ shownNext (both (edition 2) (contentOf kind) .read s at)
+-- that of a response, with its round trip or without
+pub content-response : (timed : Bool) (version : ℕ) → contentOf (responseLayout timed) version ≡ into aResponse response-of (response timed)
+unfolding contentOf
+content-response true version = refl
+content-response false version = refl
+
+-- the version, which is at most the newest that the layout has
+abbrev pub versioned : ℕ → Format ℕ
+versioned layout = ruled (λ n. leb n (newest layout)) Version (number 1 2)
+
+pub message-ends : (s : List ℕ) (at layout : ℕ) → shownNext (message layout .read s at) ≡ shownNext (both (versioned layout) (contentOf layout) .read s at)
 unfolding message
-message-ends s at kind = into-ends _ _ (both (edition 2) (contentOf kind)) s at
+message-ends s at layout = into-ends _ _ (both (versioned layout) (contentOf layout)) s at
 
 -- the whole: what comes of a message, step by step
 module _ {A B : Type 0} where
@@ -119,27 +130,27 @@ module _ {A B : Type 0} where
   bind-pick true x y g = refl
   bind-pick false x y g = refl
 
-module _ (kind : ℕ) (m : List ℕ) where
-  read-is : readMessage kind m ≡ pick (isKind kind) (bind (measured m) (λ p. bind (message kind .read m 4) (filled m))) (no WireType 0)
+module _ (layout : ℕ) (m : List ℕ) where
+  read-is : readMessage layout m ≡ pick (isLayout layout) (bind (measured m) (λ p. bind (message layout .read m 4) (filled m))) (no WireType 0)
   unfolding measured
   read-is = sym (simp (bind-bind, bind-pick))
 
-  pub unknown : isKind kind ≡ false → readMessage kind m ≡ no WireType 0
+  pub unknown : isLayout layout ≡ false → readMessage layout m ≡ no WireType 0
   unknown e = read-is ∙ rw e
 
-  module _ (known : isKind kind ≡ true) where
-    pub bad-length : {f : Fault} {p : ℕ} → measured m ≡ no f p → readMessage kind m ≡ no f p
+  module _ (known : isLayout layout ≡ true) where
+    pub bad-length : {f : Fault} {p : ℕ} → measured m ≡ no f p → readMessage layout m ≡ no f p
     bad-length e = read-is ∙ rw (known, e)
 
     module _ {n next : ℕ} (e : measured m ≡ ok (n, next)) where
-      after-length : readMessage kind m ≡ bind (message kind .read m next) (filled m)
+      after-length : readMessage layout m ≡ bind (message layout .read m next) (filled m)
       after-length = read-is ∙ rw (known, e, length-ends m n next e)
 
-      pub bad-message : {f : Fault} {p : ℕ} → message kind .read m next ≡ no f p → readMessage kind m ≡ no f p
+      pub bad-message : {f : Fault} {p : ℕ} → message layout .read m next ≡ no f p → readMessage layout m ≡ no f p
       bad-message h = after-length ∙ rw h
 
-      pub left-over : {r : Message} {end : ℕ} → message kind .read m next ≡ ok (r, end) → (end ≡ length m → ⊥) → readMessage kind m ≡ no Extra end
+      pub left-over : {r : Message} {end : ℕ} → message layout .read m next ≡ ok (r, end) → (end ≡ length m → ⊥) → readMessage layout m ≡ no Extra end
       left-over {end = end} h other = after-length ∙ rw (h, ne-eqb end (length m) other)
 
-      pub all-read : {r : Message} {end : ℕ} → message kind .read m next ≡ ok (r, end) → end ≡ length m → readMessage kind m ≡ ok r
+      pub all-read : {r : Message} {end : ℕ} → message layout .read m next ≡ ok (r, end) → end ≡ length m → readMessage layout m ≡ ok r
       all-read {end = end} h same = after-length ∙ rw (h, eq-eqb end (length m) same)

@@ -1,4 +1,4 @@
--- The writer's state as numbers: its stage's number, then each field in turn, and how many columns; their types stand in a list of their own.
+-- The writer's state as numbers: its stage's number, then each field in turn, last how many columns; their types stand in memory of their own.
 use Prim.Native.Nat.{ℕ}
 use mathlib.Core.Path.{_≡_}
 use mathlib.Core.List.{List, [], _∷_}
@@ -13,7 +13,7 @@ use Rattle.write.specs.declared.Answer.{Answer}
 use Rattle.write.specs.declared.Answer.the-variants.{Reached, No}
 use Rattle.write.specs.State.{stageNumber}
 use Rattle.write.specs.Steps.{Out, Step, step}
-use Rattle.write.specs.Shown.{seen, shown}
+use Rattle.write.specs.Shown.{seen, shown, typesAfter}
 use Rattle.numbers.specs.Packed.{packed, itself}
 
 -- a number that no stage has says that nothing is open
@@ -24,8 +24,8 @@ stageOf n = pick (eqb n 1) Call (pick (eqb n 2) Array (pick (eqb n 3) Reply (pic
 abbrev pub byteOf : ℕ → ℕ
 byteOf n = pick (ltb n 256) n 0
 
-abbrev pub stateOf : List ℕ → List ℕ → State
-stateOf ns types = record {
+abbrev pub stateOf : List ℕ → State
+stateOf ns = record {
   stage = stageOf (getD ns 0 0);
   position = getD ns 1 0;
   «count_at» = getD ns 2 0;
@@ -36,13 +36,13 @@ stateOf ns types = record {
   «table_at» = getD ns 7 0;
   «rows_at» = getD ns 8 0;
   rows = getD ns 9 0;
-  columns = record { n = getD ns 10 0; types = types };
+  columns = getD ns 10 0;
 }
 
 abbrev pub numbersOf : State → List ℕ
 numbersOf s =
     stageNumber (s .stage) ∷ s .position ∷ s .«count_at» ∷ s .count ∷ s .«inner_at» ∷ s .«inner_type» ∷ s .«inner_count»
-    ∷ s .«table_at» ∷ s .«rows_at» ∷ s .rows ∷ s .columns .n ∷ []
+    ∷ s .«table_at» ∷ s .«rows_at» ∷ s .rows ∷ s .columns ∷ []
 
 -- what a step's answer says, and the numbers after it: a refusal keeps them
 abbrev pub toldAnswer : Answer → Res ℕ
@@ -53,29 +53,26 @@ abbrev pub kept : List ℕ → Answer → State → List ℕ
 kept ns (Reached n) s = numbersOf s
 kept ns (No r) s = ns
 
-abbrev pub keptTypes : List ℕ → Answer → List ℕ → List ℕ
-keptTypes types (Reached n) after = after
-keptTypes types (No r) after = types
-
 abbrev pub listed : List ℕ → Res ℕ → definition.State → List ℕ
-listed ns (ok n) s = numbersOf (shown s [])
+listed ns (ok n) s = numbersOf (shown s)
 listed ns (no f p) s = ns
 
--- a step on a state in numbers and on a buffer b answers r, and leaves the numbers ns′ and the buffer b′: all three are what the definition gives
-abbrev pub Wrote : Step → List ℕ → List ℕ → List ℕ → ℕ → List ℕ → List ℕ → Type 0
-Wrote s ns types b r ns′ b′ =
-    let o = step s (seen (stateOf ns types)) b in
+-- a step from a state st, with the types that are lent and on a buffer b, answers r, and leaves the numbers ns′ and the buffer b′: all three are
+-- what the definition gives; a refusal leaves the numbers ns
+abbrev pub WroteFrom : Step → State → List ℕ → List ℕ → List ℕ → ℕ → List ℕ → List ℕ → Type 0
+WroteFrom s st ns types b r ns′ b′ =
+    let o = step s (seen st types) b in
     (r ≡ packed itself (o .answer)) × (ns′ ≡ listed ns (o .answer) (o .state)) × (b′ ≡ o .buffer)
 
-abbrev pub typesAfter : List ℕ → Res ℕ → List ℕ → List ℕ
-typesAfter types (ok n) after = after
-typesAfter types (no f p) after = types
+-- from the state that the numbers say
+abbrev pub Wrote : Step → List ℕ → List ℕ → List ℕ → ℕ → List ℕ → List ℕ → Type 0
+Wrote s ns types b r ns′ b′ = WroteFrom s (stateOf ns) ns types b r ns′ b′
 
--- the same for a step that sets the types of the columns, from a state st
-abbrev pub WroteAll : Step → State → List ℕ → List ℕ → List ℕ → List ℕ → ℕ → List ℕ → List ℕ → List ℕ → Type 0
-WroteAll s st after ns types b r ns′ types′ b′ =
-    let o = step s (seen st) b in
-    (r ≡ packed itself (o .answer)) × (ns′ ≡ listed ns (o .answer) (o .state)) × (types′ ≡ typesAfter types (o .answer) after) × (b′ ≡ o .buffer)
+-- the same for the step that sets the types of the columns
+abbrev pub WroteAll : Step → List ℕ → List ℕ → List ℕ → ℕ → List ℕ → List ℕ → List ℕ → Type 0
+WroteAll s ns types b r ns′ types′ b′ =
+    let o = step s (seen (stateOf ns) []) b in
+    Wrote s ns [] b r ns′ b′ × (types′ ≡ typesAfter (o .answer) (o .state .outer .types) types)
 
 -- and for a call that has no state
 abbrev pub WroteLogin : Out → ℕ → List ℕ → Type 0

@@ -1,6 +1,7 @@
 // Answers and the writer's state as numbers, for the C interface, which takes and gives nothing else.
 use columns::Column;
-use columns::Gathered;
+use columns::Head;
+use columns::Survey;
 use fields::Counted;
 use fields::Owned;
 use fields::Written;
@@ -24,7 +25,7 @@ use record::ResponseShown;
 use record::Span;
 use show::Cell;
 use write::Answer;
-use write::Columns;
+use write::COLUMNS;
 use write::Stage;
 use write::State;
 use write::Step;
@@ -39,10 +40,13 @@ ghost use Rattle.query.specs.Answers.{toldCount, toldTable, toldColumn, toldPos
 ghost use Rattle.write.specs.State.{stageNumber};
 ghost use Prim.Native.Nat.{_+_, _≤_};
 ghost use lib.ListN.{length};
-ghost use Rattle.columns.specs.Gathers.{empty, addAll};
+ghost use Rattle.write.specs.Steps.{openTable};
+ghost use Rattle.write.specs.Shown.{Opened};
+ghost use Rattle.columns.specs.Entries.{columnsOf as entriesWith};
+ghost use Rattle.columns.specs.Walks.{Bounded, addAll, putAll, FitsAll};
 ghost use Rattle.numbers.specs.Entries.{entryAt, entriesOf};
 ghost use Rattle.numbers.specs.Packed.{above, packed, packedNo, nothing, itself, numberIn, rowsOf, columnsOf, typeOf};
-ghost use Rattle.numbers.specs.Stored.{stageOf, byteOf, stateOf, numbersOf, toldAnswer, kept, keptTypes};
+ghost use Rattle.numbers.specs.Stored.{stageOf, byteOf, stateOf, numbersOf, toldAnswer, kept};
 ghost use Rattle.numbers.specs.Listed.{lent, cellNumbers, givenNumbers};
 ghost use Rattle.numbers.specs.Records.{form, startOf, sizeOf, there, hasEdition, editionNumber, loginRequestNumbers, loginResponseNumbers, invocationNumbers, responseNumbers};
 
@@ -166,9 +170,9 @@ fn byte_of(n: u64) -> u8
     if n < 256 { n as u8 } else { 0 }
 }
 
-// The state that numbers and types say.
-pub fn load(numbers: &[u64; 11], types: &[u8; 64]) -> State
-    ensures { λ r. ⌜ r ≡ stateOf (now (numbers .entry)) (now (types .entry)) ⌝ }
+// The state that numbers say.
+pub fn load(numbers: &[u64; 11]) -> State
+    ensures { λ r. ⌜ r ≡ stateOf (now (numbers .entry)) ⌝ }
 {
     State {
         stage: stage_of(numbers[0]),
@@ -181,10 +185,7 @@ pub fn load(numbers: &[u64; 11], types: &[u8; 64]) -> State
         table_at: numbers[7] as usize,
         rows_at: numbers[8] as usize,
         rows: numbers[9] as usize,
-        columns: Columns {
-            n: numbers[10] as usize,
-            types: *types,
-        },
+        columns: numbers[10] as usize,
     }
 }
 
@@ -193,7 +194,6 @@ pub fn save(numbers: &mut [u64; 11], st: State)
     ensures { λ _. ⌜ now (numbers .exit) ≡ numbersOf st ⌝ }
 {
     let stage = st.stage;
-    let columns = st.columns;
     *numbers = [
         stage_number(stage),
         st.position as u64,
@@ -205,7 +205,7 @@ pub fn save(numbers: &mut [u64; 11], st: State)
         st.table_at as u64,
         st.rows_at as u64,
         st.rows as u64,
-        columns.n as u64,
+        st.columns as u64,
     ];
 }
 
@@ -217,24 +217,6 @@ pub fn keep(numbers: &mut [u64; 11], step: Step) -> u64
     let state = step.state;
     match answer {
         Answer::Reached(n) => {
-            save(numbers, state);
-            above(n)
-        }
-        Answer::No(refusal) => refused(refusal),
-    }
-}
-
-// The same for a step that also sets the types of the columns.
-pub fn keep_all(numbers: &mut [u64; 11], types: &mut [u8; 64], step: Step) -> u64
-    ensures { λ r. ⌜ (r ≡ packed itself (toldAnswer (step .answer))) × (now (numbers .exit) ≡ kept (now (numbers .entry)) (step .answer) (step .state)) × (now (types .exit) ≡ keptTypes (now (types .entry)) (step .answer) (step .state .columns .types)) ⌝ }
-{
-    let answer = step.answer;
-    let state = step.state;
-    match answer {
-        Answer::Reached(n) => {
-            let columns = state.columns;
-            let set = columns.types;
-            *types = set;
             save(numbers, state);
             above(n)
         }
@@ -264,28 +246,54 @@ fn column_at(list: &[u64], i: usize) -> Column
     }
 }
 
-// The columns that a list of numbers says, three for each. One or two numbers behind the last are left out. It sets them in place, since
-// columns::with_column would copy all of them for each.
-pub fn gathered(list: &[u64]) -> Gathered
-    ensures { λ r. ⌜ r ≡ addAll empty (entriesOf (now (list .entry))) ⌝ }
+// Opens a table whose columns a list of numbers says, three for each. One or two numbers behind the last are left out.
+pub fn open_listed(
+    out: &mut [u8],
+    st: State,
+    types: &mut [u8; COLUMNS],
+    status: u8,
+    list: &[u64],
+    names: &[u8],
+) -> Step
+    ensures { λ r. ⌜ Opened (openTable status (entriesWith (entriesOf (now (list .entry))) (now (names .entry)))) st (now (types .entry)) (now (out .entry)) r (now (types .exit)) (now (out .exit)) ⌝ }
 {
-    let mut cols = [Column {
-        wire_type: 0,
-        start: 0,
-        size: 0,
-    }; 64];
-    let mut n = 0;
+    let found = survey_listed(columns::no_columns(st), list, names);
+    let head = columns::open_head(out, st, status, found);
+    put_listed(out, types, head, list, names)
+}
+
+// What is found of the columns of a list of numbers, behind those of a survey.
+fn survey_listed(s: Survey, list: &[u64], names: &[u8]) -> Survey
+    requires { ⌜ Bounded s ⌝ }
+    ensures { λ r. ⌜ r ≡ addAll (now (names .entry)) s (entriesOf (now (list .entry))) ⌝ }
+{
+    let mut found = s;
     let mut i = 0;
     while 3 <= list.len() - i {
-        if n < 64 {
-            cols[n] = column_at(list, i);
-            n += 1;
-        } else {
-            n = 65;
-        }
+        found = columns::surveyed(found, column_at(list, i), names);
         i += 3;
     }
-    Gathered { n: n, cols: cols }
+    found
+}
+
+// Writes the columns of a list of numbers behind a head.
+fn put_listed(
+    out: &mut [u8],
+    types: &mut [u8; COLUMNS],
+    head: Head,
+    list: &[u64],
+    names: &[u8],
+) -> Step
+    requires { ⌜ FitsAll (now names) (length (now out)) (head .walk) (entriesOf (now list)) ⌝ }
+    ensures { λ r. ⌜ (r ≡ head .step) × (now (out .exit) ≡ putAll (now (names .entry)) (record { out = now (out .entry); types = now (types .entry); walk = head .walk }) (entriesOf (now (list .entry))) .out) × (now (types .exit) ≡ putAll (now (names .entry)) (record { out = now (out .entry); types = now (types .entry); walk = head .walk }) (entriesOf (now (list .entry))) .types) ⌝ }
+{
+    let mut walk = columns::walk_in(head);
+    let mut i = 0;
+    while 3 <= list.len() - i {
+        walk = columns::put_column(out, types, walk, column_at(list, i), names);
+        i += 3;
+    }
+    columns::step_in(head)
 }
 
 // ---- Values and records in a lent list; a refusal leaves it as it was.

@@ -3,22 +3,23 @@ use Prim.Native.Nat.{ℕ, zero, suc, _+_, _≤_, _<_}
 use mathlib.Core.Path.{_≡_, refl, sym, _∙_, ap}
 use mathlib.Core.Bool.{Bool}
 use mathlib.Core.List.{List, [], _∷_, _++_, map, append-assoc, append-nil}
-use mathlib.Core.Option.{Option, none}
+use mathlib.Core.Option.{Option}
 use lib.ListN.{length, take, replicate, length-append}
 use lib.Seq.{length-take-le}
 use native.Mathlib.Omega.{arith}
 use native.Mathlib.Nat.{add-assoc, add-zero, zero-add}
 use Rattle.format.specs.Result.{ok, bind}
 use Rattle.format.specs.Number.{Bytes}
-use Rattle.format.specs.Format.{Format, Index, Entry, number, block, ruled, into, both, present, nothing, each, room, piece}
+use Rattle.format.specs.Format.{Format, Index, Entry, number, ruled, into, both, nothing, each, room, piece}
 use Rattle.format.specs.Value.{value}
-use Rattle.format.specs.Message.{first, second, third, list, text, nullText, flagged, count, columnType, edition, unlimited, mostItems, mostColumns, mostRow, Metadata, metadata, row, Table, table, Response, response, Message, message, contentOf, response-of, readMessage, messageFields, noIndex}
+use Rattle.format.specs.Message.{first, second, third, list, count, columnType, unlimited, mostItems, mostColumns, mostRow, Metadata, metadata, row, Table, table, Response, head, response, Content, Message, message, contentOf, response-of, responseLayout, messageFields, noIndex}
 use Rattle.format.proofs.Results.{ok-same, no-ok, bound}
+use Rattle.message.proofs.Whole.{versioned, content-response}
 use Rattle.query.specs.Answers.{Here, entry, cellHere}
 use Rattle.query.specs.Places.{tablesOf, tableAt, typeAt, nameAt, rowAt, cellAt}
 use Rattle.query.proofs.Lists.{total, length-total, entry-below}
 use Rattle.query.proofs.Layouts.{length-number, length-count, types-total, type-place, name-place, row-place, cell-place, name, columns-0, columns-1, columns-2, contents-1}
-use Rattle.query.proofs.Replies.{tabled, reply-0, reply-1, reply-2, reply-3, reply-4, reply-5, reply-6, reply-7, flagByte, partsOf, headSize, table-place}
+use Rattle.query.proofs.Replies.{tabled, headSize, table-place}
 
 -- some entries stand side by side in a list
 pub record Within (es whole : List Entry) : Type 0 where
@@ -84,39 +85,31 @@ module _ {A : Type 0} (at-index : ℕ → Index → Index) (ix : Index) where
       rw (next, length-append, ← add-assoc o) (within-in (in-cell (k + 1) g xs l i (o + length (g y .bytes b)) p q) (record { before = g y .fields (at-index k ix) o b; after = []; is = rw append-nil }))
 
 -- a response lists its tables, from its table count on
-module _ (ix : Index) (o : ℕ) (p : Response) where
-  parts-in : Within (reply-0 .fields ix o (partsOf p)) (response .fields ix o p)
+module _ (timed : Bool) where
+  tabled-in : (ix : Index) (o : ℕ) (p : Response) → Within (tabled .fields ix (o + headSize timed p) (p .tables)) (response timed .fields ix o p)
   unfolding response into
-  parts-in = within-self _
+  tabled-in ix o p = in-second (head timed) (λ h. tabled) ix o (p .head, p .tables)
 
-  tabled-in : Within (tabled .fields ix (o + headSize p) (p .tables)) (response .fields ix o p)
-  unfolding headSize
-  tabled-in =
-      let v₀ = partsOf p in
-      let w₁ = within-in (in-second (block 8 22) reply-1 ix o v₀) parts-in in
-      let w₂ = within-in (in-second flagByte reply-2 ix _ (v₀ .1)) w₁ in
-      let w₃ = within-in (in-second (number 1 31) (reply-3 (p .flags)) ix _ (v₀ .1 .1)) w₂ in
-      let w₄ = within-in (in-second (present (flagged 32 (p .flags)) none (nullText 32 33)) (reply-4 (p .flags)) ix _ (v₀ .1 .1 .1)) w₃ in
-      let w₅ = within-in (in-second (number 1 34) (reply-5 (p .flags)) ix _ (v₀ .1 .1 .1 .1)) w₄ in
-      let w₆ = within-in (in-second (present (flagged 128 (p .flags)) none (nullText 35 36)) (reply-6 (p .flags)) ix _ (v₀ .1 .1 .1 .1 .1)) w₅ in
-      let w₇ = within-in (in-second (number 4 37) (reply-7 (p .flags)) ix _ (v₀ .1 .1 .1 .1 .1 .1)) w₆ in
-      let w₈ = within-in (in-second (present (flagged 64 (p .flags)) none (text 38 39)) (λ x. tabled) ix _ (v₀ .1 .1 .1 .1 .1 .1 .1)) w₇ in
-      within-at tabled (omega arith) w₈
+  module _ (r : Message) where
+    abbrev layout : ℕ
+    layout = responseLayout timed
 
-module _ (r : Message) where
-  response-in : Within (response .fields noIndex 5 (response-of (r .content))) (messageFields 4 r)
-  unfolding message contentOf into ruled
-  response-in =
-      within-in (within-at response (ap (λ (x : ℕ). 4 + x) (length-number 1 2 (r .version))) (in-second (edition 2) (contentOf 4) noIndex 4 (r .version, r .content)))
-      (record { before = piece 4 0 1 noIndex; after = []; is = rw append-nil })
+    response-in : Within (response timed .fields noIndex 5 (response-of (r .content))) (messageFields layout r)
+    unfolding message into ruled
+    response-in =
+        let same : contentOf layout (r .version) .fields noIndex 5 (r .content) ≡ response timed .fields noIndex 5 (response-of (r .content))
+        = ap (λ (f : Format Content). f .fields noIndex 5 (r .content)) (content-response timed (r .version)) in
+        rw (← same)
+        (within-in (within-at (contentOf layout (r .version)) (ap (λ (x : ℕ). 4 + x) (length-number 1 2 (r .version))) (in-second (versioned layout) (contentOf layout) noIndex 4 (r .version, r .content)))
+        (record { before = piece 4 0 1 noIndex; after = []; is = rw append-nil }))
 
-  -- table t is listed at its place, with its index
-  pub table-listed : (t : ℕ) {b : Table} → entry (tablesOf r) t ≡ ok b → Within (table .fields (first t noIndex) (tableAt r t) b) (messageFields 4 r)
-  table-listed t {b} e =
-      let p = response-of (r .content) in
-      let here = in-entry first noIndex 0 (length (tablesOf r)) table (tablesOf r) t (5 + headSize p + 2) (omega arith) e in
-      let all = within-in (in-list noIndex (5 + headSize p) 2 mostItems 40 first table (tablesOf r)) (within-in (tabled-in noIndex 5 p) response-in) in
-      within-at table (sym (table-place r t)) (rw (zero-add t) at (within-in here all))
+    -- table t is listed at its place, with its index
+    pub table-listed : (t : ℕ) {b : Table} → entry (tablesOf r) t ≡ ok b → Within (table .fields (first t noIndex) (tableAt timed r t) b) (messageFields layout r)
+    table-listed t {b} e =
+        let p = response-of (r .content) in
+        let here = in-entry first noIndex 0 (length (tablesOf r)) table (tablesOf r) t (5 + headSize timed p + 2) (omega arith) e in
+        let all = within-in (in-list noIndex (5 + headSize timed p) 2 mostItems 40 first table (tablesOf r)) (within-in (tabled-in noIndex 5 p) response-in) in
+        within-at table (sym (table-place timed r t)) (rw (zero-add t) at (within-in here all))
 
 -- a table lists its columns' types and names, and its rows' cells
 module _ (ix : Index) (at : ℕ) (b : Table) where

@@ -1,6 +1,7 @@
 -- What an acceptance says, and what is known of a table that was found.
 use Prim.Native.Nat.{ℕ, zero, suc, _+_, _≤_, _<_}
 use mathlib.Core.Path.{_≡_, refl, sym, _∙_, ap}
+use mathlib.Core.Bool.{Bool}
 use mathlib.Core.List.{List, [], _∷_}
 use mathlib.Core.Option.{Option, some, none}
 use lib.ListN.{length, take, replicate, getD}
@@ -11,14 +12,12 @@ use Rattle.format.specs.declared.Refusal.{Refusal}
 use Rattle.format.specs.Result.{Res, ok, no, bind}
 use Rattle.format.specs.Number.{Bytes}
 use Rattle.format.specs.Format.{number, each}
-use Rattle.format.specs.Message.{first, third, list, mostItems, Table, table, Response, response, Message, response-of, readMessage}
+use Rattle.format.specs.Message.{first, third, head, Table, table, Message, response-of, responseLayout, readMessage}
 use Rattle.format.proofs.Results.{ok-same, no-ok, bound}
-use Rattle.format.proofs.Formats.{lawful-list, lawful-table, lawful-response}
+use Rattle.format.proofs.Formats.{lawful-head}
 use Rattle.scan.specs.Shown.{shownNext, shownNumber}
 use Rattle.message.specs.declared.Verdict.{Verdict}
 use Rattle.message.specs.Verdict.{toldVerdict, verdictOf}
-use Rattle.message.specs.Inner.{head}
-use Rattle.message.proofs.Heads.{respond, response-is}
 use Rattle.query.specs.Stands.{Stands}
 use Rattle.query.specs.Shown.{pastOf, numberIn, shownOf}
 use Rattle.query.specs.declared.ColumnLayout.{ColumnLayout}
@@ -29,8 +28,8 @@ use Rattle.query.specs.Places.{tablesOf, tableAt, typeAt, nameAt, rowAt}
 use Rattle.query.specs.declared.TableLayout.{TableLayout}
 use Rattle.query.proofs.Stands.{stands-read, stands-fits, stands-at}
 use Rattle.query.proofs.Lists.{total, entry-in, entry-past, entry-below, stands-entry, sized}
-use Rattle.query.proofs.Layouts.{length-list, length-number, sized-table, name, names-stand, metadata-stands, type-place, name-place}
-use Rattle.query.proofs.Replies.{headSize, length-response, table-place, response-stands, table-count-stands, tables-stand}
+use Rattle.query.proofs.Layouts.{length-number, sized-table, name, names-stand, metadata-stands, type-place, name-place}
+use Rattle.query.proofs.Replies.{headSize, head-stands, table-place, response-stands, table-count-stands, tables-stand}
 use Rattle.query.proofs.Walks.{after-is, over-is, count-is, there}
 use Rattle.query.proofs.Parts.{part-stands}
 
@@ -60,61 +59,51 @@ module _ {A : Type 0} (kind : ℕ) (m : List ℕ) where
   pub admitted : (k : Message → Res A) {x : Res A} {p : Message} → readMessage kind m ≡ ok p → x ≡ k p → x ≡ bind (readMessage kind m) k
   admitted k e f = f ∙ sym (ap (λ (r : Res Message). bind r k) e)
 
-module _ (m : List ℕ) (b : Bytes m) (p : Message) (accepted : readMessage 4 m ≡ ok p) where
+module _ (timed : Bool) (m : List ℕ) (b : Bytes m) (p : Message) (accepted : readMessage (responseLayout timed) m ≡ ok p) where
   -- what comes before the table count ends there
-  head-ends : pastOf (shownNext (head .read m 5)) ≡ 5 + headSize (response-of (p .content))
-  head-ends =
-      let rs = response-stands m b p accepted in
-      let reads = stands-read lawful-response rs in
-      let h = bound (head .read m 5) (sym (response-is m 5) ∙ reads) in
-      let q = bound (list 2 mostItems 40 first table .read m (h .0 .1)) (h .2) in
-      let far = lawful-list 2 mostItems 40 first lawful-table .sound m b (h .0 .1) (q .0 .0) (q .0 .1) (q .1) .1 .far in
-      let same = ok-same (q .2) in
-      let end : q .0 .1 ≡ 5 + length (response .bytes (response-of (p .content))) = ap (λ (z : Response × ℕ). z .1) same in
-      let tables : q .0 .0 ≡ tablesOf p = ap (λ (z : Response × ℕ). z .0 .tables) same in
-      let size : length (list 2 mostItems 40 first table .bytes (q .0 .0)) ≡ 2 + total table (tablesOf p) = rw tables (length-list 2 mostItems 40 first table (tablesOf p)) in
-      rw (h .1) (omega (arith, length-response (response-of (p .content))))
+  head-ends : pastOf (shownNext (head timed .read m 5)) ≡ 5 + headSize timed (response-of (p .content))
+  head-ends = rw (stands-read (lawful-head timed) (head-stands timed (response-stands timed m b p accepted)))
 
-  pub tables-is : (counted : ℕ) {n : ℕ} → counted ≡ pastOf (shownNext (head .read m 5)) → n ≡ numberIn (shownNumber (number 2 0 .read m counted)) → n ≡ length (tablesOf p)
-  tables-is counted e f = count-is m 2 40 counted f (e ∙ head-ends) (table-count-stands m b p accepted)
+  pub tables-is : (counted : ℕ) {n : ℕ} → counted ≡ pastOf (shownNext (head timed .read m 5)) → n ≡ numberIn (shownNumber (number 2 0 .read m counted)) → n ≡ length (tablesOf p)
+  tables-is counted e f = count-is m 2 40 counted f (e ∙ head-ends) (table-count-stands timed m b p accepted)
 
   -- table t stands at its place
-  pub table-stands : (t : ℕ) {tab : Table} → entry (tablesOf p) t ≡ ok tab → Stands table m (tableAt p t) tab
-  table-stands t e = stands-at (sym (table-place p t)) (stands-entry first 0 (length (tablesOf p)) table (tablesOf p) t (tables-stand m b p accepted) e)
+  pub table-stands : (t : ℕ) {tab : Table} → entry (tablesOf p) t ≡ ok tab → Stands table m (tableAt timed p t) tab
+  table-stands t e = stands-at (sym (table-place timed p t)) (stands-entry first 0 (length (tablesOf p)) table (tablesOf p) t (tables-stand timed m b p accepted) e)
 
-  pub table-at-is : (t counted from : ℕ) {at : ℕ} → t < length (tablesOf p) → counted ≡ pastOf (shownNext (head .read m 5))
-      → from ≡ pastOf (shownNext (number 2 0 .read m counted)) → at ≡ pastOf (shownNext (each first 0 (replicate t sized) .read m from)) → at ≡ tableAt p t
+  pub table-at-is : (t counted from : ℕ) {at : ℕ} → t < length (tablesOf p) → counted ≡ pastOf (shownNext (head timed .read m 5))
+      → from ≡ pastOf (shownNext (number 2 0 .read m counted)) → at ≡ pastOf (shownNext (each first 0 (replicate t sized) .read m from)) → at ≡ tableAt timed p t
   table-at-is t counted from h e f g =
-      let fit = stands-fits (table-count-stands m b p accepted) in
-      let from-is : from ≡ 5 + headSize (response-of (p .content)) + 2 = after-is m 2 counted f (e ∙ head-ends) (omega (arith, length-number 2 40 (length (tablesOf p)))) in
-      over-is m sized-table first (length (tablesOf p)) t (tablesOf p) from g from-is (omega arith) (tables-stand m b p accepted) ∙ sym (table-place p t)
+      let fit = stands-fits (table-count-stands timed m b p accepted) in
+      let from-is : from ≡ 5 + headSize timed (response-of (p .content)) + 2 = after-is m 2 counted f (e ∙ head-ends) (omega (arith, length-number 2 40 (length (tablesOf p)))) in
+      over-is m sized-table first (length (tablesOf p)) t (tablesOf p) from g from-is (omega arith) (tables-stand timed m b p accepted) ∙ sym (table-place timed p t)
 
   -- a table past the end, and one that is there
-  pub table-past : (t : ℕ) → length (tablesOf p) ≤ t → no PastEnd 0 ≡ bind (entry (tablesOf p) t) (λ tab. ok (layoutOf (tableAt p t) tab))
-  table-past t h = sym (ap (λ (r : Res Table). bind r (λ tab. ok (layoutOf (tableAt p t) tab))) (entry-past (tablesOf p) t h))
+  pub table-past : (t : ℕ) → length (tablesOf p) ≤ t → no PastEnd 0 ≡ bind (entry (tablesOf p) t) (λ tab. ok (layoutOf (tableAt timed p t) tab))
+  table-past t h = sym (ap (λ (r : Res Table). bind r (λ tab. ok (layoutOf (tableAt timed p t) tab))) (entry-past (tablesOf p) t h))
 
-  pub table-found : (t at : ℕ) {l : TableLayout} → t < length (tablesOf p) → at ≡ tableAt p t → ((tab : Table) → Stands table m at tab → l ≡ layoutOf at tab)
-      → ok l ≡ bind (entry (tablesOf p) t) (λ tab. ok (layoutOf (tableAt p t) tab))
+  pub table-found : (t at : ℕ) {l : TableLayout} → t < length (tablesOf p) → at ≡ tableAt timed p t → ((tab : Table) → Stands table m at tab → l ≡ layoutOf at tab)
+      → ok l ≡ bind (entry (tablesOf p) t) (λ tab. ok (layoutOf (tableAt timed p t) tab))
   table-found t at {l} h same lays =
       let w = entry-in (tablesOf p) t h in
-      let is : l ≡ layoutOf (tableAt p t) (w .0) = rw same at (lays (w .0) (rw same (table-stands t (w .1)))) in
-      ap ok is ∙ sym (ap (λ (r : Res Table). bind r (λ tab. ok (layoutOf (tableAt p t) tab))) (w .1))
+      let is : l ≡ layoutOf (tableAt timed p t) (w .0) = rw same at (lays (w .0) (rw same (table-stands t (w .1)))) in
+      ap ok is ∙ sym (ap (λ (r : Res Table). bind r (λ tab. ok (layoutOf (tableAt timed p t) tab))) (w .1))
 
 -- a table that was found
-pub record Opened (m : List ℕ) (t : ℕ) (l : TableLayout) : Type 0 where
+pub record Opened (timed : Bool) (m : List ℕ) (t : ℕ) (l : TableLayout) : Type 0 where
   pub message : Message
-  pub accepted : readMessage 4 m ≡ ok message
+  pub accepted : readMessage (responseLayout timed) m ≡ ok message
   pub tab : Table
   pub there : entry (tablesOf message) t ≡ ok tab
-  pub stands : Stands table m (tableAt message t) tab
-  pub is : l ≡ layoutOf (tableAt message t) tab
+  pub stands : Stands table m (tableAt timed message t) tab
+  pub is : l ≡ layoutOf (tableAt timed message t) tab
 
-module _ (m : List ℕ) (b : Bytes m) (t : ℕ) where
-  pub opened : {l : TableLayout} → ok l ≡ ofTable m t (λ at tab. ok (layoutOf at tab)) → Opened m t l
+module _ (timed : Bool) (m : List ℕ) (b : Bytes m) (t : ℕ) where
+  pub opened : {l : TableLayout} → ok l ≡ ofTable timed m t (λ at tab. ok (layoutOf at tab)) → Opened timed m t l
   opened e =
-      let r = bound (readMessage 4 m) (sym e) in
+      let r = bound (readMessage (responseLayout timed) m) (sym e) in
       let q = bound (entry (tablesOf (r .0)) t) (r .2) in
-      record { message = r .0; accepted = r .1; tab = q .0; there = q .1; stands = table-stands m b (r .0) (r .1) t (q .1); is = sym (ok-same (q .2)) }
+      record { message = r .0; accepted = r .1; tab = q .0; there = q .1; stands = table-stands timed m b (r .0) (r .1) t (q .1); is = sym (ok-same (q .2)) }
 
 -- the names of a table stand where its layout says
 pub names-from : {m : List ℕ} {at : ℕ} {b : Table} → Stands table m at b → {names count : ℕ} → names ≡ nameAt at (b .metadata) 0 → count ≡ length (b .metadata .types)
@@ -124,15 +113,15 @@ names-from {at = at} {b = b} d {names} e n =
     let at-is : at + 4 + 7 + length (b .metadata .types) ≡ names = omega (arith, name-place at (b .metadata) 0 (omega arith)) in
     rw n (stands-at at-is (names-stand (metadata-stands d)))
 
-module _ {m : List ℕ} {t : ℕ} {l : TableLayout} (o : Opened m t l) where
+module _ {timed : Bool} {m : List ℕ} {t : ℕ} {l : TableLayout} (o : Opened timed m t l) where
   abbrev place : ℕ
-  place = tableAt (o .message) t
+  place = tableAt timed (o .message) t
 
   -- what is asked of it
-  pub asked : {A : Type 0} (ask : ℕ → Table → Res A) → ofTable m t ask ≡ ask (tableAt (o .message) t) (o .tab)
+  pub asked : {A : Type 0} (ask : ℕ → Table → Res A) → ofTable timed m t ask ≡ ask (tableAt timed (o .message) t) (o .tab)
   asked {A} ask =
-      ap (λ (r : Res Message). bind r (λ z. bind (entry (tablesOf z) t) (λ tab. ask (tableAt z t) tab))) (o .accepted)
-      ∙ ap (λ (r : Res Table). bind r (λ tab. ask (tableAt (o .message) t) tab)) (o .there)
+      ap (λ (r : Res Message). bind r (λ z. bind (entry (tablesOf z) t) (λ tab. ask (tableAt timed z t) tab))) (o .accepted)
+      ∙ ap (λ (r : Res Table). bind r (λ tab. ask (tableAt timed (o .message) t) tab)) (o .there)
 
   pub columns-are : l .columns ≡ length (o .tab .metadata .types)
   columns-are = ap (λ (z : TableLayout). z .columns) (o .is)
@@ -140,13 +129,13 @@ module _ {m : List ℕ} {t : ℕ} {l : TableLayout} (o : Opened m t l) where
   pub rows-are : l .rows ≡ length (o .tab .rows)
   rows-are = ap (λ (z : TableLayout). z .rows) (o .is)
 
-  pub types-at : l .types ≡ typeAt (tableAt (o .message) t) (o .tab .metadata) 0
+  pub types-at : l .types ≡ typeAt (tableAt timed (o .message) t) (o .tab .metadata) 0
   types-at = ap (λ (z : TableLayout). z .types) (o .is)
 
-  pub names-at : l .names ≡ nameAt (tableAt (o .message) t) (o .tab .metadata) 0
+  pub names-at : l .names ≡ nameAt (tableAt timed (o .message) t) (o .tab .metadata) 0
   names-at = ap (λ (z : TableLayout). z .names) (o .is)
 
-  pub rows-at : l .«first_row» ≡ rowAt (tableAt (o .message) t) (o .tab) 0
+  pub rows-at : l .«first_row» ≡ rowAt (tableAt timed (o .message) t) (o .tab) 0
   rows-at = ap (λ (z : TableLayout). z .«first_row») (o .is)
 
   pub named : Stands (each third 0 (replicate (l .columns) name)) m (l .names) (o .tab .metadata .names)
@@ -158,17 +147,17 @@ module _ {m : List ℕ} {t : ℕ} {l : TableLayout} (o : Opened m t l) where
       omega (arith, columns-are, types-at, type-place place (o .tab .metadata) 0 (omega arith), stands-fits (names-stand (metadata-stands (o .stands))))
 
   -- a column, a row and a cell past the end
-  pub column-past : (c : ℕ) → l .columns ≤ c → no PastEnd 0 ≡ ofTable m t (λ at b. columnOf at b c)
+  pub column-past : (c : ℕ) → l .columns ≤ c → no PastEnd 0 ≡ ofTable timed m t (λ at b. columnOf at b c)
   column-past c h =
       let past : entry (o .tab .metadata .types) c ≡ no PastEnd 0 = entry-past (o .tab .metadata .types) c (omega (arith, columns-are)) in
       sym (asked (λ at b. columnOf at b c) ∙ rw past)
 
-  pub row-past : (k c : ℕ) → l .rows ≤ k → no PastEnd 0 ≡ ofTable m t (λ at b. bind (cellHere at b k c) (λ h. ok (shownOf h)))
+  pub row-past : (k c : ℕ) → l .rows ≤ k → no PastEnd 0 ≡ ofTable timed m t (λ at b. bind (cellHere at b k c) (λ h. ok (shownOf h)))
   row-past k c h =
       let past : entry (o .tab .rows) k ≡ no PastEnd 0 = entry-past (o .tab .rows) k (omega (arith, rows-are)) in
       sym (asked (λ at b. bind (cellHere at b k c) (λ h. ok (shownOf h))) ∙ rw past)
 
-  pub cell-past : (k c : ℕ) → k < l .rows → l .columns ≤ c → no PastEnd 0 ≡ ofTable m t (λ at b. bind (cellHere at b k c) (λ h. ok (shownOf h)))
+  pub cell-past : (k c : ℕ) → k < l .rows → l .columns ≤ c → no PastEnd 0 ≡ ofTable timed m t (λ at b. bind (cellHere at b k c) (λ h. ok (shownOf h)))
   cell-past k c h n =
       let w = entry-in (o .tab .rows) k (omega (arith, rows-are)) in
       let past : entry (o .tab .metadata .types) c ≡ no PastEnd 0 = entry-past (o .tab .metadata .types) c (omega (arith, columns-are)) in
@@ -270,10 +259,10 @@ module _ {P : Type 0} (kind : ℕ) (parts : Message → List P) (place : Message
       part-stands (w .length-field) (w .body-field) (h .0 .type) (h .0 .type-at) (h .0 .value) (w .stands) (h .2) .0
 
 -- a cell that was found stands there
-pub cell-stands : (m : List ℕ) → Bytes m → (t k c : ℕ) (p : Message) → readMessage 4 m ≡ ok p → (b : Table) → entry (tablesOf p) t ≡ ok b → (h : Here) → cellHere (tableAt p t) b k c ≡ ok h → Shows m h
-cell-stands m all t k c p e b there-is h f =
+pub cell-stands : (timed : Bool) (m : List ℕ) → Bytes m → (t k c : ℕ) (p : Message) → readMessage (responseLayout timed) m ≡ ok p → (b : Table) → entry (tablesOf p) t ≡ ok b → (h : Here) → cellHere (tableAt timed p t) b k c ≡ ok h → Shows m h
+cell-stands timed m all t k c p e b there-is h f =
     let v = bound (entry (b .rows) k) f in
     let y = bound (entry (b .metadata .types) c) (v .2) in
-    let w = there m (table-stands m all p e t there-is) k c (entry-below (b .rows) k (v .1)) (entry-below (b .metadata .types) c (y .1)) in
+    let w = there m (table-stands timed m all p e t there-is) k c (entry-below (b .rows) k (v .1)) (entry-below (b .metadata .types) c (y .1)) in
     let same : w .here ≡ h = ok-same (sym (w .is) ∙ f) in
     rw (← same) (record { length-field = 50; body-field = 51; stands = w .stands })

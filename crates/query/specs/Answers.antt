@@ -9,7 +9,7 @@ use lib.Dec.{eqb}
 use Rattle.format.specs.declared.Fault.the-variants.{WireType, PastEnd, NoColumn}
 use Rattle.format.specs.Result.{Res, ok, no, bind, pick}
 use Rattle.format.specs.Value.{Value, fixed}
-use Rattle.format.specs.Message.{Table, table, Items, bytes, values, Argument, null, one, array, Param, Message, readMessage}
+use Rattle.format.specs.Message.{Table, table, Items, bytes, values, Argument, null, one, array, Param, Message, readMessage, responseLayout}
 use Rattle.show.specs.declared.Cell.{Cell}
 use Rattle.show.specs.Cells.{cellOf}
 use Rattle.query.specs.declared.Count.{Count}
@@ -43,9 +43,9 @@ module _ {A B : Type 0} where
   ofPart kind parts place m i ask = bind (readMessage kind m) (λ r. bind (entry (parts r) i) (λ b. ask (place r i) b))
 
 module _ {A : Type 0} where
-  -- of table t of a response, and of parameter p of an invocation
-  abbrev pub ofTable : List ℕ → ℕ → (ℕ → Table → Res A) → Res A
-  ofTable = ofPart 4 tablesOf tableAt
+  -- of table t of a response with its round trip or without, and of parameter p of an invocation
+  abbrev pub ofTable : Bool → List ℕ → ℕ → (ℕ → Table → Res A) → Res A
+  ofTable timed = ofPart (responseLayout timed) tablesOf (tableAt timed)
 
   abbrev pub ofParam : List ℕ → ℕ → (ℕ → Param → Res A) → Res A
   ofParam = ofPart 3 paramsOf paramAt
@@ -167,25 +167,25 @@ abbrev pub askTables : List ℕ → Res ℕ
 askTables m = bind (readMessage 4 m) (λ p. ok (length (tablesOf p)))
 
 abbrev pub askTable : List ℕ → ℕ → Res TableLayout
-askTable m t = ofTable m t (λ at b. ok (layoutOf at b))
+askTable m t = ofTable true m t (λ at b. ok (layoutOf at b))
 
 abbrev pub askColumn : List ℕ → ℕ → ℕ → Res ColumnLayout
-askColumn m t c = ofTable m t (λ at b. columnOf at b c)
+askColumn m t c = ofTable true m t (λ at b. columnOf at b c)
 
 abbrev pub askPlaced : List ℕ → ℕ → ℕ → Res (Option ColumnLayout)
-askPlaced m t c = ofTable m t (λ at b. ok (perhaps (columnOf at b c)))
+askPlaced m t c = ofTable true m t (λ at b. ok (perhaps (columnOf at b c)))
 
 abbrev pub askPosition : List ℕ → ℕ → List ℕ → Res ℕ
-askPosition m t name = ofTable m t (λ at b. firstNamed name (b .metadata .names) 0)
+askPosition m t name = ofTable true m t (λ at b. firstNamed name (b .metadata .names) 0)
 
 abbrev pub askNamed : List ℕ → ℕ → List ℕ → Res (ℕ × ColumnLayout)
-askNamed m t name = ofTable m t (λ at b. namedOf at b name)
+askNamed m t name = ofTable true m t (λ at b. namedOf at b name)
 
 abbrev pub askCell : List ℕ → ℕ → ℕ → ℕ → Res Cell
-askCell m t k c = ofTable m t (λ at b. bind (cellHere at b k c) (λ h. ok (shownHere h)))
+askCell m t k c = ofTable true m t (λ at b. bind (cellHere at b k c) (λ h. ok (shownHere h)))
 
 abbrev pub askCellSpan : List ℕ → ℕ → ℕ → ℕ → Res (Option (ℕ × ℕ))
-askCellSpan m t k c = ofTable m t (λ at b. bind (cellHere at b k c) (λ h. partOf (h .type-at) (shownHere h)))
+askCellSpan m t k c = ofTable true m t (λ at b. bind (cellHere at b k c) (λ h. partOf (h .type-at) (shownHere h)))
 
 abbrev pub askParameter : List ℕ → ℕ → Res Given
 askParameter m p = ofParam m p (λ at q. ok (givenOf at (q .type) (q .argument)))

@@ -1,32 +1,23 @@
 -- Where things stand in a response and in an invocation. Each stands where the message would end if it were cut there: after the encoding of what comes before it.
 -- Lengths and counts have the same size whatever they say, so nothing else decides a place, and no layout is restated here.
 use Prim.Native.Nat.{ℕ, _+_}
+use mathlib.Core.Bool.{Bool}
 use mathlib.Core.List.{List, []}
 use mathlib.Core.Option.{some, none}
 use lib.ListN.{length, take}
 use Rattle.format.specs.Value.{Value, tArray}
-use Rattle.format.specs.Message.{Metadata, metadata, row, Table, table, Response, Message, response-of, aResponse, Items, bytes, values, Argument, null, one, array, Param, param, Invocation, anInvocation, invocation-of, messageBytes}
+use Rattle.format.specs.Message.{Metadata, metadata, row, Table, table, Response, Message, response-of, aResponse, Items, bytes, values, Argument, null, one, array, Param, param, Invocation, anInvocation, invocation-of, responseLayout, messageBytes}
 
 -- the tables of a response, and the same response with other tables
 abbrev pub tablesOf : Message → List Table
 tablesOf r = response-of (r .content) .tables
 
 abbrev pub retabled : Response → List Table → Response
-retabled p l = record {
-  client = p .client;
-  flags = p .flags;
-  status = p .status;
-  statusString = p .statusString;
-  appStatus = p .appStatus;
-  appString = p .appString;
-  roundTrip = p .roundTrip;
-  exception = p .exception;
-  tables = l;
-}
+retabled p l = record { head = p .head; tables = l }
 
--- table t: after the tables before it
-unfoldable pub tableAt : Message → ℕ → ℕ
-tableAt r t = length (messageBytes 4 (record { version = r .version; content = aResponse (retabled (response-of (r .content)) (take t (tablesOf r))) }))
+-- table t: after the tables before it, in a response with its round trip or without
+unfoldable pub tableAt : Bool → Message → ℕ → ℕ
+tableAt timed r t = length (messageBytes (responseLayout timed) (record { version = r .version; content = aResponse (retabled (response-of (r .content)) (take t (tablesOf r))) }))
 
 -- in a table at a place, after its length: its metadata
 abbrev pub metadataAt : ℕ → ℕ

@@ -20,14 +20,13 @@ ghost use Rattle.format.specs.declared.Fault.the-variants.{WireType};
 ghost use Rattle.format.specs.Result.{ok, bind, pick};
 ghost use Rattle.format.specs.Format.{number, each, counted};
 ghost use Rattle.format.specs.Value.{string, anything, ascii, value, tTinyint};
-ghost use Rattle.format.specs.Message.{first, third, unlimited, Message, readMessage, Table, table, Param, param};
+ghost use Rattle.format.specs.Message.{first, third, unlimited, Message, readMessage, responseLayout, head, Table, table, Param, param};
 ghost use Rattle.scan.specs.Shown.{shownNext, shownNumber, shownByte, bodyEnd, refusal};
 ghost use Rattle.show.specs.Cells.{cellOf, shownAs};
-ghost use Rattle.message.specs.Inner.{head};
 ghost use Rattle.query.specs.Stands.{Stands};
 ghost use Rattle.query.specs.Places.{tablesOf, tableAt, typeAt, nameAt, rowAt, paramsOf, paramAt};
 ghost use Rattle.query.specs.Shown.{pastOf, numberIn, byteIn, cellIn, spotOf, shownOf, toldFound};
-ghost use Rattle.query.specs.Answers.{entry, ofTable, ofParam, layoutOf, columnOf, firstNamed, namedOf, cellHere, partOf, partIn, givenOf, valueHere, elementOf, askTables, askTable, askColumn, askPlaced, askPosition, askNamed, askCell, askCellSpan, askParameter, askParameterSpan, askElement, askElementSpan, toldCount, toldTable, toldColumn, toldPlaced, toldPosition, toldNamed, toldCell, toldPart, toldArgument};
+ghost use Rattle.query.specs.Answers.{entry, perhaps, ofTable, ofParam, layoutOf, columnOf, firstNamed, namedOf, cellHere, partOf, partIn, givenOf, valueHere, elementOf, askTables, askTable, askColumn, askPlaced, askPosition, askNamed, askCell, askCellSpan, askParameter, askParameterSpan, askElement, askElementSpan, toldCount, toldTable, toldColumn, toldPlaced, toldPosition, toldNamed, toldCell, toldPart, toldArgument};
 
 // ---- What the questions are answered with.
 
@@ -235,22 +234,28 @@ fn wrong_type(place: usize) -> Refusal
 
 // ---- Tables.
 
-// Where the count of a response's tables stands.
-fn tables_counted(m: &[u8]) -> usize
-    ensures { λ r. ⌜ r ≡ pastOf (shownNext (head .read (now (m .entry)) 5)) ⌝ }
+// Where the count of a response's tables stands; here and below, timed says whether the response has its round trip.
+fn tables_counted(m: &[u8], timed: bool) -> usize
+    ensures { λ r. ⌜ r ≡ pastOf (shownNext (head timed .read (now (m .entry)) 5)) ⌝ }
 {
-    past(message::skip_head(m, 5))
+    past(message::skip_head(m, 5, timed))
+}
+
+fn count_tables(m: &[u8], timed: bool) -> Count
+    ensures { λ r. ⌜ toldCount r ≡ bind (readMessage (responseLayout timed) (now (m .entry))) (λ p. ok (length (tablesOf p))) ⌝ }
+{
+    let verdict = message::accept_layout(format::response_layout(timed), m);
+    match verdict {
+        Verdict::No(r) => Count::No(r),
+        Verdict::Fine => Count::Is(count_at(m, tables_counted(m, timed), 2)),
+    }
 }
 
 // How many tables a response has.
 pub fn tables(m: &[u8]) -> Count
     ensures { λ r. ⌜ toldCount r ≡ askTables (now (m .entry)) ⌝ }
 {
-    let verdict = message::accept(4, m);
-    match verdict {
-        Verdict::No(r) => Count::No(r),
-        Verdict::Fine => Count::Is(count_at(m, tables_counted(m), 2)),
-    }
+    count_tables(m, true)
 }
 
 // The table at a place.
@@ -281,10 +286,10 @@ fn layout_at(m: &[u8], at: usize) -> TableLayout
 }
 
 // Table t of an accepted response.
-fn table_in(m: &[u8], t: usize) -> TableAnswer
-    ensures { λ r. ⌜ ((p : Message) → readMessage 4 (now (m .entry)) ≡ ok p → toldTable r ≡ bind (entry (tablesOf p) t) (λ b. ok (layoutOf (tableAt p t) b))) ⌝ }
+fn table_in(m: &[u8], timed: bool, t: usize) -> TableAnswer
+    ensures { λ r. ⌜ ((p : Message) → readMessage (responseLayout timed) (now (m .entry)) ≡ ok p → toldTable r ≡ bind (entry (tablesOf p) t) (λ b. ok (layoutOf (tableAt timed p t) b))) ⌝ }
 {
-    let counted = tables_counted(m);
+    let counted = tables_counted(m, timed);
     if count_at(m, counted, 2) <= t {
         return TableAnswer::No(PAST_END);
     }
@@ -292,15 +297,21 @@ fn table_in(m: &[u8], t: usize) -> TableAnswer
     TableAnswer::Is(layout_at(m, over(m, first, t)))
 }
 
+fn find_table(m: &[u8], timed: bool, t: usize) -> TableAnswer
+    ensures { λ r. ⌜ toldTable r ≡ ofTable timed (now (m .entry)) t (λ at b. ok (layoutOf at b)) ⌝ }
+{
+    let verdict = message::accept_layout(format::response_layout(timed), m);
+    match verdict {
+        Verdict::No(r) => TableAnswer::No(r),
+        Verdict::Fine => table_in(m, timed, t),
+    }
+}
+
 // What table t of a response says of itself, and where it and its parts stand.
 pub fn table(m: &[u8], t: usize) -> TableAnswer
     ensures { λ r. ⌜ toldTable r ≡ askTable (now (m .entry)) t ⌝ }
 {
-    let verdict = message::accept(4, m);
-    match verdict {
-        Verdict::No(r) => TableAnswer::No(r),
-        Verdict::Fine => table_in(m, t),
-    }
+    find_table(m, true, t)
 }
 
 // ---- Columns.
@@ -323,11 +334,11 @@ fn column_at(m: &[u8], types: usize, names: usize, c: usize) -> ColumnLayout
     }
 }
 
-// What column c of table t says of itself, or that the table has fewer.
-pub fn placed_column(m: &[u8], t: usize, c: usize) -> Placed
-    ensures { λ r. ⌜ toldPlaced r ≡ askPlaced (now (m .entry)) t c ⌝ }
+// What column c of table t says of itself, or that the table has fewer; of a response with its round trip or without.
+pub fn find_placed(m: &[u8], timed: bool, t: usize, c: usize) -> Placed
+    ensures { λ r. ⌜ toldPlaced r ≡ ofTable timed (now (m .entry)) t (λ at b. ok (perhaps (columnOf at b c))) ⌝ }
 {
-    let answer = table(m, t);
+    let answer = find_table(m, timed, t);
     match answer {
         TableAnswer::No(r) => Placed::No(r),
         TableAnswer::Is(layout) => {
@@ -338,6 +349,13 @@ pub fn placed_column(m: &[u8], t: usize, c: usize) -> Placed
             }
         }
     }
+}
+
+// What column c of table t says of itself, or that the table has fewer.
+pub fn placed_column(m: &[u8], t: usize, c: usize) -> Placed
+    ensures { λ r. ⌜ toldPlaced r ≡ askPlaced (now (m .entry)) t c ⌝ }
+{
+    find_placed(m, true, t, c)
 }
 
 // What column c of table t says of itself.
@@ -399,7 +417,7 @@ fn search(m: &[u8], from: usize, count: usize, name: &[u8]) -> Position
 pub fn find_column(m: &[u8], t: usize, name: &[u8]) -> Position
     ensures { λ r. ⌜ toldPosition r ≡ askPosition (now (m .entry)) t (now (name .entry)) ⌝ }
 {
-    let answer = table(m, t);
+    let answer = find_table(m, true, t);
     match answer {
         TableAnswer::No(r) => Position::No(r),
         TableAnswer::Is(layout) => search(m, layout.names, layout.columns, name),
@@ -422,7 +440,7 @@ fn named_in(m: &[u8], types: usize, names: usize, count: usize, name: &[u8]) -> 
 pub fn named_column(m: &[u8], t: usize, name: &[u8]) -> Named
     ensures { λ r. ⌜ toldNamed r ≡ askNamed (now (m .entry)) t (now (name .entry)) ⌝ }
 {
-    let answer = table(m, t);
+    let answer = find_table(m, true, t);
     match answer {
         TableAnswer::No(r) => Named::No(r),
         TableAnswer::Is(layout) => named_in(m, layout.types, layout.names, layout.columns, name),
@@ -491,10 +509,10 @@ enum FoundCell {
     No(Refusal),
 }
 
-fn find_cell(m: &[u8], t: usize, k: usize, c: usize) -> FoundCell
-    ensures { λ r. ⌜ toldFound r ≡ ofTable (now (m .entry)) t (λ at b. bind (cellHere at b k c) (λ h. ok (shownOf h))) ⌝ }
+fn find_cell(m: &[u8], timed: bool, t: usize, k: usize, c: usize) -> FoundCell
+    ensures { λ r. ⌜ toldFound r ≡ ofTable timed (now (m .entry)) t (λ at b. bind (cellHere at b k c) (λ h. ok (shownOf h))) ⌝ }
 {
-    let answer = table(m, t);
+    let answer = find_table(m, timed, t);
     match answer {
         TableAnswer::No(r) => FoundCell::No(r),
         TableAnswer::Is(layout) => {
@@ -566,14 +584,14 @@ fn part_in(m: &[u8], span: Part) -> &[u8]
 pub fn cell(m: &[u8], t: usize, k: usize, c: usize) -> CellAnswer
     ensures { λ r. ⌜ toldCell r ≡ askCell (now (m .entry)) t k c ⌝ }
 {
-    cell_of(find_cell(m, t, k, c))
+    cell_of(find_cell(m, true, t, k, c))
 }
 
 // Where the bytes of a text or binary cell stand, or that it is null.
 pub fn cell_span(m: &[u8], t: usize, k: usize, c: usize) -> Part
     ensures { λ r. ⌜ toldPart r ≡ askCellSpan (now (m .entry)) t k c ⌝ }
 {
-    span_of(find_cell(m, t, k, c))
+    span_of(find_cell(m, true, t, k, c))
 }
 
 // The bytes of a text or binary cell, as that part of the message; the empty part for any other answer of `cell_span`.

@@ -16,7 +16,6 @@ use Rattle.format.specs.Result.{Res, ok, no, bind}
 use Rattle.format.specs.Number.{numBytes}
 use Rattle.format.specs.Format.{number, block, present, nothing, into}
 use Rattle.format.specs.Value.{string, anything, mostBytes}
-use Rattle.format.specs.Message.{flagged}
 use Rattle.scan.proofs.Counted.{Here}
 use Rattle.scan.specs.Signed.{signed}
 use Rattle.record.specs.declared.Span.{Span}
@@ -28,9 +27,8 @@ use Rattle.record.specs.declared.Noted.{Noted}
 use Rattle.record.specs.declared.LoginRequestRecord.{LoginRequestRecord}
 use Rattle.record.specs.declared.LoginResponseRecord.{LoginResponseRecord}
 use Rattle.record.specs.declared.InvocationRecord.{InvocationRecord}
-use Rattle.record.specs.declared.ResponseRecord.{ResponseRecord}
 use Rattle.record.specs.Records.{loginResponseOf}
-use Rattle.record.specs.Peeks.{numIn, spotIn, noteIn, numberAt, textAt, noteAt, blockAt, notedAt, hashSize, loginAt, loginRequestAt, serverAt, loginResponseAt, invocationAt, afterFlags, responseAt}
+use Rattle.record.specs.Peeks.{numIn, spotIn, noteIn, numberAt, textAt, noteAt, blockAt, notedAt, hashSize, loginAt, loginRequestAt, serverAt, loginResponseAt, invocationAt}
 
 -- ---- one field
 abbrev pub spot : Span → ℕ → Spot
@@ -133,25 +131,3 @@ module _ (s : List ℕ) where
   pub invocation-is : (x : Num) (t : Spot) (b : Block) (k : Num) (v : ℤ) → x ≡ numberAt s 4 1 → t ≡ textAt s 5 false → b ≡ blockAt s (t .next) → k ≡ numberAt s (b .next) 2 → v ≡ signed 1 (x .n)
       → _≡_ {A = InvocationRecord} (record { version = v; procedure = t .span; client = b .bytes; params = k .n; «params_at» = k .next }) (invocationAt s)
   invocation-is x t b k v p q r u e = rw (e, p, u, r, q)
-
-  pub flags-is : (version flags : ℕ) (client : List ℕ) (f g h : Bool) (a b c : Noted) (k : Num) (v x y z : ℤ)
-      → f ≡ flagged 32 flags → g ≡ flagged 128 flags → h ≡ flagged 64 flags
-      → a ≡ notedAt s 14 1 f true → b ≡ notedAt s (a .next) 1 g true → c ≡ notedAt s (b .next) 4 h false → k ≡ numberAt s (c .next) 2
-      → v ≡ signed 1 version → x ≡ signed 1 (a .number) → y ≡ signed 1 (b .number) → z ≡ signed 4 (c .number)
-      → _≡_ {A = ResponseRecord} (record {
-        version = v;
-        client = client;
-        flags = flags;
-        status = x;
-        «status_string» = a .span;
-        «app_status» = y;
-        «app_string» = b .span;
-        «round_trip» = z;
-        exception = c .span;
-        tables = k .n;
-        «tables_at» = k .next;
-      }) (afterFlags s version flags client)
-  flags-is version flags client f g h a b c k v x y z f₁ f₂ f₃ p₁ p₂ p₃ p₄ q₁ q₂ q₃ q₄ = rw (q₁, q₂, q₃, q₄, p₄, p₃, p₂, p₁, f₃, f₂, f₁)
-
-  pub whole-is : (x : Num) (b : Block) (flags : ℕ) → x ≡ numberAt s 4 1 → b ≡ blockAt s 5 → flags ≡ numberAt s 13 1 .n → afterFlags s (x .n) flags (b .bytes) ≡ responseAt s
-  whole-is x b flags p q r = rw (r, p, q)

@@ -1,39 +1,38 @@
 -- Where an accepted message's strings and blocks are shown, their bytes stand. The numbers are shown as the signed numbers of their fields by definition.
-use Prim.Native.Nat.{ℕ, _+_, _%_}
+use Prim.Native.Nat.{ℕ, _+_}
 use mathlib.Core.Path.{_≡_, sym, _∙_, ap, subst}
 use mathlib.Core.Bool.{Bool, true, false}
 use mathlib.Core.List.{List}
 use mathlib.Core.Option.{Option, some, none}
 use lib.ListN.{length, take, drop}
 use lib.Dec.{eqb}
-use Rattle.format.specs.declared.Fault.the-variants.{Flags}
 use Rattle.format.specs.Result.{ok}
 use Rattle.format.specs.Number.{Bytes, numBytes}
-use Rattle.format.specs.Format.{number, block, ruled, both, present, nothing}
+use Rattle.format.specs.Format.{number, block, both, present, nothing}
 use Rattle.format.specs.Message as wire
-use Rattle.format.specs.Message.{Message, Server, contentOf, readMessage, loginRequest, loginResponse, server, noServer, invocation, response, text, edition, flagged, list, mostItems, first, param}
+use Rattle.format.specs.Message.{Message, Server, contentOf, readMessage, loginRequest, loginResponse, server, noServer, invocation, responseLayout, text, edition, list, mostItems, first, param}
 use Rattle.format.proofs.Numbers.{numBytes-numAt}
 use Rattle.format.proofs.Results.{ok-same}
 use Rattle.scan.proofs.Answers.{took}
-use Rattle.record.specs.Places.{afterText, afterNote, afterByte}
+use Rattle.record.specs.Places.{afterText, afterNumber}
 use Rattle.record.specs.Records.{loginRequestOf, loginResponseOf, invocationOf, responseOf}
 use Rattle.record.proofs.Holds.{Holds, HoldsNote, text-held, block-held}
-use Rattle.record.proofs.Says.{both-parts, into-parts, ruled-part, number-says, number-both, ruled-both, block-both, text-both, note-both, said}
-use Rattle.record.proofs.Records.{Tables, Excepted, Tripped, Applied, Stated, Flagged, Rest}
+use Rattle.record.proofs.Says.{both-parts, into-parts, ruled-part, number-says, number-both, block-both, text-both, said}
+use Rattle.record.proofs.Records.{Rest, replied, response-read}
 
 -- ---- kind 1
 abbrev pub LoginRequestHeld : List ℕ → ℕ → wire.LoginRequest → Type 0
 LoginRequestHeld m v l = Holds m (loginRequestOf v l .service) (l .service) × Holds m (loginRequestOf v l .user) (l .user) × Holds m (loginRequestOf v l .hash) (some (l .hash))
 
 module _ (m : List ℕ) where
-  byte-ends : (t : Bool) (h : Option ℕ) (mid : ℕ) → present t 0 (edition 3) .read m 5 ≡ ok (h, mid) → mid ≡ afterByte 5 h
+  byte-ends : (t : Bool) (h : Option ℕ) (mid : ℕ) → present t 0 (edition 3) .read m 5 ≡ ok (h, mid) → mid ≡ afterNumber 1 5 h
   unfolding present nothing
   byte-ends true h mid e =
       let p = into-parts m some _ (edition 3) 5 h mid e in
-      number-says m 5 1 3 (p .0) mid (ruled-part m _ _ (number 1 3) 5 (p .0) mid (p .1)) .1 ∙ ap (afterByte 5) (p .2)
+      number-says m 5 1 3 (p .0) mid (ruled-part m _ _ (number 1 3) 5 (p .0) mid (p .1)) .1 ∙ ap (afterNumber 1 5) (p .2)
   byte-ends false h mid e =
       let same = ok-same e in
-      sym (ap (λ (w : Option ℕ × ℕ). w .1) same) ∙ ap (λ (w : Option ℕ × ℕ). afterByte 5 (w .0)) same
+      sym (ap (λ (w : Option ℕ × ℕ). w .1) same) ∙ ap (λ (w : Option ℕ × ℕ). afterNumber 1 5 (w .0)) same
 
   login-held : (v : ℕ) (l : wire.LoginRequest) (end : ℕ) → loginRequest v .read m 5 ≡ ok (l, end) → LoginRequestHeld m v l
   unfolding loginRequest
@@ -42,7 +41,7 @@ module _ (m : List ℕ) where
       let h = p .0 .0 in
       let a = p .0 .1 in
       let q = both-parts m (present (eqb v 1) 0 (edition 3)) Rest 5 (p .0) end (p .1) in
-      let at = afterByte 5 h in
+      let at = afterNumber 1 5 h in
       let rest = ap (λ (n : ℕ). Rest h .read m n) (sym (byte-ends (eqb v 1) h (q .0) (q .1))) ∙ q .2 in
       let q₁ = text-both m at false 4 5 (λ s. both (text 6 7) (λ u. block (wire.hashSize h) 8)) a end rest in
       let q₂ = text-both m (afterText at (a .0)) false 6 7 (λ u. block (wire.hashSize h) 8) (a .1) end (q₁ .1) in
@@ -99,10 +98,10 @@ InvocationHeld m v l = Holds m (invocationOf v l .procedure) (l .procedure) × (
 -- ---- kind 4
 abbrev pub ResponseHeld : List ℕ → ℕ → wire.Response → Type 0
 ResponseHeld m v l =
-    (take (length (l .client)) (drop 5 m) ≡ l .client)
-    × HoldsNote m (responseOf v l .«status_string») (l .statusString)
-    × HoldsNote m (responseOf v l .«app_string») (l .appString)
-    × HoldsNote m (responseOf v l .exception) (l .exception)
+    (take (length (l .head .client)) (drop 5 m) ≡ l .head .client)
+    × HoldsNote m (responseOf v l .«status_string») (l .head .statusString)
+    × HoldsNote m (responseOf v l .«app_string») (l .head .appString)
+    × HoldsNote m (responseOf v l .exception) (l .head .exception)
 
 module _ (m : List ℕ) where
   call-held : (v : ℕ) (l : wire.Invocation) (end : ℕ) → invocation .read m 5 ≡ ok (l, end) → InvocationHeld m v l
@@ -120,27 +119,8 @@ module _ (m : List ℕ) where
       let p = into-parts m wire.anInvocation _ invocation 5 (r .content) (length m) (said 3 m r e .content) in
       subst (λ (c : wire.Content). InvocationHeld m (r .version) (wire.invocation-of c)) (p .2) (call-held (r .version) (p .0) (length m) (p .1))
 
-  reply-held : (v : ℕ) (l : wire.Response) (end : ℕ) → response .read m 5 ≡ ok (l, end) → ResponseHeld m v l
-  unfolding response
-  reply-held v l end e =
-      let p = into-parts m _ _ (both (block 8 22) (λ c. both (ruled (λ n. eqb (n % 32) 0) Flags (number 1 30)) Flagged)) 5 l end e in
-      let a = p .0 in
-      let c = block-both m 5 22 (λ c. both (ruled (λ n. eqb (n % 32) 0) Flags (number 1 30)) Flagged) a end (p .1) in
-      let f = ruled-both m 13 (λ n. eqb (n % 32) 0) Flags 1 30 Flagged (a .1) end (c .1) in
-      let flags = a .1 .0 in
-      let s = number-both m 14 1 31 (λ s. Stated flags) (a .1 .1) end (f .1) in
-      let w = a .1 .1 .1 in
-      let t = note-both m 15 (flagged 32 flags) true 32 33 (λ t. both (number 1 34) (λ a. Applied flags)) w end (s .1) in
-      let app = afterNote 15 (w .0) in
-      let b = number-both m app 1 34 (λ a. Applied flags) (w .1) end (t .1) in
-      let u = note-both m (app + 1) (flagged 128 flags) true 35 36 (λ u. Tripped flags) (w .1 .1) end (b .1) in
-      let trip = afterNote (app + 1) (w .1 .1 .0) in
-      let r = number-both m trip 4 37 (λ r. Excepted flags) (w .1 .1 .1) end (u .1) in
-      let x = note-both m (trip + 4) (flagged 64 flags) false 38 39 (λ x. Tables) (w .1 .1 .1 .1) end (r .1) in
-      subst (ResponseHeld m v) (p .2) (c .2, t .2, u .2, x .2)
-
-  pub response-held : (r : Message) → readMessage 4 m ≡ ok r → ResponseHeld m (r .version) (wire.response-of (r .content))
-  unfolding contentOf
-  response-held r e =
-      let p = into-parts m wire.aResponse _ response 5 (r .content) (length m) (said 4 m r e .content) in
-      subst (λ (c : wire.Content). ResponseHeld m (r .version) (wire.response-of c)) (p .2) (reply-held (r .version) (p .0) (length m) (p .1))
+  pub response-held : (timed : Bool) (r : Message) → readMessage (responseLayout timed) m ≡ ok r → ResponseHeld m (r .version) (wire.response-of (r .content))
+  response-held timed r e =
+      let p = response-read timed m r e in
+      let t = replied timed m (p .0) (length m) (p .1) in
+      subst (ResponseHeld m (r .version)) (p .2) (t .client .1, t .status .1, t .app .1, t .trip .1)

@@ -1,32 +1,37 @@
 -- What the code reads of an accepted message is its record, kind by kind.
-use Prim.Native.Nat.{ℕ, _+_, _%_}
-use mathlib.Core.Path.{_≡_, refl, sym, _∙_, ap, ap₂}
+use Prim.Native.Nat.{ℕ, _+_, _%_, min}
+use mathlib.Core.Path.{_≡_, refl, sym, _∙_, ap, ap₂, subst}
 use mathlib.Core.Bool.{Bool, true, false}
 use mathlib.Core.List.{List}
-use mathlib.Core.Option.{Option, some, none}
-use lib.ListN.{length}
+use mathlib.Core.Option.{Option, some, none, Option·getD}
+use lib.ListN.{length, take, drop}
 use lib.Dec.{eqb}
+use lib.IntN.{ℤ}
 use native.Mathlib.Omega.{arith}
 use Rattle.format.specs.declared.Fault.the-variants.{Flags}
 use Rattle.format.specs.declared.Refusal.{Refusal}
 use Rattle.format.specs.Result.{Res, ok}
-use Rattle.format.specs.Format.{Format, number, block, ruled, both, present, nothing}
+use Rattle.format.specs.Format.{Format, number, block, both, present, nothing}
 use Rattle.format.specs.Message as wire
-use Rattle.format.specs.Message.{Message, Server, contentOf, readMessage, loginRequest, loginResponse, server, noServer, invocation, response, text, nullText, edition, flagged, list, mostItems, first, param, table}
+use Rattle.format.specs.Message.{Message, Server, contentOf, readMessage, loginRequest, loginResponse, server, noServer, invocation, responseLayout, response, head, appStated, tripped, flagByte, afterFlags, text, edition, flagged, list, mostItems, first, param, table}
 use Rattle.format.proofs.Results.{ok-same}
 use Rattle.message.specs.declared.Verdict.{Verdict}
 use Rattle.message.specs.Verdict.{toldVerdict, verdictOf}
 use Rattle.message.proofs.Accepted.{verdict-go, verdict-stop}
+use Rattle.message.proofs.Whole.{content-response}
 use Rattle.scan.specs.Signed.{signed}
 use Rattle.record.specs.declared.Span.{Span}
 use Rattle.record.specs.declared.Edition.{Edition}
+use Rattle.record.specs.declared.Num.{Num}
+use Rattle.record.specs.declared.Noted.{Noted}
 use Rattle.record.specs.declared.LoginRequestRecord.{LoginRequestRecord}
-use Rattle.record.specs.Places.{spanOf, afterText, afterNote}
+use Rattle.record.specs.declared.ResponseRecord.{ResponseRecord}
+use Rattle.record.specs.Places.{spanOf, afterText, noteOf, afterNote, afterNumber, tripSize}
 use Rattle.record.specs.Records.{recordIn, loginRequestOf, loginResponseOf, invocationOf, responseOf}
-use Rattle.record.specs.Peeks.{numberAt, textAt, loginAt, loginRequestAt, serverAt, loginResponseAt, invocationAt, responseAt}
+use Rattle.record.specs.Peeks.{numberAt, textAt, notedAt, blockAt, loginAt, loginRequestAt, serverAt, loginResponseAt, invocationAt}
 use Rattle.record.proofs.Fields.{spot}
-use Rattle.record.proofs.Holds.{block-size}
-use Rattle.record.proofs.Says.{both-parts, into-parts, ruled-part, number-says, text-says, list-says, number-both, ruled-both, block-both, text-both, note-both, said}
+use Rattle.record.proofs.Holds.{HoldsNote, block-size}
+use Rattle.record.proofs.Says.{both-parts, into-parts, ruled-part, number-says, text-says, list-says, trip-says, notice, number-both, ruled-both, block-both, text-both, noted-both, said}
 
 -- ---- an answer's record
 module _ {A : Type 0} (show : Message → A) (d : A) (w : Res Message) (v : Verdict) where
@@ -156,51 +161,87 @@ invocation-says m r e =
     let p = into-parts m wire.anInvocation _ invocation 5 (r .content) (length m) (t .content) in
     call-says m (r .version) (t .version) (p .0) (length m) (p .1) ∙ ap (λ (c : wire.Content). invocationOf (r .version) (wire.invocation-of c)) (p .2)
 
--- ---- kind 4, from the flags on
-abbrev Text : Type 0
-Text = Option (Option (List ℕ))
+-- ---- kind 4: what stands at each place of a response
+-- where the application status, the round trip and the exception stand
+abbrev appAt : wire.Response → ℕ
+appAt l = afterNote 15 (l .head .statusString)
 
-abbrev pub Tables : Format (List wire.Table)
+abbrev tripAt : wire.Response → ℕ
+tripAt l = afterNote (appAt l + 1) (l .head .appString)
+
+abbrev exceptionAt : wire.Response → ℕ
+exceptionAt l = afterNumber 4 (tripAt l) (l .head .roundTrip)
+
+trip-small : (timed : Bool) → min (tripSize timed) 8 ≡ tripSize timed
+trip-small true = refl
+trip-small false = refl
+
+abbrev Tables : Format (List wire.Table)
 Tables = list 2 mostItems 40 first table
 
-abbrev pub Excepted : ℕ → Format (Text × List wire.Table)
-Excepted flags = both (present (flagged 64 flags) none (text 38 39)) (λ x. Tables)
+module _ (timed : Bool) (m : List ℕ) where
+  pub record Replied (l : wire.Response) : Type 0 where
+    pub client : (blockAt m 5 ≡ record { bytes = l .head .client; next = 13 }) × (take (length (l .head .client)) (drop 5 m) ≡ l .head .client)
+    pub flags : numberAt m 13 1 ≡ record { n = l .head .flags; next = 14 }
+    pub status : (notedAt m 14 1 (flagged 32 (l .head .flags)) true ≡ notice (l .head .status) 15 (l .head .statusString)) × HoldsNote m (noteOf 15 (l .head .statusString)) (l .head .statusString)
+    pub app : (notedAt m (appAt l) 1 (flagged 128 (l .head .flags)) true ≡ notice (l .head .appStatus) (appAt l + 1) (l .head .appString)) × HoldsNote m (noteOf (appAt l + 1) (l .head .appString)) (l .head .appString)
+    pub trip : (notedAt m (tripAt l) (tripSize timed) (flagged 64 (l .head .flags)) false ≡ notice (Option·getD (l .head .roundTrip) 0) (exceptionAt l) (l .head .exception)) × HoldsNote m (noteOf (exceptionAt l) (l .head .exception)) (l .head .exception)
+    pub tables : numberAt m (afterNote (exceptionAt l) (l .head .exception)) 2 ≡ record { n = length (l .tables); next = afterNote (exceptionAt l) (l .head .exception) + 2 }
 
-abbrev pub Tripped : ℕ → Format (ℕ × (Text × List wire.Table))
-Tripped flags = both (number 4 37) (λ r. Excepted flags)
+  pub replied : (l : wire.Response) (end : ℕ) → response timed .read m 5 ≡ ok (l, end) → Replied l
+  unfolding response head
+  replied l end e =
+      let p = into-parts m _ _ (both (head timed) (λ h. Tables)) 5 l end e in
+      let q = both-parts m (head timed) (λ h. Tables) 5 (p .0) end (p .1) in
+      let w = into-parts m _ _ (both (block 8 22) (λ c. both (flagByte 30) (afterFlags timed))) 5 (p .0 .0) (q .0) (q .1) in
+      let a = w .0 in
+      let c = block-both m 5 22 (λ c. both (flagByte 30) (afterFlags timed)) a (q .0) (w .1) in
+      let f = ruled-both m 13 (λ n. eqb (n % 32) 0) Flags 1 30 (afterFlags timed) (a .1) (q .0) (c .1) in
+      let flags = a .1 .0 in
+      let s = noted-both m 14 1 31 (flagged 32 flags) true 32 33 (λ s. both (appStated flags) (λ a. tripped timed flags)) (a .1 .1) (q .0) (f .1) in
+      let app = afterNote 15 (a .1 .1 .0 .1) in
+      let b = noted-both m app 1 34 (flagged 128 flags) true 35 36 (λ a. tripped timed flags) (a .1 .1 .1) (q .0) (s .1) in
+      let trip = afterNote (app + 1) (a .1 .1 .1 .0 .1) in
+      let r = trip-says m trip timed (flagged 64 flags) (a .1 .1 .1 .1) (q .0) (b .1) in
+      let n = list-says m (q .0) mostItems 40 first table (p .0 .1) end (q .2) in
+      subst Replied (p .2) (subst (λ (h : wire.Head). Replied (record { head = h; tables = p .0 .1 })) (w .2)
+      (record { client = (c .0, c .2); flags = f .0; status = (s .0, s .2); app = (b .0, b .2); trip = (r .0, r .2); tables = rw (← r .1) n }))
 
-abbrev pub Applied : ℕ → Format (Text × (ℕ × (Text × List wire.Table)))
-Applied flags = both (present (flagged 128 flags) none (nullText 35 36)) (λ u. Tripped flags)
+  -- what the code finds there is the record
+  pub reply-is : (version flags size : ℕ) (client : List ℕ) (f g h : Bool) (a b c : Noted) (k : Num) (v x y z : ℤ)
+      → size ≡ tripSize timed → f ≡ flagged 32 flags → g ≡ flagged 128 flags → h ≡ flagged 64 flags
+      → a ≡ notedAt m 14 1 f true → b ≡ notedAt m (a .next) 1 g true → c ≡ notedAt m (b .next) (min size 8) h false → k ≡ numberAt m (c .next) 2
+      → v ≡ signed 1 version → x ≡ signed 1 (a .number) → y ≡ signed 1 (b .number) → z ≡ signed 4 (c .number)
+      → (l : wire.Response) (end : ℕ) → response timed .read m 5 ≡ ok (l, end) → flags ≡ l .head .flags → client ≡ l .head .client
+      → _≡_ {A = ResponseRecord} (record {
+        version = v;
+        client = client;
+        flags = flags;
+        status = x;
+        «status_string» = a .span;
+        «app_status» = y;
+        «app_string» = b .span;
+        «round_trip» = z;
+        exception = c .span;
+        tables = k .n;
+        «tables_at» = k .next;
+      }) (responseOf version l)
+  reply-is version flags size client f g h a b c k v x y z w f₁ f₂ f₃ p₁ p₂ p₃ p₄ q₁ q₂ q₃ q₄ l end e is same =
+      let t = replied l end e in
+      let small : min size 8 ≡ tripSize timed = ap (λ (n : ℕ). min n 8) w ∙ trip-small timed in
+      let A = p₁ ∙ ap (λ (u : Bool). notedAt m 14 1 u true) (f₁ ∙ ap (flagged 32) is) ∙ t .status .0 in
+      let B = p₂ ∙ ap₂ (λ (n : ℕ) (u : Bool). notedAt m n 1 u true) (ap (λ (w : Noted). w .next) A) (f₂ ∙ ap (flagged 128) is) ∙ t .app .0 in
+      let C =
+      p₃ ∙ ap₂ (λ (n : ℕ) (u : Bool). notedAt m n (min size 8) u false) (ap (λ (w : Noted). w .next) B) (f₃ ∙ ap (flagged 64) is)
+      ∙ ap (λ (n : ℕ). notedAt m (tripAt l) n (flagged 64 (l .head .flags)) false) small ∙ t .trip .0 in
+      let K = p₄ ∙ ap (λ (n : ℕ). numberAt m n 2) (ap (λ (w : Noted). w .next) C) ∙ t .tables in
+      rw (q₁, q₂, q₃, q₄, K, C, B, A, is, same)
 
-abbrev pub Stated : ℕ → Format (Text × (ℕ × (Text × (ℕ × (Text × List wire.Table)))))
-Stated flags = both (present (flagged 32 flags) none (nullText 32 33)) (λ t. both (number 1 34) (λ a. Applied flags))
-
-abbrev pub Flagged : ℕ → Format (ℕ × (Text × (ℕ × (Text × (ℕ × (Text × List wire.Table))))))
-Flagged flags = both (number 1 31) (λ s. Stated flags)
-
-reply-says : (m : List ℕ) (v : ℕ) → numberAt m 4 1 ≡ record { n = v; next = 5 } → (l : wire.Response) (end : ℕ) → response .read m 5 ≡ ok (l, end) → responseAt m ≡ responseOf v l
-unfolding response
-reply-says m v version l end e =
-    let p = into-parts m _ _ (both (block 8 22) (λ c. both (ruled (λ n. eqb (n % 32) 0) Flags (number 1 30)) Flagged)) 5 l end e in
-    let a = p .0 in
-    let c = block-both m 5 22 (λ c. both (ruled (λ n. eqb (n % 32) 0) Flags (number 1 30)) Flagged) a end (p .1) in
-    let f = ruled-both m 13 (λ n. eqb (n % 32) 0) Flags 1 30 Flagged (a .1) end (c .1) in
-    let flags = a .1 .0 in
-    let s = number-both m 14 1 31 (λ s. Stated flags) (a .1 .1) end (f .1) in
-    let w = a .1 .1 .1 in
-    let t = note-both m 15 (flagged 32 flags) true 32 33 (λ t. both (number 1 34) (λ a. Applied flags)) w end (s .1) in
-    let app = afterNote 15 (w .0) in
-    let b = number-both m app 1 34 (λ a. Applied flags) (w .1) end (t .1) in
-    let u = note-both m (app + 1) (flagged 128 flags) true 35 36 (λ u. Tripped flags) (w .1 .1) end (b .1) in
-    let trip = afterNote (app + 1) (w .1 .1 .0) in
-    let r = number-both m trip 4 37 (λ r. Excepted flags) (w .1 .1 .1) end (u .1) in
-    let x = note-both m (trip + 4) (flagged 64 flags) false 38 39 (λ x. Tables) (w .1 .1 .1 .1) end (r .1) in
-    let n = list-says m (afterNote (trip + 4) (w .1 .1 .1 .1 .0)) mostItems 40 first table (w .1 .1 .1 .1 .1) end (x .1) in
-    rw (version, c .0, f .0, s .0, t .0, b .0, u .0, r .0, x .0, n) (ap (responseOf v) (p .2))
-
-pub response-says : (m : List ℕ) (r : Message) → readMessage 4 m ≡ ok r → responseAt m ≡ responseOf (r .version) (wire.response-of (r .content))
-unfolding contentOf
-response-says m r e =
-    let t = said 4 m r e in
-    let p = into-parts m wire.aResponse _ response 5 (r .content) (length m) (t .content) in
-    reply-says m (r .version) (t .version) (p .0) (length m) (p .1) ∙ ap (λ (c : wire.Content). responseOf (r .version) (wire.response-of c)) (p .2)
+-- the response of an accepted message, and what the code finds of its version, flags and client data
+pub response-read : (timed : Bool) (m : List ℕ) (r : Message) → readMessage (responseLayout timed) m ≡ ok r
+    → (l : wire.Response) × (response timed .read m 5 ≡ ok (l, length m)) × (l ≡ wire.response-of (r .content)) × (numberAt m 4 1 .n ≡ r .version)
+response-read timed m r e =
+    let t = said (responseLayout timed) m r e in
+    let read = ap (λ (f : Format wire.Content). f .read m 5) (sym (content-response timed (r .version))) ∙ t .content in
+    let p = into-parts m wire.aResponse _ (response timed) 5 (r .content) (length m) read in
+    (p .0, p .1, ap wire.response-of (p .2), ap (λ (x : Num). x .n) (t .version))

@@ -3,23 +3,26 @@ use Prim.Native.Nat.{ℕ, suc, _+_}
 use mathlib.Core.Path.{_≡_, refl, sym, _∙_, ap, ap₂, subst}
 use mathlib.Core.Bool.{Bool, true, false, _&&_}
 use mathlib.Core.List.{List, [], _∷_}
-use mathlib.Core.Option.{Option, some, none}
+use mathlib.Core.Option.{Option, some, none, Option·getD}
 use lib.ListN.{length, take, drop, replicate, length-replicate}
 use lib.Dec.{leb, ltb, eqb}
 use native.Mathlib.Omega.{arith}
+use native.Mathlib.Nat.{add-zero}
 use Rattle.format.specs.declared.Fault.{Fault}
 use Rattle.format.specs.declared.Fault.the-variants.{Short, Negative, Limit}
 use Rattle.format.specs.Result.{Res, ok, no, pick}
-use Rattle.format.specs.Number.{half, null4}
+use Rattle.format.specs.Number.{numAt, half, null4}
 use Rattle.format.specs.Format.{Format, Index, number, block, ruled, into, both, present, nothing, each, counted}
 use Rattle.format.specs.Value.{string, anything, mostBytes}
-use Rattle.format.specs.Message.{Message, message, contentOf, readMessage, list}
+use Rattle.format.specs.Message.{Message, message, contentOf, readMessage, list, text, noted, trip}
 use Rattle.format.proofs.Results.{bound, passed, spared, ok-same}
 use Rattle.format.proofs.Demands.{accepted→passed}
 use Rattle.scan.proofs.Answers.{took}
 use Rattle.show.proofs.Bodies.{stood}
-use Rattle.record.specs.Places.{spanOf, afterText, noteOf, afterNote}
-use Rattle.record.specs.Peeks.{numIn, spotIn, blockIn, numberAt, textAt, noteAt, blockAt}
+use Rattle.record.specs.declared.Num.{Num}
+use Rattle.record.specs.declared.Noted.{Noted}
+use Rattle.record.specs.Places.{spanOf, afterText, noteOf, afterNote, afterNumber, tripSize}
+use Rattle.record.specs.Peeks.{numIn, spotIn, blockIn, numberAt, textAt, noteAt, blockAt, notedAt}
 use Rattle.record.proofs.Holds.{Holds, HoldsNote, text-held, block-held}
 use Rattle.record.proofs.Fields.{spot, note-absent, note-there}
 
@@ -144,6 +147,54 @@ module _ (s : List ℕ) (at : ℕ) where
         let size : p .0 .0 ≡ length l = sym (each-length s ix 0 (replicate (p .0 .0) f) (q .0) (p .0 .1) next (q .2) ∙ length-replicate (p .0 .0) f) ∙ ap length (p .2) in
         number-says 2 field (p .0 .0) (q .0) c .0 ∙ ap (λ (n : ℕ). record { n = n; next = at + 2 }) size
 
+-- ---- a number, and the string after it
+abbrev pub notice : ℕ → ℕ → Option (Option (List ℕ)) → Noted
+notice n from o = record { number = n; span = noteOf from o; next = afterNote from o }
+
+module _ (s : List ℕ) (at : ℕ) where
+  pub noted-says : (k field : ℕ) (there nullable : Bool) (l b : ℕ) (v : ℕ × Option (Option (List ℕ))) (next : ℕ) → noted (number k field) there none (string nullable anything l b) .read s at ≡ ok (v, next)
+      → (notedAt s at k there nullable ≡ notice (v .0) (at + k) (v .1)) × (next ≡ afterNote (at + k) (v .1)) × HoldsNote s (noteOf (at + k) (v .1)) (v .1)
+  noted-says k field there nullable l b v next e =
+      let q = both-parts s (number k field) (λ n. present there none (string nullable anything l b)) at v next e in
+      let n = number-says s at k field (v .0) (q .0) (q .1) in
+      let rest = ap (λ (p : ℕ). present there none (string nullable anything l b) .read s p) (sym (n .1)) ∙ q .2 in
+      let t = note-says s (at + k) there nullable l b (v .1) next rest in
+      (rw (n .0, t .0), t .1, note-held s (at + k) there nullable l b (v .1) next rest)
+
+  -- the round trip, which is a number of 0 bytes where there is none
+  no-number : numberAt s at 0 ≡ record { n = 0; next = at }
+  unfolding numberAt number numAt
+  no-number = by-room (leb (at + 0) (length s))
+    where
+      by-room : (t : Bool) → numIn at (pick t (ok (0, at + 0)) (no Short at)) ≡ record { n = 0; next = at }
+      by-room true = rw (add-zero at)
+      by-room false = refl
+
+  abbrev maybe : Option ℕ → Num
+  maybe o = record { n = Option·getD o 0; next = afterNumber 4 at o }
+
+  maybe-says : (timed : Bool) (o : Option ℕ) (next : ℕ) → trip timed .read s at ≡ ok (o, next) → (numberAt s at (tripSize timed) ≡ maybe o) × (next ≡ afterNumber 4 at o)
+  unfolding present nothing
+  maybe-says true o next e =
+      let p = into-parts s some _ (number 4 37) at o next e in
+      let t = number-says s at 4 37 (p .0) next (p .1) in
+      (t .0 ∙ ap maybe (p .2), t .1 ∙ ap (afterNumber 4 at) (p .2))
+  maybe-says false o next e =
+      let same = ok-same e in
+      let gone : none ≡ o = ap (λ (w : Option ℕ × ℕ). w .0) same in
+      (no-number ∙ ap maybe gone, sym (ap (λ (w : Option ℕ × ℕ). w .1) same) ∙ ap (afterNumber 4 at) gone)
+
+  -- with the exception after it
+  pub trip-says : (timed there : Bool) (v : Option ℕ × Option (Option (List ℕ))) (next : ℕ) → noted (trip timed) there none (text 38 39) .read s at ≡ ok (v, next)
+      → (notedAt s at (tripSize timed) there false ≡ notice (Option·getD (v .0) 0) (afterNumber 4 at (v .0)) (v .1)) × (next ≡ afterNote (afterNumber 4 at (v .0)) (v .1))
+      × HoldsNote s (noteOf (afterNumber 4 at (v .0)) (v .1)) (v .1)
+  trip-says timed there v next e =
+      let q = both-parts s (trip timed) (λ n. present there none (text 38 39)) at v next e in
+      let n = maybe-says timed (v .0) (q .0) (q .1) in
+      let rest = ap (λ (p : ℕ). present there none (text 38 39) .read s p) (sym (n .1)) ∙ q .2 in
+      let t = note-says s (afterNumber 4 at (v .0)) there false 38 39 (v .1) next rest in
+      (rw (n .0, t .0), t .1, note-held s (afterNumber 4 at (v .0)) there false 38 39 (v .1) next rest)
+
 -- ---- a field, and what follows it
 module _ {B : Type 0} (s : List ℕ) (at : ℕ) where
   pub number-both : (k field : ℕ) (g : ℕ → Format B) (v : ℕ × B) (next : ℕ) → both (number k field) g .read s at ≡ ok (v, next)
@@ -174,12 +225,13 @@ module _ {B : Type 0} (s : List ℕ) (at : ℕ) where
       let t = text-says s at nullable l b (v .0) (q .0) (q .1) in
       (t .0, ap (λ (p : ℕ). g (v .0) .read s p) (sym (t .1)) ∙ q .2, text-held s at nullable l b (v .0) (q .0) (q .1))
 
-  pub note-both : (there nullable : Bool) (l b : ℕ) (g : Option (Option (List ℕ)) → Format B) (v : Option (Option (List ℕ)) × B) (next : ℕ) → both (present there none (string nullable anything l b)) g .read s at ≡ ok (v, next)
-      → (noteAt s at there nullable ≡ spot (noteOf at (v .0)) (afterNote at (v .0))) × (g (v .0) .read s (afterNote at (v .0)) ≡ ok (v .1, next)) × HoldsNote s (noteOf at (v .0)) (v .0)
-  note-both there nullable l b g v next e =
-      let q = both-parts s (present there none (string nullable anything l b)) g at v next e in
-      let t = note-says s at there nullable l b (v .0) (q .0) (q .1) in
-      (t .0, ap (λ (p : ℕ). g (v .0) .read s p) (sym (t .1)) ∙ q .2, note-held s at there nullable l b (v .0) (q .0) (q .1))
+  pub noted-both : (k field : ℕ) (there nullable : Bool) (l b : ℕ) (g : ℕ × Option (Option (List ℕ)) → Format B) (v : (ℕ × Option (Option (List ℕ))) × B) (next : ℕ)
+      → both (noted (number k field) there none (string nullable anything l b)) g .read s at ≡ ok (v, next)
+      → (notedAt s at k there nullable ≡ notice (v .0 .0) (at + k) (v .0 .1)) × (g (v .0) .read s (afterNote (at + k) (v .0 .1)) ≡ ok (v .1, next)) × HoldsNote s (noteOf (at + k) (v .0 .1)) (v .0 .1)
+  noted-both k field there nullable l b g v next e =
+      let q = both-parts s (noted (number k field) there none (string nullable anything l b)) g at v next e in
+      let t = noted-says s at k field there nullable l b (v .0) (q .0) (q .1) in
+      (t .0, ap (λ (p : ℕ). g (v .0) .read s p) (sym (t .1)) ∙ q .2, t .2)
 
 -- ---- the whole message
 pub record Said (kind : ℕ) (m : List ℕ) (r : Message) : Type 0 where

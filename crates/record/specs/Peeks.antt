@@ -10,7 +10,6 @@ use Rattle.format.specs.Number.{numBytes}
 use Rattle.format.specs.Result.{Res, ok, no, pick}
 use Rattle.format.specs.Format.{number, block, present}
 use Rattle.format.specs.Value.{string, anything}
-use Rattle.format.specs.Message.{flagged}
 use Rattle.scan.specs.Signed.{signed}
 use Rattle.record.specs.declared.Span.{Span}
 use Rattle.record.specs.declared.Edition.{Edition}
@@ -21,7 +20,6 @@ use Rattle.record.specs.declared.Noted.{Noted}
 use Rattle.record.specs.declared.LoginRequestRecord.{LoginRequestRecord}
 use Rattle.record.specs.declared.LoginResponseRecord.{LoginResponseRecord}
 use Rattle.record.specs.declared.InvocationRecord.{InvocationRecord}
-use Rattle.record.specs.declared.ResponseRecord.{ResponseRecord}
 use Rattle.record.specs.Places.{spanOf, noteOf}
 use Rattle.record.specs.Records.{loginResponseOf}
 
@@ -106,26 +104,3 @@ module _ (s : List ℕ) where
     params = numberAt (blockAt (textAt 5 false .next) .next) 2 .n;
     «params_at» = numberAt (blockAt (textAt 5 false .next) .next) 2 .next;
   }
-
-  -- kind 4: after the flags
-  abbrev pub afterFlags : ℕ → ℕ → List ℕ → ResponseRecord
-  afterFlags version flags client =
-      let status = notedAt 14 1 (flagged 32 flags) true in
-      let app = notedAt (status .next) 1 (flagged 128 flags) true in
-      let trip = notedAt (app .next) 4 (flagged 64 flags) false in
-      record {
-        version = signed 1 version;
-        client = client;
-        flags = flags;
-        status = signed 1 (status .number);
-        «status_string» = status .span;
-        «app_status» = signed 1 (app .number);
-        «app_string» = app .span;
-        «round_trip» = signed 4 (trip .number);
-        exception = trip .span;
-        tables = numberAt (trip .next) 2 .n;
-        «tables_at» = numberAt (trip .next) 2 .next;
-      }
-
-  abbrev pub responseAt : ResponseRecord
-  responseAt = afterFlags (numberAt 4 1 .n) (numberAt 13 1 .n) (blockAt 5 .bytes)

@@ -1,8 +1,10 @@
 -- Where the fields of a message stand, by the sizes of those before them.
 use Prim.Native.Nat.{ℕ, _+_}
+use mathlib.Core.Bool.{Bool}
 use mathlib.Core.List.{List}
 use mathlib.Core.Option.{Option, some, none}
 use lib.ListN.{length}
+use Rattle.format.specs.Result.{pick}
 use Rattle.record.specs.declared.Span.{Span}
 
 -- a string whose length field stands at a place: where its bytes start and how many they are, or null
@@ -24,7 +26,11 @@ abbrev pub afterNote : ℕ → Option (Option (List ℕ)) → ℕ
 afterNote at none = at
 afterNote at (some t) = afterText at t
 
--- the place after a byte that is there or not
-abbrev pub afterByte : ℕ → Option ℕ → ℕ
-afterByte at none = at
-afterByte at (some n) = at + 1
+-- the place after a number of k bytes that is there or not
+abbrev pub afterNumber : ℕ → ℕ → Option ℕ → ℕ
+afterNumber k at none = at
+afterNumber k at (some n) = at + k
+
+-- how many bytes the round trip of a response has
+abbrev pub tripSize : Bool → ℕ
+tripSize timed = pick timed 4 0

@@ -1,7 +1,7 @@
 -- What each kind of message is shown as, by its record alone: numbers with their signs, blocks as they are, strings by their places.
 -- A message's version stands at 4, and what follows it at 5.
 use Prim.Native.Nat.{ℕ, _+_}
-use mathlib.Core.Option.{Option, some, none}
+use mathlib.Core.Option.{Option, some, none, Option·getD}
 use lib.ListN.{length, replicate}
 use Rattle.format.specs.Number.{numBytes}
 use Rattle.format.specs.Result.{Res, ok, no}
@@ -14,7 +14,7 @@ use Rattle.record.specs.declared.LoginRequestRecord.{LoginRequestRecord}
 use Rattle.record.specs.declared.LoginResponseRecord.{LoginResponseRecord}
 use Rattle.record.specs.declared.InvocationRecord.{InvocationRecord}
 use Rattle.record.specs.declared.ResponseRecord.{ResponseRecord}
-use Rattle.record.specs.Places.{spanOf, afterText, noteOf, afterNote, afterByte}
+use Rattle.record.specs.Places.{spanOf, afterText, noteOf, afterNote, afterNumber}
 
 module _ {A : Type 0} where
   -- the record of a message that is accepted; of one that is not, the record given
@@ -29,7 +29,7 @@ editionOf (some n) = Edition.Is (signed 1 n)
 
 abbrev pub loginRequestOf : ℕ → wire.LoginRequest → LoginRequestRecord
 loginRequestOf version l =
-    let service = afterByte 5 (l .hashVersion) in
+    let service = afterNumber 1 5 (l .hashVersion) in
     let user = afterText service (l .service) in
     record {
       version = signed 1 version;
@@ -87,22 +87,24 @@ noInvocation = record { version = signed 1 0; procedure = Span.Absent; client = 
 abbrev pub shownInvocation : Res Message → InvocationRecord
 shownInvocation = recordIn (λ r. invocationOf (r .version) (wire.invocation-of (r .content))) noInvocation
 
--- kind 4, with the number of its tables and where they begin
+-- kind 4, with the number of its tables and where they begin; a round trip that isn't there is shown as 0
 abbrev pub responseOf : ℕ → wire.Response → ResponseRecord
 responseOf version l =
-    let appStatus = afterNote 15 (l .statusString) in
-    let roundTrip = afterNote (appStatus + 1) (l .appString) in
-    let tables = afterNote (roundTrip + 4) (l .exception) in
+    let h = l .head in
+    let appStatus = afterNote 15 (h .statusString) in
+    let roundTrip = afterNote (appStatus + 1) (h .appString) in
+    let exception = afterNumber 4 roundTrip (h .roundTrip) in
+    let tables = afterNote exception (h .exception) in
     record {
       version = signed 1 version;
-      client = l .client;
-      flags = l .flags;
-      status = signed 1 (l .status);
-      «status_string» = noteOf 15 (l .statusString);
-      «app_status» = signed 1 (l .appStatus);
-      «app_string» = noteOf (appStatus + 1) (l .appString);
-      «round_trip» = signed 4 (l .roundTrip);
-      exception = noteOf (roundTrip + 4) (l .exception);
+      client = h .client;
+      flags = h .flags;
+      status = signed 1 (h .status);
+      «status_string» = noteOf 15 (h .statusString);
+      «app_status» = signed 1 (h .appStatus);
+      «app_string» = noteOf (appStatus + 1) (h .appString);
+      «round_trip» = signed 4 (Option·getD (h .roundTrip) 0);
+      exception = noteOf exception (h .exception);
       tables = length (l .tables);
       «tables_at» = tables + 2;
     }

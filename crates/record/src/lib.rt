@@ -5,13 +5,15 @@ use scan::Byte;
 use scan::Number;
 ghost use mathlib.Core.Path.{_≡_};
 ghost use mathlib.Core.Option.{none};
-ghost use Prim.Native.Nat.{_+_, _<_, _≤_, min};
+ghost use Prim.Native.Nat.{ℕ, _+_, _<_, _≤_, min};
 ghost use lib.ListN.{length, take, drop};
 ghost use Rattle.format.specs.Number.{numBytes};
-ghost use Rattle.format.specs.Message.{readMessage, flagged};
+ghost use Rattle.format.specs.Result.{ok};
+ghost use Rattle.format.specs.Message.{Message, Response, readMessage, responseLayout, response-of, response as responseFormat, flagged};
 ghost use Rattle.message.specs.Verdict.{toldVerdict, verdictOf};
-ghost use Rattle.record.specs.Peeks.{numberAt, textAt, noteAt, notedAt, blockAt, hashSize, loginAt, loginRequestAt, serverAt, loginResponseAt, invocationAt, afterFlags, responseAt};
-ghost use Rattle.record.specs.Records.{loginResponseOf, noResponse, shownLoginRequest, shownLoginResponse, shownInvocation, shownResponse};
+ghost use Rattle.record.specs.Peeks.{numberAt, textAt, noteAt, notedAt, blockAt, hashSize, loginAt, loginRequestAt, serverAt, loginResponseAt, invocationAt};
+ghost use Rattle.record.specs.Places.{tripSize};
+ghost use Rattle.record.specs.Records.{loginResponseOf, responseOf, noResponse, shownLoginRequest, shownLoginResponse, shownInvocation, shownResponse};
 
 // A string: where its bytes start and how many they are; or null; or not there.
 pub enum Span {
@@ -336,13 +338,21 @@ fn has_flag(flags: u8, bit: u8) -> bool
     flags / bit % 2 == 1
 }
 
+// How many bytes a response's round trip has.
+fn trip_size(timed: bool) -> usize
+    ensures { λ r. ⌜ r ≡ tripSize timed ⌝ }
+{
+    if timed { 4 } else { 0 }
+}
+
 // A response after its flags.
-fn read_flagged(m: &[u8], version: u64, flags: u8, client: [u8; 8]) -> ResponseRecord
-    ensures { λ r. ⌜ r ≡ afterFlags (now (m .entry)) version flags client ⌝ }
+fn read_flagged(m: &[u8], timed: bool, version: u64, flags: u8, client: [u8; 8]) -> ResponseRecord
+    ensures { λ r. ⌜ ((l : Response) (next : ℕ) → responseFormat timed .read (now (m .entry)) 5 ≡ ok (l, next) → flags ≡ l .head .flags → client ≡ l .head .client
+        → r ≡ responseOf version l) ⌝ }
 {
     let status = noted_at(m, 14, 1, has_flag(flags, 32), true);
     let app = noted_at(m, status.next, 1, has_flag(flags, 128), true);
-    let trip = noted_at(m, app.next, 4, has_flag(flags, 64), false);
+    let trip = noted_at(m, app.next, trip_size(timed), has_flag(flags, 64), false);
     let count = number_at(m, trip.next, 2);
     let status_string = status.span;
     let app_string = app.span;
@@ -372,13 +382,13 @@ fn byte_at(s: &[u8], at: usize) -> u8
     }
 }
 
-fn read_response(m: &[u8]) -> ResponseRecord
-    ensures { λ r. ⌜ r ≡ responseAt (now (m .entry)) ⌝ }
+fn read_response(m: &[u8], timed: bool) -> ResponseRecord
+    ensures { λ r. ⌜ ((p : Message) → readMessage (responseLayout timed) (now (m .entry)) ≡ ok p → r ≡ responseOf (p .version) (response-of (p .content))) ⌝ }
 {
     let version = number_at(m, 4, 1);
     let data = block_at(m, 5);
     let client = data.bytes;
-    read_flagged(m, version.n, byte_at(m, 13), client)
+    read_flagged(m, timed, version.n, byte_at(m, 13), client)
 }
 
 fn no_response() -> ResponseRecord
@@ -466,11 +476,18 @@ pub fn invocation(m: &[u8]) -> InvocationShown
 pub fn response(m: &[u8]) -> ResponseShown
     ensures { λ r. ⌜ (toldVerdict (r .verdict) ≡ verdictOf (readMessage 4 (now (m .entry)))) × (r .shown ≡ shownResponse (readMessage 4 (now (m .entry)))) ⌝ }
 {
-    let verdict = message::accept(4, m);
+    show_response(m, true)
+}
+
+// The same of a response with its round trip, or without.
+fn show_response(m: &[u8], timed: bool) -> ResponseShown
+    ensures { λ r. ⌜ (toldVerdict (r .verdict) ≡ verdictOf (readMessage (responseLayout timed) (now (m .entry)))) × (r .shown ≡ shownResponse (readMessage (responseLayout timed) (now (m .entry)))) ⌝ }
+{
+    let verdict = message::accept_layout(format::response_layout(timed), m);
     match verdict {
         Verdict::Fine => ResponseShown {
             verdict,
-            shown: read_response(m),
+            shown: read_response(m, timed),
         },
         Verdict::No(_) => ResponseShown {
             verdict,

@@ -13,9 +13,9 @@ use Rattle.format.specs.declared.Fault.the-variants.{Version, Flags}
 use Rattle.format.specs.declared.Refusal.{Refusal}
 use Rattle.format.specs.Result.{pick}
 use Rattle.format.specs.Number.{numBytes}
-use Rattle.format.specs.Format.{Verdict, fine, present, nothing, into, counted}
+use Rattle.format.specs.Format.{Verdict, fine, number, block, ruled, both, present, nothing, into, counted}
 use Rattle.format.specs.Value.{anything, mostBytes}
-use Rattle.format.specs.Message.{nullText, text, flagged, aResponse, message}
+use Rattle.format.specs.Message.{nullText, text, flagged, head as headFormat, aResponse, message}
 use Rattle.format.proofs.Numbers.{length-numBytes}
 use Rattle.put.specs.Put.{put, optional, sized}
 use Rattle.put.proofs.Laws.{Puts, puts, sized-null, sized-some}
@@ -57,12 +57,12 @@ let-in-limit true false bs e = let l = sized-some bs in let h = text-limit bs e 
 let-in-limit false null bs e = omega arith
 
 -- the parts, one after the other
-regroup : (a b c d e f g i j k l : List ℕ) → a ++ ((b ++ (c ++ (d ++ (e ++ (f ++ (g ++ (i ++ (j ++ k)))))))) ++ l) ≡ (a ++ (b ++ (c ++ (d ++ e)))) ++ ((f ++ (g ++ i)) ++ (j ++ (k ++ l)))
+regroup : (a b c d e f g i j k l : List ℕ) → a ++ ((b ++ (c ++ (d ++ ((e ++ f) ++ ((g ++ i) ++ (j ++ k)))))) ++ l) ≡ (a ++ (b ++ (c ++ (d ++ e)))) ++ ((f ++ (g ++ i)) ++ (j ++ (k ++ l)))
 regroup a b c d e f g i j k l = simp append-assoc
 
 pub begin-whole : (h : Head) (client status app exception : List ℕ) → beginBytes h client status app exception
     ≡ numBytes 4 0 ++ message 4 .bytes (says (h .version) (aResponse (opened (openingOf h client status app exception))))
-unfolding head
+unfolding head headFormat into both ruled number block present
 begin-whole h client status app exception =
     let o = openingOf h client status app exception in
     let f₀ = flagged 32 (h .flags) in
@@ -71,10 +71,10 @@ begin-whole h client status app exception =
     let p = statusPart h status in
     let q = appPart h app in
     let r = exceptionPart h exception in
-    let q₀ = present f₁ none (nullText 35 36) .bytes (opened o .appString) in
-    let r₀ = present f₂ none (text 38 39) .bytes (opened o .exception) in
-    let parts : List ℕ → List ℕ → List ℕ → List ℕ = λ x y z. numBytes 4 0 ++ ((numBytes 1 (h .version) ++ (client ++ (numBytes 1 (h .flags) ++ (numBytes 1 (h .status)
-    ++ (x ++ (numBytes 1 (h .«app_status») ++ (y ++ (numBytes 4 (h .«round_trip») ++ z)))))))) ++ numBytes 2 0) in
+    let q₀ = present f₁ none (nullText 35 36) .bytes (opened o .head .appString) in
+    let r₀ = present f₂ none (text 38 39) .bytes (opened o .head .exception) in
+    let parts : List ℕ → List ℕ → List ℕ → List ℕ = λ x y z. numBytes 4 0 ++ ((numBytes 1 (h .version) ++ (client ++ (numBytes 1 (h .flags) ++ ((numBytes 1 (h .status) ++ x)
+    ++ ((numBytes 1 (h .«app_status») ++ y) ++ (numBytes 4 (h .«round_trip») ++ z)))))) ++ numBytes 2 0) in
     sym (
     ap (λ (x : List ℕ). numBytes 4 0 ++ x) (begin-bytes (h .version) (opened o))
     ∙ ap (λ (x : List ℕ). parts x q₀ r₀) (null-part f₀ 32 33 (o .statusString))
@@ -138,9 +138,9 @@ refuses n m size e g =
 
 module _ (h : Head) (client status app exception : List ℕ) (size : ℕ) (eight : length client ≡ 8) {a : Answer} where
   pub begin-answer : a ≡ shownAnswer (answerAt true (beginFault h status app exception) true 0 (beginSize h status app exception) size)
-      → a ≡ shownAnswer (answerOf (plan (beginReply (h .version) (openingOf h client status app exception)) (seen zero) size) size)
+      → a ≡ shownAnswer (answerOf (plan (beginReply (h .version) (openingOf h client status app exception)) (seen zero []) size) size)
   unfolding openingFault
-  begin-answer e = answered (plan (beginReply (h .version) (openingOf h client status app exception)) (seen zero) size) size e refl refl (λ u w. (refl, sym (begin-length h client status app exception eight)))
+  begin-answer e = answered (plan (beginReply (h .version) (openingOf h client status app exception)) (seen zero []) size) size e refl refl (λ u w. (refl, sym (begin-length h client status app exception eight)))
 
 -- where a begin that is taken ends
 pub record Whole (n sum size : ℕ) : Type 0 where
@@ -154,6 +154,6 @@ begin-ends h client status app exception b eight e f =
     record { is = t .reached ∙ zero-add _ ∙ begin-length h client status app exception eight; room = t .fits }
 
 -- a begin that is refused gives back that nothing is open
-pub begin-refused : (s : Step) (b types : List ℕ) {none : Code} {a : Answer} {x : Refusal} → none ≡ zero → a ≡ shownAnswer (answerOf (plan s (seen zero) (length b)) (length b)) → a ≡ No x
-    → Stepped s zero types b (record { answer = a; state = none }) b
-begin-refused s b types e f g = rw e (step-refused s zero b types f g)
+pub begin-refused : (s : Step) (b : List ℕ) {none : Code} {a : Answer} {x : Refusal} → none ≡ zero → a ≡ shownAnswer (answerOf (plan s (seen zero []) (length b)) (length b)) → a ≡ No x
+    → Stepped s zero [] b (record { answer = a; state = none }) b
+begin-refused s b e f g = rw e (step-refused s zero b [] f g)

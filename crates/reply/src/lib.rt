@@ -8,11 +8,12 @@ use write::Step;
 ghost use mathlib.Core.Path.{_≡_};
 ghost use Prim.Native.Nat.{_+_, _<_, _≤_};
 ghost use mathlib.Core.Bool.{true};
-ghost use lib.ListN.{length, replicate};
+ghost use mathlib.Core.List.{[]};
+ghost use lib.ListN.{length};
 ghost use Rattle.format.specs.Result.{pick};
 ghost use Rattle.format.specs.Format.{fine};
 ghost use Rattle.format.specs.Value.{anything};
-ghost use Rattle.format.specs.Message.{flagged, mostColumns};
+ghost use Rattle.format.specs.Message.{flagged};
 ghost use Rattle.put.specs.Put.{put, optional};
 ghost use Rattle.write.specs.Steps.{answerAt, answerOf, plan, nullTextFault, beginReply, finishReply};
 ghost use Rattle.write.specs.Shown.{zero, seen, shownAnswer, verdictOf, Stepped};
@@ -45,7 +46,7 @@ pub fn begin_reply(
     app: &[u8],
     exception: &[u8],
 ) -> Step
-    ensures { λ r. ⌜ Stepped (beginReply (h .version) (openingOf h (now (client .entry)) (now (status .entry)) (now (app .entry)) (now (exception .entry)))) zero (replicate mostColumns 0) (now (out .entry)) r (now (out .exit)) ⌝ }
+    ensures { λ r. ⌜ Stepped (beginReply (h .version) (openingOf h (now (client .entry)) (now (status .entry)) (now (app .entry)) (now (exception .entry)))) zero [] (now (out .entry)) r (now (out .exit)) ⌝ }
 {
     // as a slice, so that its length is known from here on
     let data: &[u8] = client;
@@ -67,7 +68,7 @@ pub fn begin_reply(
 
 // Finishes the response: its length and its table count are filled.
 pub fn finish_reply(out: &mut [u8], st: State) -> Step
-    ensures { λ r. ⌜ Stepped finishReply st (st .columns .types) (now (out .entry)) r (now (out .exit)) ⌝ }
+    ensures { λ r. ⌜ Stepped finishReply st [] (now (out .entry)) r (now (out .exit)) ⌝ }
 {
     let a = ask_finish_reply(st, out.len());
     let Answer::Reached(n) = a else {
@@ -78,7 +79,7 @@ pub fn finish_reply(out: &mut [u8], st: State) -> Step
     };
     put::number_at(out, 0, (st.position - 4) as u64, 4);
     put::number_at(out, st.count_at, st.count as u64, 2);
-    let next = write::finished(st, n);
+    let next = write::finished(n);
     Step {
         answer: a,
         state: next,
@@ -203,7 +204,7 @@ fn let_in_at(out: &mut [u8], at: usize, there: bool, null: bool, s: &[u8]) -> us
 
 // What finishing is answered, in a buffer of so many bytes.
 fn ask_finish_reply(st: State, size: usize) -> Answer
-    ensures { λ r. ⌜ r ≡ shownAnswer (answerOf (plan finishReply (seen st) size) size) ⌝ }
+    ensures { λ r. ⌜ r ≡ shownAnswer (answerOf (plan finishReply (seen st []) size) size) ⌝ }
 {
     let permitted = write::at_reply(st, size);
     write::judge(permitted, Check::Fine, true, st.position, 0, size)

@@ -18,7 +18,6 @@ use Rattle.format.proofs.Numbers.{length-numBytes}
 use Rattle.format.proofs.Results.{and-true-both}
 use Rattle.put.specs.Put.{sized}
 use Rattle.write.specs.declared.Answer.{Answer}
-use Rattle.write.specs.declared.Columns.{Columns}
 use Rattle.write.specs.declared.Stage.the-variants.{Row}
 use Rattle.write.specs.declared.State.{State as Code}
 use Rattle.write.specs.State.{State, atStage}
@@ -54,33 +53,34 @@ pub body-answer : (st : State) (size t : ℕ) (b : Option (List ℕ)) {fault : V
 body-answer st size t b e l g = cell-answer st size t (body b) e (λ f. l ∙ sym (body-size (st .position) t b f)) g
 
 -- at most so many columns are seen
-few-columns : (c : Columns) → length (typesIn c) ≤ mostColumns
-few-columns c = go (leb (c .n) mostColumns) refl
+few-columns : (n : ℕ) (types : List ℕ) → length (typesIn n types) ≤ mostColumns
+few-columns n types = go (leb n mostColumns) refl
   where
-    go : (t : Bool) → leb (c .n) mostColumns ≡ t → length (pick t (take (c .n) (c .types)) (0 ∷ [])) ≤ mostColumns
-    go true e = let h : c .n ≤ mostColumns = leb-true (c .n) mostColumns e in omega (arith, length-take (c .n) (c .types))
+    go : (t : Bool) → leb n mostColumns ≡ t → length (pick t (take n types) (0 ∷ [])) ≤ mostColumns
+    go true e = let h : n ≤ mostColumns = leb-true n mostColumns e in omega (arith, length-take n types)
     go false e = omega arith
 
 -- a cell that is taken has a column, and a value with no fault
-pub cell-counts : (st : Code) (size t : ℕ) (v : Value) {n : ℕ} → Accepted (plan (cell t v) (seen st) size) size n → st .«inner_count» + 1 ≤ mostColumns
-cell-counts st size t v a =
-    let h = ltb-true (st .«inner_count») (length (typesIn (st .columns))) (and-true-both (atStage Row (seen st) size) _ (a .fine .permitted) .1) in
-    let f = few-columns (st .columns) in
+pub cell-counts : (st : Code) (types : List ℕ) (size t : ℕ) (v : Value) {n : ℕ} → Accepted (plan (cell t v) (seen st types) size) size n → st .«inner_count» + 1 ≤ mostColumns
+cell-counts st types size t v a =
+    let h = ltb-true (st .«inner_count») (length (typesIn (st .columns) types)) (and-true-both (atStage Row (seen st types) size) _ (a .fine .permitted) .1) in
+    let f = few-columns (st .columns) types in
     omega arith
 
 pub cell-fine : (st : State) (size t : ℕ) (v : Value) {n : ℕ} → Accepted (plan (cell t v) st size) size n → valueFault (st .position) t v ≡ fine
 cell-fine st size t v a = also-fine (test (eqb t (getD (st .outer .types) (st .inner .count) 0)) WireType (st .position)) (valueFault (st .position) t v) (a .fine .faultless) .1
 
--- the type of the next column: 0 where too many are seen, or no more
-pub none-seen : (c : Columns) (i : ℕ) → mostColumns < c .n → getD (typesIn c) i 0 ≡ 0
-none-seen c i h = rw (lt-leb (c .n) mostColumns h) (go i)
-  where
-    go : (i : ℕ) → _≡_ {A = ℕ} (getD (0 ∷ []) i 0) 0
-    go zero = refl
-    go (suc i) = refl
+-- the type of the next column, of n: 0 where too many are seen, or no more
+module _ (n : ℕ) (types : List ℕ) (i : ℕ) where
+  pub none-seen : mostColumns < n → getD (typesIn n types) i 0 ≡ 0
+  none-seen h = rw (lt-leb n mostColumns h) (go i)
+    where
+      go : (i : ℕ) → _≡_ {A = ℕ} (getD (0 ∷ []) i 0) 0
+      go zero = refl
+      go (suc i) = refl
 
-pub none-left : (c : Columns) (i : ℕ) → c .n ≤ mostColumns → c .n ≤ i → getD (typesIn c) i 0 ≡ 0
-none-left c i h l = rw (le-leb (c .n) mostColumns h) (List·getD-eq-default (take (c .n) (c .types)) 0 (omega (arith, length-take (c .n) (c .types))))
+  pub none-left : n ≤ mostColumns → n ≤ i → getD (typesIn n types) i 0 ≡ 0
+  none-left h l = rw (le-leb n mostColumns h) (List·getD-eq-default (take n types) 0 (omega (arith, length-take n types)))
 
-pub next-is : (c : Columns) (i : ℕ) → c .n ≤ mostColumns → i < c .n → getD (typesIn c) i 0 ≡ getD (c .types) i 0
-next-is c i h l = rw (le-leb (c .n) mostColumns h) (getD-take (c .n) (c .types) i 0 l)
+  pub next-is : n ≤ mostColumns → i < n → getD (typesIn n types) i 0 ≡ getD types i 0
+  next-is h l = rw (le-leb n mostColumns h) (getD-take n types i 0 l)

@@ -1,6 +1,7 @@
 // The steps that write the rows of a table, and the one that closes it.
 use format::Fault;
 use write::Answer;
+use write::COLUMNS;
 use write::Check;
 use write::Stage;
 use write::State;
@@ -15,10 +16,12 @@ ghost use Rattle.write.specs.Shown.{seen, typesIn, verdictOf, shownAnswer, Step
 ghost use Rattle.rows.specs.Asked.{cellAnswer};
 
 // Opens a row; its length holds zeros until it is closed.
-pub fn open_row(out: &mut [u8], st: State) -> Step
-    ensures { λ r. ⌜ Stepped openRow st (st .columns .types) (now (out .entry)) r (now (out .exit)) ⌝ }
+pub fn open_row(out: &mut [u8], st: State, types: &[u8; COLUMNS]) -> Step
+    ensures { λ r. ⌜ Stepped openRow st (now (types .entry)) (now (out .entry)) r (now (out .exit)) ⌝ }
 {
-    let a = ask_open_row(st, out.len());
+    // as a slice, so that its length is known from here on
+    let lent: &[u8] = types;
+    let a = ask_open_row(st, types, out.len());
     let Answer::Reached(n) = a else {
         return Step {
             answer: a,
@@ -34,11 +37,20 @@ pub fn open_row(out: &mut [u8], st: State) -> Step
 }
 
 // Writes a cell of a fixed size: its value by its upper and lower 64 bits.
-pub fn fixed_cell(out: &mut [u8], st: State, t: u8, upper: u64, lower: u64) -> Step
-    ensures { λ r. ⌜ Stepped (cell t (fixed (upper * 2 ^ 64 + lower))) st (st .columns .types) (now (out .entry)) r (now (out .exit)) ⌝ }
+pub fn fixed_cell(
+    out: &mut [u8],
+    st: State,
+    types: &[u8; COLUMNS],
+    t: u8,
+    upper: u64,
+    lower: u64,
+) -> Step
+    ensures { λ r. ⌜ Stepped (cell t (fixed (upper * 2 ^ 64 + lower))) st (now (types .entry)) (now (out .entry)) r (now (out .exit)) ⌝ }
 {
+    // as a slice, so that its length is known from here on
+    let lent: &[u8] = types;
     let fault = write::fixed_fault(st.position, t, upper, lower);
-    let a = ask_cell(st, t, fault, scan::width_of(t), out.len());
+    let a = ask_cell(st, types, t, fault, scan::width_of(t), out.len());
     let Answer::Reached(n) = a else {
         return Step {
             answer: a,
@@ -54,11 +66,20 @@ pub fn fixed_cell(out: &mut [u8], st: State, t: u8, upper: u64, lower: u64) -> S
 }
 
 // Writes a text or binary cell: its bytes, or null.
-pub fn body_cell(out: &mut [u8], st: State, t: u8, null: bool, s: &[u8]) -> Step
-    ensures { λ r. ⌜ Stepped (cell t (body (optional null (now (s .entry))))) st (st .columns .types) (now (out .entry)) r (now (out .exit)) ⌝ }
+pub fn body_cell(
+    out: &mut [u8],
+    st: State,
+    types: &[u8; COLUMNS],
+    t: u8,
+    null: bool,
+    s: &[u8],
+) -> Step
+    ensures { λ r. ⌜ Stepped (cell t (body (optional null (now (s .entry))))) st (now (types .entry)) (now (out .entry)) r (now (out .exit)) ⌝ }
 {
+    // as a slice, so that its length is known from here on
+    let lent: &[u8] = types;
     let fault = write::body_fault(st.position, t, null, s);
-    let a = ask_cell(st, t, fault, put::text_size(null, s), out.len());
+    let a = ask_cell(st, types, t, fault, put::text_size(null, s), out.len());
     let Answer::Reached(n) = a else {
         return Step {
             answer: a,
@@ -74,10 +95,12 @@ pub fn body_cell(out: &mut [u8], st: State, t: u8, null: bool, s: &[u8]) -> Step
 }
 
 // Closes the open row, which has a cell for each column, and fills its length.
-pub fn close_row(out: &mut [u8], st: State) -> Step
-    ensures { λ r. ⌜ Stepped closeRow st (st .columns .types) (now (out .entry)) r (now (out .exit)) ⌝ }
+pub fn close_row(out: &mut [u8], st: State, types: &[u8; COLUMNS]) -> Step
+    ensures { λ r. ⌜ Stepped closeRow st (now (types .entry)) (now (out .entry)) r (now (out .exit)) ⌝ }
 {
-    let a = ask_close_row(st, out.len());
+    // as a slice, so that its length is known from here on
+    let lent: &[u8] = types;
+    let a = ask_close_row(st, types, out.len());
     let Answer::Reached(n) = a else {
         return Step {
             answer: a,
@@ -98,10 +121,10 @@ pub fn close_row(out: &mut [u8], st: State) -> Step
 }
 
 // Closes the open table, and fills its length and its row count.
-pub fn close_table(out: &mut [u8], st: State) -> Step
-    ensures { λ r. ⌜ Stepped closeTable st (st .columns .types) (now (out .entry)) r (now (out .exit)) ⌝ }
+pub fn close_table(out: &mut [u8], st: State, types: &[u8; COLUMNS]) -> Step
+    ensures { λ r. ⌜ Stepped closeTable st (now (types .entry)) (now (out .entry)) r (now (out .exit)) ⌝ }
 {
-    let a = ask_close_table(st, out.len());
+    let a = ask_close_table(st, types, out.len());
     let Answer::Reached(n) = a else {
         return Step {
             answer: a,
@@ -123,41 +146,54 @@ pub fn close_table(out: &mut [u8], st: State) -> Step
 }
 
 // What each step is answered, in a buffer of so many bytes.
-fn ask_open_row(st: State, size: usize) -> Answer
-    ensures { λ r. ⌜ r ≡ shownAnswer (answerOf (plan openRow (seen st) size) size) ⌝ }
+fn ask_open_row(st: State, types: &[u8; COLUMNS], size: usize) -> Answer
+    ensures { λ r. ⌜ r ≡ shownAnswer (answerOf (plan openRow (seen st (now (types .entry))) size) size) ⌝ }
 {
-    let permitted = write::at_table(st, size);
+    let permitted = write::at_table(st, types, size);
     let more = write::one_more(st.rows, write::MOST_ROWS);
     write::judge(permitted, Check::Fine, more, st.position, 4, size)
 }
 
-fn ask_close_row(st: State, size: usize) -> Answer
-    ensures { λ r. ⌜ r ≡ shownAnswer (answerOf (plan closeRow (seen st) size) size) ⌝ }
+fn ask_close_row(st: State, types: &[u8; COLUMNS], size: usize) -> Answer
+    ensures { λ r. ⌜ r ≡ shownAnswer (answerOf (plan closeRow (seen st (now (types .entry))) size) size) ⌝ }
 {
-    let columns = st.columns;
-    let in_row = write::at_row(st, size);
-    let full = st.inner_count == write::columns_count(columns);
+    // as a slice, so that its length is known from here on
+    let lent: &[u8] = types;
+    let in_row = write::at_row(st, types, size);
+    let full = st.inner_count == write::columns_seen(st.columns);
     let permitted = write::both(in_row, full);
     let keeps = write::row_keeps(st.inner_at, st.position, 0);
     write::judge(permitted, Check::Fine, keeps, st.position, 0, size)
 }
 
-fn ask_close_table(st: State, size: usize) -> Answer
-    ensures { λ r. ⌜ r ≡ shownAnswer (answerOf (plan closeTable (seen st) size) size) ⌝ }
+fn ask_close_table(st: State, types: &[u8; COLUMNS], size: usize) -> Answer
+    ensures { λ r. ⌜ r ≡ shownAnswer (answerOf (plan closeTable (seen st (now (types .entry))) size) size) ⌝ }
 {
-    let permitted = write::at_table(st, size);
+    let permitted = write::at_table(st, types, size);
     write::judge(permitted, Check::Fine, true, st.position, 0, size)
 }
 
 // What a cell is answered, by what is wrong with its value and by how many bytes it has.
-fn ask_cell(st: State, t: u8, fault: Check, bytes: usize, size: usize) -> Answer
-    ensures { λ r. ⌜ r ≡ shownAnswer (cellAnswer (seen st) t (verdictOf fault) bytes size) ⌝ }
+fn ask_cell(
+    st: State,
+    types: &[u8; COLUMNS],
+    t: u8,
+    fault: Check,
+    bytes: usize,
+    size: usize,
+) -> Answer
+    ensures { λ r. ⌜ r ≡ shownAnswer (cellAnswer (seen st (now (types .entry))) t (verdictOf fault) bytes size) ⌝ }
 {
-    let columns = st.columns;
-    let in_row = write::at_row(st, size);
-    let wanting = st.inner_count < write::columns_count(columns);
+    // as a slice, so that its length is known from here on
+    let lent: &[u8] = types;
+    let in_row = write::at_row(st, types, size);
+    let wanting = st.inner_count < write::columns_seen(st.columns);
     let permitted = write::both(in_row, wanting);
-    let kind = write::test(t == next_type(st), Fault::WireType, st.position);
+    let kind = write::test(
+        t == next_type(st.columns, types, st.inner_count),
+        Fault::WireType,
+        st.position,
+    );
     let keeps = write::row_keeps(st.inner_at, st.position, bytes);
     write::judge(
         permitted,
@@ -169,19 +205,15 @@ fn ask_cell(st: State, t: u8, fault: Check, bytes: usize, size: usize) -> Answer
     )
 }
 
-// The type of the column that the next cell is in; 0 where there is none.
-fn next_type(st: State) -> u8
-    ensures { λ r. ⌜ r ≡ getD (typesIn (st .columns)) (st .«inner_count») 0 ⌝ }
+// The type of the column that the next cell is in, of so many columns; 0 where there is none.
+fn next_type(columns: usize, types: &[u8; COLUMNS], cells: usize) -> u8
+    ensures { λ r. ⌜ r ≡ getD (typesIn columns (now (types .entry))) cells 0 ⌝ }
 {
-    let columns = st.columns;
-    let n = columns.n;
-    if format::MOST_COLUMNS < n as u64 {
+    if COLUMNS < columns {
         return 0;
     }
-    let i = st.inner_count;
-    if n <= i {
+    if columns <= cells {
         return 0;
     }
-    let types = columns.types;
-    types[i]
+    types[cells]
 }

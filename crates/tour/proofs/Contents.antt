@@ -11,13 +11,13 @@ use Rattle.format.specs.Result.{ok, no}
 use Rattle.format.specs.Number.{Bytes}
 use Rattle.format.specs.Format.{Format, Index, number, block, nothing, into, both, present}
 use Rattle.format.specs.Value.{anything, string}
-use Rattle.format.specs.Message.{text, list, mostItems, first, param, invocation, Server, server, noServer, loginResponse, loginRequest, edition, hashSize}
+use Rattle.format.specs.Message.{text, list, mostItems, first, param, invocation, Server, server, noServer, loginResponse, loginRequest, edition, hashSize, noted, trip}
 use Rattle.format.proofs.Results.{ok-same, bound}
 use Rattle.format.proofs.Laws.{Lawful, lawful-number, lawful-block, lawful-nothing, lawful-ruled, lawful-into, lawful-both, lawful-present}
 use Rattle.format.proofs.Formats.{lawful-list, lawful-param, lawful-server}
 use Rattle.tour.specs.declared.Tour.{Tour}
 use Rattle.tour.specs.Tour.{Walked}
-use Rattle.tour.specs.Parts.{login}
+use Rattle.message.specs.Login.{login}
 use Rattle.tour.proofs.Tours.{walked-ruled, walked-into, walked-both, walked-nothing}
 use Rattle.tour.proofs.Values.{lawful-string, ruled-read}
 
@@ -111,6 +111,13 @@ hash-short h other = rw (ne-eqb h 1 other)
 -- a body that a flag says is there
 pub lawful-optional : (t nullable : Bool) (l b : ℕ) → Lawful (present t none (string nullable anything l b))
 lawful-optional t nullable l b = search laws
+
+-- a number with such a body, and a round trip
+pub lawful-noted : (k field : ℕ) (t nullable : Bool) (l b : ℕ) → Lawful (noted (number k field) t none (string nullable anything l b))
+lawful-noted k field t nullable l b = search laws
+
+pub lawful-trip : (timed : Bool) → Lawful (trip timed)
+lawful-trip timed = search laws
 
 pub walked-if : {A : Type 0} (d : A) (f : Format A) {s : List ℕ} {ix : Index} {tour : Tour} {out : List ℕ} {after : Tour} {written : List ℕ} {t u : Bool} → t ≡ u
     → Walked (present t d f) s ix tour out after written → Walked (present u d f) s ix tour out after written

@@ -3,14 +3,14 @@ use Prim.Native.Nat.{ℕ}
 use mathlib.Core.Path.{_≡_, refl, _∙_, ap}
 use mathlib.Core.List.{List}
 use lib.ListN.{length}
-use lib.Dec.{leb}
+use lib.Dec.{leb, eqb}
 use borrow.Author.Tests.{ne-eqb}
 use Rattle.format.specs.declared.Fault.the-variants.{Version}
 use Rattle.format.specs.declared.Refusal.{Refusal}
 use Rattle.format.specs.Result.{Res, ok, no, bind}
 use Rattle.format.specs.Number.{Bytes}
 use Rattle.format.specs.Format.{Index, Entry, number, both, piece}
-use Rattle.format.specs.Message.{Message, message, readMessage, messageFields, noIndex, contentOf, edition, loginRequest, loginResponse, invocation, response, aLoginRequest, aLoginResponse, anInvocation, aResponse, loginRequest-of, loginResponse-of, invocation-of, response-of}
+use Rattle.format.specs.Message.{Message, message, readMessage, messageFields, noIndex, contentOf, newest, loginRequest, loginResponse, invocation, response, aLoginRequest, aLoginResponse, anInvocation, aResponse, loginRequest-of, loginResponse-of, invocation-of, response-of}
 use Rattle.format.proofs.Laws.{lawful-number, lawful-ruled, lawful-both}
 use Rattle.format.proofs.Formats.{lawful-loginRequest, lawful-loginResponse, lawful-invocation, lawful-response, lawful-contentOf}
 use Rattle.format.proofs.Demands.{accepted→passed}
@@ -18,62 +18,63 @@ use Rattle.scan.proofs.Answers.{took}
 use Rattle.message.specs.declared.Verdict.{Verdict}
 use Rattle.message.specs.Verdict.{toldVerdict, verdictOf, verdictNo}
 use Rattle.message.proofs.Accepted.{verdict-go, verdict-stop}
+use Rattle.message.proofs.Whole.{versioned}
 use Rattle.tour.specs.declared.Tour.{Tour}
 use Rattle.tour.specs.Tour.{State, stateOf, visited, begun, fieldsOf, tourOf, outOf, Walked, Whole}
 use Rattle.tour.proofs.Visits.{visited-both}
 use Rattle.tour.proofs.Tours.{walked-into}
 
-module _ (s : List ℕ) (by : Bytes s) {ix : Index} {tour : Tour} {out : List ℕ} {after : Tour} {written : List ℕ} (kind version : ℕ) where
-  -- the content of each kind
-  pub walked-1 : kind ≡ 1 → Walked (loginRequest version) s ix tour out after written → Walked (contentOf kind version) s ix tour out after written
+module _ (s : List ℕ) (by : Bytes s) {ix : Index} {tour : Tour} {out : List ℕ} {after : Tour} {written : List ℕ} (layout version : ℕ) where
+  -- the content of each layout
+  pub walked-1 : layout ≡ 1 → Walked (loginRequest version) s ix tour out after written → Walked (contentOf layout version) s ix tour out after written
   unfolding contentOf
   walked-1 is t = rw is (walked-into s aLoginRequest loginRequest-of by (lawful-loginRequest version) (λ v g. refl) t)
 
-  pub walked-2 : kind ≡ 2 → Walked loginResponse s ix tour out after written → Walked (contentOf kind version) s ix tour out after written
+  pub walked-2 : layout ≡ 2 → Walked loginResponse s ix tour out after written → Walked (contentOf layout version) s ix tour out after written
   unfolding contentOf
   walked-2 is t = rw is (walked-into s aLoginResponse loginResponse-of by lawful-loginResponse (λ v g. refl) t)
 
-  pub walked-3 : kind ≡ 3 → Walked invocation s ix tour out after written → Walked (contentOf kind version) s ix tour out after written
+  pub walked-3 : layout ≡ 3 → Walked invocation s ix tour out after written → Walked (contentOf layout version) s ix tour out after written
   unfolding contentOf
   walked-3 is t = rw is (walked-into s anInvocation invocation-of by lawful-invocation (λ v g. refl) t)
 
-  pub walked-4 : (kind ≡ 1 → ⊥) → (kind ≡ 2 → ⊥) → (kind ≡ 3 → ⊥) → Walked response s ix tour out after written → Walked (contentOf kind version) s ix tour out after written
+  pub walked-4 : (layout ≡ 1 → ⊥) → (layout ≡ 2 → ⊥) → (layout ≡ 3 → ⊥) → Walked (response (eqb layout 4)) s ix tour out after written → Walked (contentOf layout version) s ix tour out after written
   unfolding contentOf
-  walked-4 a b c t = rw (ne-eqb kind 1 a, ne-eqb kind 2 b, ne-eqb kind 3 c) (walked-into s aResponse response-of by lawful-response (λ v g. refl) t)
+  walked-4 a b c t = rw (ne-eqb layout 1 a, ne-eqb layout 2 b, ne-eqb layout 3 c) (walked-into s aResponse response-of by (lawful-response (eqb layout 4)) (λ v g. refl) t)
 
-module _ (kind : ℕ) (m : List ℕ) (by : Bytes m) {tour : Tour} {out : List ℕ} {after : Tour} {written : List ℕ} where
-  walked-message : Walked (both (edition 2) (contentOf kind)) m noIndex tour out after written → Walked (message kind) m noIndex tour out after written
+module _ (layout : ℕ) (m : List ℕ) (by : Bytes m) {tour : Tour} {out : List ℕ} {after : Tour} {written : List ℕ} where
+  walked-message : Walked (both (versioned layout) (contentOf layout)) m noIndex tour out after written → Walked (message layout) m noIndex tour out after written
   unfolding message
   walked-message t =
       walked-into m (λ v. record { version = v .0; content = v .1 }) (λ l. (l .version, l .content)) by
-      (lawful-both (lawful-ruled (λ n. leb n 1) Version (lawful-number 1 2)) (lawful-contentOf kind)) (λ v g. refl) t
+      (lawful-both (lawful-ruled (λ n. leb n (newest layout)) Version (lawful-number 1 2)) (lawful-contentOf layout)) (λ v g. refl) t
 
-module _ (kind : ℕ) (m : List ℕ) (by : Bytes m) {start : Tour} {out : List ℕ} {mid : Tour} {written : List ℕ} {after : Tour} {more : List ℕ} where
-  pub walked-whole : start .at ≡ 0 → Walked (number 4 1) m noIndex start out mid written → Walked (both (edition 2) (contentOf kind)) m noIndex mid written after more
-      → (r : Message) → readMessage kind m ≡ ok r → (after .at ≡ length m) × (stateOf after more ≡ visited (stateOf start out) (messageFields kind r))
+module _ (layout : ℕ) (m : List ℕ) (by : Bytes m) {start : Tour} {out : List ℕ} {mid : Tour} {written : List ℕ} {after : Tour} {more : List ℕ} where
+  pub walked-whole : start .at ≡ 0 → Walked (number 4 1) m noIndex start out mid written → Walked (both (versioned layout) (contentOf layout)) m noIndex mid written after more
+      → (r : Message) → readMessage layout m ≡ ok r → (after .at ≡ length m) × (stateOf after more ≡ visited (stateOf start out) (messageFields layout r))
   unfolding number
   walked-whole none t u r e =
-      let p = accepted→passed kind m r e in
+      let p = accepted→passed layout m r e in
       let x = t .goes (p .n) (p .next) (rw none (p .length-read)) in
       let four : mid .at ≡ 4 = x .0 ∙ took 4 1 m 0 (p .n) (p .next) (p .length-read) .place in
-      let y = walked-message kind m by u .goes r (length m) (rw four (p .message-read)) in
+      let y = walked-message layout m by u .goes r (length m) (rw four (p .message-read)) in
       let first : stateOf mid written ≡ visited (stateOf start out) (piece 4 0 1 noIndex) = rw none at (x .1) in
-      let second : stateOf after more ≡ visited (stateOf mid written) (message kind .fields noIndex 4 r) = rw four at (y .1) in
+      let second : stateOf after more ≡ visited (stateOf mid written) (message layout .fields noIndex 4 r) = rw four at (y .1) in
       (y .0, rw (visited-both, ← first) second)
 
 -- the answer of a tour over a message that is refused, and over one that is accepted
-pub tour-refused : (kind : ℕ) (m : List ℕ) (n : ℕ) (st : State) {v : Verdict} {given x : Refusal} → toldVerdict v ≡ verdictOf (readMessage kind m) → v ≡ Verdict.No given → x ≡ verdictNo v
-    → (no (x .fault) (x .place) ≡ tourOf (fieldsOf kind m) n st) × (st .out ≡ outOf (fieldsOf kind m) st)
-tour-refused kind m n st told none out = rw (verdict-stop (readMessage kind m) told none out) (refl, refl)
+pub tour-refused : (layout : ℕ) (m : List ℕ) (n : ℕ) (st : State) {v : Verdict} {given x : Refusal} → toldVerdict v ≡ verdictOf (readMessage layout m) → v ≡ Verdict.No given → x ≡ verdictNo v
+    → (no (x .fault) (x .place) ≡ tourOf (fieldsOf layout m) n st) × (st .out ≡ outOf (fieldsOf layout m) st)
+tour-refused layout m n st told none out = rw (verdict-stop (readMessage layout m) told none out) (refl, refl)
 
-pub tour-accepted : (kind : ℕ) (m : List ℕ) (first offset : ℕ) (out : List ℕ) {after : Tour} {written : List ℕ} {v : Verdict} → toldVerdict v ≡ verdictOf (readMessage kind m) → v ≡ Verdict.Fine
-    → Whole kind m first offset out after written → (ok after ≡ tourOf (fieldsOf kind m) (length m) (begun first offset out)) × (written ≡ outOf (fieldsOf kind m) (begun first offset out))
-tour-accepted kind m first offset out {after} {written} told fine w =
-    let go = verdict-go (readMessage kind m) told fine in
-    let es = messageFields kind (go .0) in
-    let are : fieldsOf kind m ≡ ok es = ap (λ (x : Res Message). bind x (λ q. ok (messageFields kind q))) (go .1) in
+pub tour-accepted : (layout : ℕ) (m : List ℕ) (first offset : ℕ) (out : List ℕ) {after : Tour} {written : List ℕ} {v : Verdict} → toldVerdict v ≡ verdictOf (readMessage layout m) → v ≡ Verdict.Fine
+    → Whole layout m first offset out after written → (ok after ≡ tourOf (fieldsOf layout m) (length m) (begun first offset out)) × (written ≡ outOf (fieldsOf layout m) (begun first offset out))
+tour-accepted layout m first offset out {after} {written} told fine w =
+    let go = verdict-go (readMessage layout m) told fine in
+    let es = messageFields layout (go .0) in
+    let are : fieldsOf layout m ≡ ok es = ap (λ (x : Res Message). bind x (λ q. ok (messageFields layout q))) (go .1) in
     let end = w .goes (go .0) (go .1) in
-    answers (fieldsOf kind m) es are (end .0) (end .1)
+    answers (fieldsOf layout m) es are (end .0) (end .1)
   where
     answers : (x : Res (List Entry)) (es : List Entry) → x ≡ ok es → after .at ≡ length m → stateOf after written ≡ visited (begun first offset out) es
         → (ok after ≡ tourOf x (length m) (begun first offset out)) × (written ≡ outOf x (begun first offset out))

@@ -1,7 +1,7 @@
 -- The walks over rooms, tables and responses, each made from the walks over its parts; and where the types of a table's columns stand.
-use Prim.Native.Nat.{ℕ, zero, suc, _+_, _%_, _≤_, _<_}
+use Prim.Native.Nat.{ℕ, zero, suc, _+_, _≤_, _<_}
 use mathlib.Core.Path.{_≡_, refl, sym, _∙_, ap, ap₂}
-use mathlib.Core.Bool.{false}
+use mathlib.Core.Bool.{Bool, false}
 use mathlib.Core.List.{List, [], _∷_, map}
 use mathlib.Core.Option.{Option}
 use lib.ListN.{length, take, drop, getD, replicate, length-replicate, take-append-drop}
@@ -9,22 +9,21 @@ use lib.Seq.{length-take-le, drop-cons}
 use lib.Dec.{leb, ltb, eqb, lit<}
 use native.Mathlib.Omega.{arith}
 use borrow.Author.Tests.{ltb-false}
-use Rattle.format.specs.declared.Fault.the-variants.{WireType, Flags, Limit, Negative}
+use Rattle.format.specs.declared.Fault.the-variants.{WireType, Limit, Negative}
 use Rattle.format.specs.Result.{ok}
 use Rattle.format.specs.Number.{Bytes, half}
 use Rattle.format.specs.Format.{Format, Index, number, block, nothing, ruled, room, into, both, each}
 use Rattle.format.specs.Value.{string, ascii, isColumn, Value, value}
-use Rattle.format.specs.Message.{count, columnType, list, third, mostColumns, unlimited, mostRow, Metadata, metadata, row, table, second, first, response}
+use Rattle.format.specs.Message.{count, columnType, list, third, mostColumns, unlimited, mostRow, Metadata, metadata, row, table, second, first, mostItems, flagByte, afterFlags, head, response}
 use Rattle.format.proofs.Results.{ok-same, bound, spared, passed}
 use Rattle.format.proofs.Numbers.{Bytes-take}
 use Rattle.format.proofs.Laws.{Lawful, lawful-number, lawful-block, lawful-nothing, lawful-ruled, lawful-into, lawful-both, lawful-present, lawful-each, all-replicate, all-map, length-each}
 use Rattle.format.proofs.Looks.{looks-longer}
-use Rattle.format.proofs.Formats.{lawful-list, lawful-value, lawful-metadata, lawful-row, lawful-table}
+use Rattle.format.proofs.Formats.{lawful-list, lawful-value, lawful-metadata, lawful-row, lawful-table, lawful-head}
 use Rattle.scan.proofs.Answers.{took}
 use Rattle.scan.proofs.Params.{byte-is}
 use Rattle.tour.specs.declared.Tour.{Tour}
 use Rattle.tour.specs.Tour.{Walked}
-use Rattle.tour.specs.Parts.{statuses}
 use Rattle.tour.proofs.Visits.{visited-both}
 use Rattle.tour.proofs.Tours.{walked-ruled, walked-into}
 use Rattle.tour.proofs.Values.{lawful-string, lawful-count, ruled-read, count-read}
@@ -176,9 +175,13 @@ module _ (s : List ℕ) (by : Bytes s) {ix : Index} {tour : Tour} {out : List �
   pub walked-count : (k most field : ℕ) → Walked (number k field) s ix tour out after written → Walked (count k most field) s ix tour out after written
   walked-count k most field t = walked-ruled s (λ n. leb n most) Limit (walked-ruled s (λ n. ltb n (half k)) Negative t)
 
-  pub walked-reply : Walked (both (block 8 22) (λ c. both (ruled (λ n. eqb (n % 32) 0) Flags (number 1 30)) statuses)) s ix tour out after written → Walked response s ix tour out after written
+  pub walked-head : (timed : Bool) → Walked (both (block 8 22) (λ c. both (flagByte 30) (afterFlags timed))) s ix tour out after written → Walked (head timed) s ix tour out after written
+  unfolding head
+  walked-head timed w = walked-into s _ _ by (search laws depth 16) (λ v g. refl) w
+
+  pub walked-reply : (timed : Bool) → Walked (both (head timed) (λ h. list 2 mostItems 40 first table)) s ix tour out after written → Walked (response timed) s ix tour out after written
   unfolding response
-  walked-reply w = walked-into s _ _ by (search laws depth 16) (λ v g. refl) w
+  walked-reply timed w = walked-into s _ _ by (search (laws, lawful-head)) (λ v g. refl) w
 
 -- the same by what the code finds
 pub found-columns : (s : List ℕ) → Bytes s → (at : ℕ) (m : Metadata) (next : ℕ) → metadata .read s at ≡ ok (m, next) → {count first n : ℕ}

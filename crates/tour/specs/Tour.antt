@@ -72,12 +72,12 @@ abbrev pub begun : ℕ → ℕ → List ℕ → State
 begun first offset out = record { first = first; offset = offset; seen = 0; taken = 0; last = 0; out = out }
 
 -- where a message is accepted, the tour over it goes to its end and lists its fields
-pub record Whole (kind : ℕ) (m : List ℕ) (first offset : ℕ) (out : List ℕ) (after : Tour) (written : List ℕ) : Type 0 where
-  pub goes : (r : Message) → readMessage kind m ≡ ok r → (after .at ≡ length m) × (stateOf after written ≡ visited (begun first offset out) (messageFields kind r))
+pub record Whole (layout : ℕ) (m : List ℕ) (first offset : ℕ) (out : List ℕ) (after : Tour) (written : List ℕ) : Type 0 where
+  pub goes : (r : Message) → readMessage layout m ≡ ok r → (after .at ≡ length m) × (stateOf after written ≡ visited (begun first offset out) (messageFields layout r))
 
--- the fields that a message of a kind has
+-- the fields that a message of a layout has
 abbrev pub fieldsOf : ℕ → List ℕ → Res (List Entry)
-fieldsOf kind m = bind (readMessage kind m) (λ r. ok (messageFields kind r))
+fieldsOf layout m = bind (readMessage layout m) (λ r. ok (messageFields layout r))
 
 -- the tour over the fields of a message of n bytes, from a state on, and what it leaves in the lent list
 abbrev pub tourOf : Res (List Entry) → ℕ → State → Res Tour

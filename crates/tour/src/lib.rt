@@ -13,8 +13,8 @@ ghost use lib.Seq.{sets};
 ghost use Rattle.format.specs.Format.{number, each, present, Verdict};
 ghost use Rattle.format.specs.Result.{ok};
 ghost use Rattle.format.specs.Value.{string, anything, ascii, value};
-ghost use Rattle.format.specs.Message.{first, second, third, items, argument, param, invocation, loginRequest, server, loginResponse, columnType, Metadata, metadata, row, table, flagged, response, contentOf};
-ghost use Rattle.tour.specs.Parts.{login, statuses, results};
+ghost use Rattle.format.specs.Message.{first, second, third, items, argument, param, invocation, loginRequest, server, loginResponse, columnType, Metadata, metadata, row, table, flagged, trip, afterFlags, head, response, contentOf};
+ghost use Rattle.message.specs.Login.{login};
 ghost use Rattle.tour.specs.Tour.{stateOf, indexOf, wanted, six, begun, fieldsOf, tourOf, outOf, Listed, Walked, Whole};
 ghost use Rattle.tour.specs.Told.{toldToured, touredNo};
 
@@ -35,15 +35,15 @@ pub enum Toured {
     No(Refusal),
 }
 
-// The tour over the fields of a message of a kind. It writes six numbers for each field from the first-th on that ends past an offset, while they fit.
-pub fn over(kind: u8, m: &[u8], out: &mut [u64], first: usize, offset: usize) -> Toured
-    ensures { λ r. ⌜ (toldToured r ≡ tourOf (fieldsOf kind (now (m .entry))) (length (now (m .entry))) (begun first offset (now (out .entry)))) × (now (out .exit) ≡ outOf (fieldsOf kind (now (m .entry))) (begun first offset (now (out .entry)))) ⌝ }
+// The tour over the fields of a message of a layout. It writes six numbers for each field from the first-th on that ends past an offset, while they fit.
+pub fn over(layout: u8, m: &[u8], out: &mut [u64], first: usize, offset: usize) -> Toured
+    ensures { λ r. ⌜ (toldToured r ≡ tourOf (fieldsOf layout (now (m .entry))) (length (now (m .entry))) (begun first offset (now (out .entry)))) × (now (out .exit) ≡ outOf (fieldsOf layout (now (m .entry))) (begun first offset (now (out .entry)))) ⌝ }
 {
-    let verdict = message::accept(kind, m);
+    let verdict = message::accept_layout(layout, m);
     let message::Verdict::Fine = verdict else {
         return Toured::No(message::verdict_refusal(verdict));
     };
-    Toured::Over(walk_message(kind, m, out, first, offset))
+    Toured::Over(walk_message(layout, m, out, first, offset))
 }
 
 // The refusal of an answer that is one.
@@ -503,53 +503,63 @@ fn is_flagged(flags: u8, bit: u8) -> bool
     flags / bit % 2 == 1
 }
 
-// A response from its round trip on.
-fn walk_results(s: &[u8], out: &mut [u64], tour: Tour, flags: u8, ix: Indices) -> Tour
-    ensures { λ r. ⌜ Walked (results flags) (now (s .entry)) (indexOf ix) tour (now (out .entry)) r (now (out .exit)) ⌝ }
+// A response's round trip, if it has one.
+fn walk_trip(s: &[u8], out: &mut [u64], tour: Tour, timed: bool, ix: Indices) -> Tour
+    ensures { λ r. ⌜ Walked (trip timed) (now (s .entry)) (indexOf ix) tour (now (out .entry)) r (now (out .exit)) ⌝ }
 {
-    let exception = walk_fixed(s, out, tour, 4, 37, ix);
-    let count = walk_optional(s, out, exception, is_flagged(flags, 64), 38, 39, ix);
+    if !timed {
+        return tour;
+    }
+    walk_fixed(s, out, tour, 4, 37, ix)
+}
+
+// A response's head from its status on.
+fn walk_flagged(s: &[u8], out: &mut [u64], tour: Tour, timed: bool, flags: u8, ix: Indices) -> Tour
+    ensures { λ r. ⌜ Walked (afterFlags timed flags) (now (s .entry)) (indexOf ix) tour (now (out .entry)) r (now (out .exit)) ⌝ }
+{
+    let string = walk_fixed(s, out, tour, 1, 31, ix);
+    let application = walk_optional(s, out, string, is_flagged(flags, 32), 32, 33, ix);
+    let words = walk_fixed(s, out, application, 1, 34, ix);
+    let trip = walk_optional(s, out, words, is_flagged(flags, 128), 35, 36, ix);
+    let exception = walk_trip(s, out, trip, timed, ix);
+    walk_optional(s, out, exception, is_flagged(flags, 64), 38, 39, ix)
+}
+
+// All that stands in a response before the count of its tables.
+fn walk_head(s: &[u8], out: &mut [u64], tour: Tour, timed: bool, ix: Indices) -> Tour
+    ensures { λ r. ⌜ Walked (head timed) (now (s .entry)) (indexOf ix) tour (now (out .entry)) r (now (out .exit)) ⌝ }
+{
+    let client = walk_fixed(s, out, tour, 8, 22, ix);
+    let flags = byte_at(s, client.at);
+    let status = walk_fixed(s, out, client, 1, 30, ix);
+    walk_flagged(s, out, status, timed, flags, ix)
+}
+
+// An invocation's response, from its client data on.
+fn walk_response(s: &[u8], out: &mut [u64], tour: Tour, timed: bool, ix: Indices) -> Tour
+    ensures { λ r. ⌜ Walked (response timed) (now (s .entry)) (indexOf ix) tour (now (out .entry)) r (now (out .exit)) ⌝ }
+{
+    let count = walk_head(s, out, tour, timed, ix);
     let n = number_at(s, count.at, 2) as usize;
     let tables = walk_fixed(s, out, count, 2, 40, ix);
     walk_tables(s, out, tables, n, ix)
 }
 
-// A response from its status on.
-fn walk_statuses(s: &[u8], out: &mut [u64], tour: Tour, flags: u8, ix: Indices) -> Tour
-    ensures { λ r. ⌜ Walked (statuses flags) (now (s .entry)) (indexOf ix) tour (now (out .entry)) r (now (out .exit)) ⌝ }
-{
-    let string = walk_fixed(s, out, tour, 1, 31, ix);
-    let application = walk_optional(s, out, string, is_flagged(flags, 32), 32, 33, ix);
-    let words = walk_fixed(s, out, application, 1, 34, ix);
-    let results = walk_optional(s, out, words, is_flagged(flags, 128), 35, 36, ix);
-    walk_results(s, out, results, flags, ix)
-}
-
-// An invocation's response, from its client data on.
-fn walk_response(s: &[u8], out: &mut [u64], tour: Tour, ix: Indices) -> Tour
-    ensures { λ r. ⌜ Walked response (now (s .entry)) (indexOf ix) tour (now (out .entry)) r (now (out .exit)) ⌝ }
-{
-    let client = walk_fixed(s, out, tour, 8, 22, ix);
-    let flags = byte_at(s, client.at);
-    let status = walk_fixed(s, out, client, 1, 30, ix);
-    walk_statuses(s, out, status, flags, ix)
-}
-
 // What stands after a message's version.
-fn walk_content(kind: u8, s: &[u8], out: &mut [u64], tour: Tour, version: u8, ix: Indices) -> Tour
-    ensures { λ r. ⌜ Walked (contentOf kind version) (now (s .entry)) (indexOf ix) tour (now (out .entry)) r (now (out .exit)) ⌝ }
+fn walk_content(layout: u8, s: &[u8], out: &mut [u64], tour: Tour, version: u8, ix: Indices) -> Tour
+    ensures { λ r. ⌜ Walked (contentOf layout version) (now (s .entry)) (indexOf ix) tour (now (out .entry)) r (now (out .exit)) ⌝ }
 {
-    match kind {
+    match layout {
         1 => walk_login_request(s, out, tour, version, ix),
         2 => walk_login_response(s, out, tour, ix),
         3 => walk_invocation(s, out, tour, ix),
-        _ => walk_response(s, out, tour, ix),
+        _ => walk_response(s, out, tour, layout == 4, ix),
     }
 }
 
 // A message that is accepted.
-fn walk_message(kind: u8, m: &[u8], out: &mut [u64], first: usize, offset: usize) -> Tour
-    ensures { λ r. ⌜ Whole kind (now (m .entry)) first offset (now (out .entry)) r (now (out .exit)) ⌝ }
+fn walk_message(layout: u8, m: &[u8], out: &mut [u64], first: usize, offset: usize) -> Tour
+    ensures { λ r. ⌜ Whole layout (now (m .entry)) first offset (now (out .entry)) r (now (out .exit)) ⌝ }
 {
     let ix = Indices { i: 0, j: 0, k: 0 };
     let start = Tour {
@@ -563,5 +573,5 @@ fn walk_message(kind: u8, m: &[u8], out: &mut [u64], first: usize, offset: usize
     let length = walk_fixed(m, out, start, 4, 1, ix);
     let version = byte_at(m, length.at);
     let content = walk_fixed(m, out, length, 1, 2, ix);
-    walk_content(kind, m, out, content, version, ix)
+    walk_content(layout, m, out, content, version, ix)
 }

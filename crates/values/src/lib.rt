@@ -1,8 +1,10 @@
 // Values as the reader shows them, written: one step for a shown value of any fixed size.
 use show::Cell;
+use write::COLUMNS;
 use write::State;
 use write::Step;
 ghost use mathlib.Core.Path.{_≡_};
+ghost use mathlib.Core.List.{[]};
 ghost use lib.Ieee.{binary64, toBits};
 ghost use Rattle.scan.specs.Signed.{unsigned};
 ghost use Rattle.write.specs.Steps.{oneParam, element, cell};
@@ -18,7 +20,7 @@ pub struct Fixed {
 
 // Writes a shown value as a parameter.
 pub fn value_param(out: &mut [u8], st: State, c: Cell) -> Step
-    ensures { λ r. ⌜ Stepped (oneParam (typeIn c) (valueIn c)) st (st .columns .types) (now (out .entry)) r (now (out .exit)) ⌝ }
+    ensures { λ r. ⌜ Stepped (oneParam (typeIn c) (valueIn c)) st [] (now (out .entry)) r (now (out .exit)) ⌝ }
 {
     let v = fixed_of(c);
     call::fixed_param(out, st, v.wire_type, v.upper, v.lower)
@@ -26,18 +28,18 @@ pub fn value_param(out: &mut [u8], st: State, c: Cell) -> Step
 
 // Writes a shown value into the open array.
 pub fn value_element(out: &mut [u8], st: State, c: Cell) -> Step
-    ensures { λ r. ⌜ Stepped (element (typeIn c) (valueIn c)) st (st .columns .types) (now (out .entry)) r (now (out .exit)) ⌝ }
+    ensures { λ r. ⌜ Stepped (element (typeIn c) (valueIn c)) st [] (now (out .entry)) r (now (out .exit)) ⌝ }
 {
     let v = fixed_of(c);
     call::fixed_element(out, st, v.wire_type, v.upper, v.lower)
 }
 
 // Writes a shown value into the open row.
-pub fn value_cell(out: &mut [u8], st: State, c: Cell) -> Step
-    ensures { λ r. ⌜ Stepped (cell (typeIn c) (valueIn c)) st (st .columns .types) (now (out .entry)) r (now (out .exit)) ⌝ }
+pub fn value_cell(out: &mut [u8], st: State, types: &[u8; COLUMNS], c: Cell) -> Step
+    ensures { λ r. ⌜ Stepped (cell (typeIn c) (valueIn c)) st (now (types .entry)) (now (out .entry)) r (now (out .exit)) ⌝ }
 {
     let v = fixed_of(c);
-    rows::fixed_cell(out, st, v.wire_type, v.upper, v.lower)
+    rows::fixed_cell(out, st, types, v.wire_type, v.upper, v.lower)
 }
 
 // What a shown value is to the writer. Text, binary values and nulls have no fixed size: their type is 0, which no step permits.

@@ -11,7 +11,7 @@ use lib.Dec.{eqb}
 use native.Mathlib.Omega.{arith}
 use Rattle.format.specs.Result.{ok, pick}
 use Rattle.format.specs.Number.{Bytes}
-use Rattle.format.specs.Message.{Server, Message, readMessage, messageBytes, GoodMessage}
+use Rattle.format.specs.Message.{Server, Message, readMessage, messageBytes, isKind, GoodMessage}
 use Rattle.format.proofs.Results.{ok-same}
 use Rattle.format.proofs.Demands.{accepted→encodes, encodes→accepted, encodes-once}
 use Rattle.write.specs.State.{State, closed}
@@ -71,20 +71,20 @@ read-written (replySteps version o ss) k st b e =
     read-back (replySteps version o ss) st b (e .0) _ (e .1) (s .0 .good, s .1) (ap (replySteps version (openingOf (opened o))) (s .0 .spelled))
 
 -- and it is the only one: no two good messages of a kind spell the same writing
-pub spells-once : (kind : ℕ) (r q : Message) → GoodMessage kind r → GoodMessage kind q → writingOf r ≡ writingOf q → r ≡ q
-spells-once kind r q g h e =
+pub spells-once : (kind : ℕ) (r q : Message) → isKind kind ≡ true → GoodMessage kind r → GoodMessage kind q → writingOf r ≡ writingOf q → r ≡ q
+spells-once kind r q known g h e =
     let x = messageBytes kind r in
     let y = messageBytes kind q in
     let b = x ++ y in
     let l = length-append x y in
     let same : inFront b x ≡ inFront b y
-    = sym (good-writes kind r g (closed 0) b (omega arith)) ∙ (ap (λ (w : Writing). written w (closed 0) b) e ∙ good-writes kind q h (closed 0) b (omega arith)) in
+    = sym (good-writes kind r known g (closed 0) b (omega arith)) ∙ (ap (λ (w : Writing). written w (closed 0) b) e ∙ good-writes kind q known h (closed 0) b (omega arith)) in
     let n : length x ≡ length y = ok-same (ap (λ (o : Out). o .answer) same) in
     let bytes : take (length x) (over b x) ≡ take (length x) (over b y) = ap (λ (o : Out). take (length x) (o .buffer)) same in
     encodes-once kind r q g h (sym (take-append-seam x _) ∙ (bytes ∙ rw n (take-append-seam y _)))
 
 -- the writing that the record of an accepted message spells puts the message in front of any buffer that is long enough, and changes no other byte
-pub written-read : (kind : ℕ) (m : List ℕ) → Bytes m → (r : Message) → readMessage kind m ≡ ok r → (st : State) (b : List ℕ) → length m ≤ length b → written (writingOf r) st b ≡ inFront b m
-written-read kind m bytes r e st b room =
+pub written-read : (kind : ℕ) (m : List ℕ) → isKind kind ≡ true → Bytes m → (r : Message) → readMessage kind m ≡ ok r → (st : State) (b : List ℕ) → length m ≤ length b → written (writingOf r) st b ≡ inFront b m
+written-read kind m known bytes r e st b room =
     let z = accepted→encodes kind m bytes r e in
-    subst (λ (x : List ℕ). length x ≤ length b → written (writingOf r) st b ≡ inFront b x) (z .1) (good-writes kind r (z .0) st b) room
+    subst (λ (x : List ℕ). length x ≤ length b → written (writingOf r) st b ≡ inFront b x) (z .1) (good-writes kind r known (z .0) st b) room

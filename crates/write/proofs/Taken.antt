@@ -42,7 +42,7 @@ shown-no (no g p) e f = let z : No _ ≡ No _ = sym f ∙ e in cc
 module _ (p : Plan) (st : Code) (b : List ℕ) (types : List ℕ) where
   -- what comes of a plan that is refused
   pub refused : {a : Answer} {x : Refusal} → a ≡ shownAnswer (answerOf p (length b)) → a ≡ No x
-      → (record { answer = a; state = st } ≡ came st (carry p (seen st) b) types) × (b ≡ carry p (seen st) b .buffer)
+      → (record { answer = a; state = st } ≡ came st (carry p (seen st types) b)) × (b ≡ carry p (seen st types) b .buffer)
   unfolding carry
   refused {a} {x} e f =
       let r = shown-no (answerOf p (length b)) e f in
@@ -51,8 +51,8 @@ module _ (p : Plan) (st : Code) (b : List ℕ) (types : List ℕ) where
   -- what comes of one that is taken
   pub record Taken (n : ℕ) : Type 0 where
     pub accepted : Accepted p (length b) n
-    pub came-is : came st (carry p (seen st) b) types ≡ record { answer = Reached n; state = shown (p .next n) types }
-    pub wrote : carry p (seen st) b .buffer ≡ fillAll (p .fills) (put b (p .at) (p .bytes))
+    pub came-is : came st (carry p (seen st types) b) ≡ record { answer = Reached n; state = shown (p .next n) }
+    pub wrote : carry p (seen st types) b .buffer ≡ fillAll (p .fills) (put b (p .at) (p .bytes))
 
   pub taken : {a : Answer} {n : ℕ} → a ≡ shownAnswer (answerOf p (length b)) → a ≡ Reached n → Taken n
   unfolding carry
@@ -62,18 +62,18 @@ module _ (p : Plan) (st : Code) (b : List ℕ) (types : List ℕ) where
 
 -- the same of a step
 module _ (s : Step) (st : Code) (b : List ℕ) (types : List ℕ) where
-  pub step-refused : {a : Answer} {x : Refusal} → a ≡ shownAnswer (answerOf (plan s (seen st) (length b)) (length b)) → a ≡ No x → Stepped s st types b (record { answer = a; state = st }) b
+  pub step-refused : {a : Answer} {x : Refusal} → a ≡ shownAnswer (answerOf (plan s (seen st types) (length b)) (length b)) → a ≡ No x → Stepped s st types b (record { answer = a; state = st }) b
   unfolding step
-  step-refused e f = refused (plan s (seen st) (length b)) st b types e f
+  step-refused e f = refused (plan s (seen st types) (length b)) st b types e f
 
-  pub step-accepted : {a : Answer} {n : ℕ} → let p = plan s (seen st) (length b) in a ≡ shownAnswer (answerOf p (length b)) → a ≡ Reached n → Accepted p (length b) n
-  step-accepted e f = taken (plan s (seen st) (length b)) st b types e f .accepted
+  pub step-accepted : {a : Answer} {n : ℕ} → let p = plan s (seen st types) (length b) in a ≡ shownAnswer (answerOf p (length b)) → a ≡ Reached n → Accepted p (length b) n
+  step-accepted e f = taken (plan s (seen st types) (length b)) st b types e f .accepted
 
-  pub step-taken : {a : Answer} {n : ℕ} {next : Code} {c : List ℕ} → let p = plan s (seen st) (length b) in a ≡ shownAnswer (answerOf p (length b)) → a ≡ Reached n
-      → next ≡ shown (p .next n) types → c ≡ fillAll (p .fills) (put b (p .at) (p .bytes)) → Stepped s st types b (record { answer = Reached n; state = next }) c
+  pub step-taken : {a : Answer} {n : ℕ} {next : Code} {c : List ℕ} → let p = plan s (seen st types) (length b) in a ≡ shownAnswer (answerOf p (length b)) → a ≡ Reached n
+      → next ≡ shown (p .next n) → c ≡ fillAll (p .fills) (put b (p .at) (p .bytes)) → Stepped s st types b (record { answer = Reached n; state = next }) c
   unfolding step
   step-taken {a} {n} {next} e f g h =
-      let t = taken (plan s (seen st) (length b)) st b types e f in
+      let t = taken (plan s (seen st types) (length b)) st b types e f in
       (rw g (sym (t .came-is)), h ∙ sym (t .wrote))
 
 -- what an accepted plan writes fits

@@ -2,7 +2,7 @@
 use Prim.Native.Nat.{ℕ, _+_, _*_, _-_, _^_, _≤_}
 use mathlib.Core.Path.{_≡_, refl, sym, ap, _∙_}
 use mathlib.Core.Bool.{Bool}
-use mathlib.Core.List.{List, _++_}
+use mathlib.Core.List.{List, [], _++_}
 use native.Mathlib.Omega.{arith}
 use lib.ListN.{length}
 use Rattle.format.specs.declared.Fault.the-variants.{WireType}
@@ -35,11 +35,11 @@ enum-told : tie.Need-enum-told
 enum-told c = search needs
 
 returns : tie.Need-returns
-returns c = step-refused (closeArray) (c .before .before .before .before .before .args .st) (c .before .before .before .before .before .args .out .now) (c .before .before .before .before .before .args .st .columns .types) (close-answer (seen (c .before .before .before .before .before .args .st)) (length (c .before .before .before .before .before .args .out .now)) (c .before .before .before .at-array .ensures) (c .before .before .judge .ensures)) (c .enum-told .given .1)
+returns c = step-refused (closeArray) (c .before .before .before .before .before .args .st) (c .before .before .before .before .before .args .out .now) [] (close-answer (seen (c .before .before .before .before .before .args .st) []) (length (c .before .before .before .before .before .args .out .now)) (c .before .before .before .at-array .ensures) (c .before .before .judge .ensures)) (c .enum-told .given .1)
 
 number-at-requires : tie.Need-number-at-requires
 number-at-requires c κs =
-    let o = within (seen (c .before .before .before .before .before .before .before .args .st)) (length (c .before .before .before .before .before .before .before .args .out .now)) (at-stage Array (seen (c .before .before .before .before .before .before .before .args .st)) (length (c .before .before .before .before .before .before .before .args .out .now)) ((step-accepted (closeArray) (c .before .before .before .before .before .before .before .args .st) (c .before .before .before .before .before .before .before .args .out .now) (c .before .before .before .before .before .before .before .args .st .columns .types) (close-answer (seen (c .before .before .before .before .before .before .before .args .st)) (length (c .before .before .before .before .before .before .before .args .out .now)) (c .before .before .before .before .before .at-array .ensures) (c .before .before .before .before .judge .ensures)) (c .before .before .a .given .1)) .fine .permitted)) in
+    let o = within (seen (c .before .before .before .before .before .before .before .args .st) []) (length (c .before .before .before .before .before .before .before .args .out .now)) (at-stage Array (seen (c .before .before .before .before .before .before .before .args .st) []) (length (c .before .before .before .before .before .before .before .args .out .now)) ((step-accepted (closeArray) (c .before .before .before .before .before .before .before .args .st) (c .before .before .before .before .before .before .before .args .out .now) [] (close-answer (seen (c .before .before .before .before .before .before .before .args .st) []) (length (c .before .before .before .before .before .before .before .args .out .now)) (c .before .before .before .before .before .at-array .ensures) (c .before .before .before .before .judge .ensures)) (c .before .before .a .given .1)) .fine .permitted)) in
     omega (arith, o .inside, o .own .fits)
 
 between-requires : tie.Need-between-requires
@@ -49,7 +49,7 @@ same-length : tie.Need-same-length
 same-length c = search needs
 
 returns-2 : tie.Need-returns-2
-returns-2 c = step-taken (closeArray) (c .before .before .before .before .before .before .before .before .before .before .before .args .st) (c .before .before .before .before .before .before .before .before .before .before .before .args .out .now) (c .before .before .before .before .before .before .before .before .before .before .before .args .st .columns .types) (close-answer (seen (c .before .before .before .before .before .before .before .before .before .before .before .args .st)) (length (c .before .before .before .before .before .before .before .before .before .before .before .args .out .now)) (c .before .before .before .before .before .before .before .before .before .at-array .ensures) (c .before .before .before .before .before .before .before .before .judge .ensures)) (c .before .before .before .before .before .before .a .given .1) (c .between .ensures) (c .before .before .before .number-at .ensures .1 ∙ sym (ap (λ (b : List ℕ). put b (c .before .before .before .before .before .before .before .before .before .before .before .args .st .«inner_at») (numBytes 2 (c .before .before .before .before .before .before .before .before .before .before .before .args .st .«inner_count»))) (put-nothing (c .before .before .before .before .before .before .before .before .before .before .before .args .out .now) (c .before .before .before .before .before .before .before .before .before .before .before .args .st .position))))
+returns-2 c = step-taken (closeArray) (c .before .before .before .before .before .before .before .before .before .before .before .args .st) (c .before .before .before .before .before .before .before .before .before .before .before .args .out .now) [] (close-answer (seen (c .before .before .before .before .before .before .before .before .before .before .before .args .st) []) (length (c .before .before .before .before .before .before .before .before .before .before .before .args .out .now)) (c .before .before .before .before .before .before .before .before .before .at-array .ensures) (c .before .before .before .before .before .before .before .before .judge .ensures)) (c .before .before .before .before .before .before .a .given .1) (c .between .ensures) (c .before .before .before .number-at .ensures .1 ∙ sym (ap (λ (b : List ℕ). put b (c .before .before .before .before .before .before .before .before .before .before .before .args .st .«inner_at») (numBytes 2 (c .before .before .before .before .before .before .before .before .before .before .before .args .st .«inner_count»))) (put-nothing (c .before .before .before .before .before .before .before .before .before .before .before .args .out .now) (c .before .before .before .before .before .before .before .before .before .before .before .args .st .position))))
 
 pub close-array-spec : {M : Type 1} → statement M
 close-array-spec =

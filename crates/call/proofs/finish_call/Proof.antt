@@ -2,7 +2,7 @@
 use Prim.Native.Nat.{ℕ, _+_, _*_, _-_, _^_, _≤_}
 use mathlib.Core.Path.{_≡_, refl, sym, ap, _∙_}
 use mathlib.Core.Bool.{Bool}
-use mathlib.Core.List.{List, _++_}
+use mathlib.Core.List.{List, [], _++_}
 use native.Mathlib.Omega.{arith}
 use lib.ListN.{length}
 use Rattle.format.specs.declared.Fault.the-variants.{WireType}
@@ -35,11 +35,11 @@ enum-told : tie.Need-enum-told
 enum-told c = search needs
 
 returns : tie.Need-returns
-returns c = step-refused (finishCall) (c .before .before .before .before .before .args .st) (c .before .before .before .before .before .args .out .now) (c .before .before .before .before .before .args .st .columns .types) (finish-answer (seen (c .before .before .before .before .before .args .st)) (length (c .before .before .before .before .before .args .out .now)) (c .before .before .before .at-call .ensures) (c .before .before .judge .ensures)) (c .enum-told .given .1)
+returns c = step-refused (finishCall) (c .before .before .before .before .before .args .st) (c .before .before .before .before .before .args .out .now) [] (finish-answer (seen (c .before .before .before .before .before .args .st) []) (length (c .before .before .before .before .before .args .out .now)) (c .before .before .before .at-call .ensures) (c .before .before .judge .ensures)) (c .enum-told .given .1)
 
 sub-number-at : tie.Need-sub-number-at
 sub-number-at c =
-    let o = between-call (seen (c .before .before .before .before .before .before .before .args .st)) (length (c .before .before .before .before .before .before .before .args .out .now)) (at-stage Call (seen (c .before .before .before .before .before .before .before .args .st)) (length (c .before .before .before .before .before .before .before .args .out .now)) ((step-accepted (finishCall) (c .before .before .before .before .before .before .before .args .st) (c .before .before .before .before .before .before .before .args .out .now) (c .before .before .before .before .before .before .before .args .st .columns .types) (finish-answer (seen (c .before .before .before .before .before .before .before .args .st)) (length (c .before .before .before .before .before .before .before .args .out .now)) (c .before .before .before .before .before .at-call .ensures) (c .before .before .before .before .judge .ensures)) (c .before .before .a .given .1)) .fine .permitted)) in
+    let o = between-call (seen (c .before .before .before .before .before .before .before .args .st) []) (length (c .before .before .before .before .before .before .before .args .out .now)) (at-stage Call (seen (c .before .before .before .before .before .before .before .args .st) []) (length (c .before .before .before .before .before .before .before .args .out .now)) ((step-accepted (finishCall) (c .before .before .before .before .before .before .before .args .st) (c .before .before .before .before .before .before .before .args .out .now) [] (finish-answer (seen (c .before .before .before .before .before .before .before .args .st) []) (length (c .before .before .before .before .before .before .before .args .out .now)) (c .before .before .before .before .before .at-call .ensures) (c .before .before .before .before .judge .ensures)) (c .before .before .a .given .1)) .fine .permitted)) in
     let f : 4 ≤ c .before .before .before .before .before .before .before .args .st .«count_at» = o .own .front in
     let g : c .before .before .before .before .before .before .before .args .st .«count_at» + 2 ≤ c .before .before .before .before .before .before .before .args .st .position = o .behind in
     let h : c .before .before .before .before .before .before .before .args .st .position ≤ (length (c .before .before .before .before .before .before .before .args .out .now)) = o .own .fits in
@@ -47,7 +47,7 @@ sub-number-at c =
 
 number-at-requires : tie.Need-number-at-requires
 number-at-requires c κs =
-    let o = between-call (seen (c .before .before .before .before .before .before .before .args .st)) (length (c .before .before .before .before .before .before .before .args .out .now)) (at-stage Call (seen (c .before .before .before .before .before .before .before .args .st)) (length (c .before .before .before .before .before .before .before .args .out .now)) ((step-accepted (finishCall) (c .before .before .before .before .before .before .before .args .st) (c .before .before .before .before .before .before .before .args .out .now) (c .before .before .before .before .before .before .before .args .st .columns .types) (finish-answer (seen (c .before .before .before .before .before .before .before .args .st)) (length (c .before .before .before .before .before .before .before .args .out .now)) (c .before .before .before .before .before .at-call .ensures) (c .before .before .before .before .judge .ensures)) (c .before .before .a .given .1)) .fine .permitted)) in
+    let o = between-call (seen (c .before .before .before .before .before .before .before .args .st) []) (length (c .before .before .before .before .before .before .before .args .out .now)) (at-stage Call (seen (c .before .before .before .before .before .before .before .args .st) []) (length (c .before .before .before .before .before .before .before .args .out .now)) ((step-accepted (finishCall) (c .before .before .before .before .before .before .before .args .st) (c .before .before .before .before .before .before .before .args .out .now) [] (finish-answer (seen (c .before .before .before .before .before .before .before .args .st) []) (length (c .before .before .before .before .before .before .before .args .out .now)) (c .before .before .before .before .before .at-call .ensures) (c .before .before .before .before .judge .ensures)) (c .before .before .a .given .1)) .fine .permitted)) in
     let f : 4 ≤ c .before .before .before .before .before .before .before .args .st .«count_at» = o .own .front in
     let g : c .before .before .before .before .before .before .before .args .st .«count_at» + 2 ≤ c .before .before .before .before .before .before .before .args .st .position = o .behind in
     let h : c .before .before .before .before .before .before .before .args .st .position ≤ (length (c .before .before .before .before .before .before .before .args .out .now)) = o .own .fits in
@@ -55,7 +55,7 @@ number-at-requires c κs =
 
 number-at-requires-2 : tie.Need-number-at-requires-2
 number-at-requires-2 c κs =
-    let o = between-call (seen (c .before .before .before .before .before .before .before .before .before .before .before .args .st)) (length (c .before .before .before .before .before .before .before .before .before .before .before .args .out .now)) (at-stage Call (seen (c .before .before .before .before .before .before .before .before .before .before .before .args .st)) (length (c .before .before .before .before .before .before .before .before .before .before .before .args .out .now)) ((step-accepted (finishCall) (c .before .before .before .before .before .before .before .before .before .before .before .args .st) (c .before .before .before .before .before .before .before .before .before .before .before .args .out .now) (c .before .before .before .before .before .before .before .before .before .before .before .args .st .columns .types) (finish-answer (seen (c .before .before .before .before .before .before .before .before .before .before .before .args .st)) (length (c .before .before .before .before .before .before .before .before .before .before .before .args .out .now)) (c .before .before .before .before .before .before .before .before .before .at-call .ensures) (c .before .before .before .before .before .before .before .before .judge .ensures)) (c .before .before .before .before .before .before .a .given .1)) .fine .permitted)) in
+    let o = between-call (seen (c .before .before .before .before .before .before .before .before .before .before .before .args .st) []) (length (c .before .before .before .before .before .before .before .before .before .before .before .args .out .now)) (at-stage Call (seen (c .before .before .before .before .before .before .before .before .before .before .before .args .st) []) (length (c .before .before .before .before .before .before .before .before .before .before .before .args .out .now)) ((step-accepted (finishCall) (c .before .before .before .before .before .before .before .before .before .before .before .args .st) (c .before .before .before .before .before .before .before .before .before .before .before .args .out .now) [] (finish-answer (seen (c .before .before .before .before .before .before .before .before .before .before .before .args .st) []) (length (c .before .before .before .before .before .before .before .before .before .before .before .args .out .now)) (c .before .before .before .before .before .before .before .before .before .at-call .ensures) (c .before .before .before .before .before .before .before .before .judge .ensures)) (c .before .before .before .before .before .before .a .given .1)) .fine .permitted)) in
     let f : 4 ≤ c .before .before .before .before .before .before .before .before .before .before .before .args .st .«count_at» = o .own .front in
     let g : c .before .before .before .before .before .before .before .before .before .before .before .args .st .«count_at» + 2 ≤ c .before .before .before .before .before .before .before .before .before .before .before .args .st .position = o .behind in
     let h : c .before .before .before .before .before .before .before .before .before .before .before .args .st .position ≤ (length (c .before .before .before .before .before .before .before .before .before .before .before .args .out .now)) = o .own .fits in
@@ -70,7 +70,7 @@ same-length c = search needs
 returns-2 : tie.Need-returns-2
 returns-2 c =
     let there = c .before .before .before .before .before .before .before .number-at .ensures .1 ∙ sym (ap (λ (b : List ℕ). put b 0 (numBytes 4 (c .before .before .before .before .before .before .before .before .before .before .before .before .before .before .before .args .st .position - 4))) (put-nothing (c .before .before .before .before .before .before .before .before .before .before .before .before .before .before .before .args .out .now) (c .before .before .before .before .before .before .before .before .before .before .before .before .before .before .before .args .st .position))) in
-    step-taken (finishCall) (c .before .before .before .before .before .before .before .before .before .before .before .before .before .before .before .args .st) (c .before .before .before .before .before .before .before .before .before .before .before .before .before .before .before .args .out .now) (c .before .before .before .before .before .before .before .before .before .before .before .before .before .before .before .args .st .columns .types) (finish-answer (seen (c .before .before .before .before .before .before .before .before .before .before .before .before .before .before .before .args .st)) (length (c .before .before .before .before .before .before .before .before .before .before .before .before .before .before .before .args .out .now)) (c .before .before .before .before .before .before .before .before .before .before .before .before .before .at-call .ensures) (c .before .before .before .before .before .before .before .before .before .before .before .before .judge .ensures)) (c .before .before .before .before .before .before .before .before .before .before .a .given .1) (c .finished .ensures) (c .before .before .before .number-at2 .ensures .1 ∙ ap (λ (b : List ℕ). put b (c .before .before .before .before .before .before .before .before .before .before .before .before .before .before .before .args .st .«count_at») (numBytes 2 (c .before .before .before .before .before .before .before .before .before .before .before .before .before .before .before .args .st .count))) there)
+    step-taken (finishCall) (c .before .before .before .before .before .before .before .before .before .before .before .before .before .before .before .args .st) (c .before .before .before .before .before .before .before .before .before .before .before .before .before .before .before .args .out .now) [] (finish-answer (seen (c .before .before .before .before .before .before .before .before .before .before .before .before .before .before .before .args .st) []) (length (c .before .before .before .before .before .before .before .before .before .before .before .before .before .before .before .args .out .now)) (c .before .before .before .before .before .before .before .before .before .before .before .before .before .at-call .ensures) (c .before .before .before .before .before .before .before .before .before .before .before .before .judge .ensures)) (c .before .before .before .before .before .before .before .before .before .before .a .given .1) (c .finished .ensures) (c .before .before .before .number-at2 .ensures .1 ∙ ap (λ (b : List ℕ). put b (c .before .before .before .before .before .before .before .before .before .before .before .before .before .before .before .args .st .«count_at») (numBytes 2 (c .before .before .before .before .before .before .before .before .before .before .before .before .before .before .before .args .st .count))) there)
 
 pub finish-call-spec : {M : Type 1} → statement M
 finish-call-spec =

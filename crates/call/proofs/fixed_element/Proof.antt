@@ -2,7 +2,7 @@
 use Prim.Native.Nat.{ℕ, _+_, _*_, _-_, _^_, _≤_}
 use mathlib.Core.Path.{_≡_, refl, sym, ap, _∙_}
 use mathlib.Core.Bool.{Bool}
-use mathlib.Core.List.{List, _++_}
+use mathlib.Core.List.{List, [], _++_}
 use native.Mathlib.Omega.{arith}
 use lib.ListN.{length}
 use Rattle.format.specs.declared.Fault.the-variants.{WireType}
@@ -56,18 +56,18 @@ enum-told : tie.Need-enum-told
 enum-told c = search needs
 
 returns : tie.Need-returns
-returns c = step-refused (element (c .before .before .before .before .before .before .before .before .before .before .before .args .t) (fixed (c .before .before .before .before .before .before .before .before .before .before .before .args .upper * 2 ^ 64 + c .before .before .before .before .before .before .before .before .before .before .before .args .lower))) (c .before .before .before .before .before .before .before .before .before .before .before .args .st) (c .before .before .before .before .before .before .before .before .before .before .before .args .out .now) (c .before .before .before .before .before .before .before .before .before .before .before .args .st .columns .types) (element-fixed (seen (c .before .before .before .before .before .before .before .before .before .before .before .args .st)) (length (c .before .before .before .before .before .before .before .before .before .before .before .args .out .now)) (c .before .before .before .before .before .before .before .before .before .before .before .args .t) (c .before .before .before .before .before .before .before .before .before .before .before .args .upper * 2 ^ 64 + c .before .before .before .before .before .before .before .before .before .before .before .args .lower) (c .before .before .before .before .before .before .before .before .before .at-array .ensures) (c .before .before .before .before .before .also .ensures ∙ ap₂ also (c .before .before .before .before .before .before .before .test .ensures) (c .before .before .before .before .before .before .fixed-fault .ensures)) (c .before .before .before .before .one-more .ensures) (c .before .before .before .width-of .ensures) (c .before .before .judge .ensures)) (c .enum-told .given .1)
+returns c = step-refused (element (c .before .before .before .before .before .before .before .before .before .before .before .args .t) (fixed (c .before .before .before .before .before .before .before .before .before .before .before .args .upper * 2 ^ 64 + c .before .before .before .before .before .before .before .before .before .before .before .args .lower))) (c .before .before .before .before .before .before .before .before .before .before .before .args .st) (c .before .before .before .before .before .before .before .before .before .before .before .args .out .now) [] (element-fixed (seen (c .before .before .before .before .before .before .before .before .before .before .before .args .st) []) (length (c .before .before .before .before .before .before .before .before .before .before .before .args .out .now)) (c .before .before .before .before .before .before .before .before .before .before .before .args .t) (c .before .before .before .before .before .before .before .before .before .before .before .args .upper * 2 ^ 64 + c .before .before .before .before .before .before .before .before .before .before .before .args .lower) (c .before .before .before .before .before .before .before .before .before .at-array .ensures) (c .before .before .before .before .before .also .ensures ∙ ap₂ also (c .before .before .before .before .before .before .before .test .ensures) (c .before .before .before .before .before .before .fixed-fault .ensures)) (c .before .before .before .before .one-more .ensures) (c .before .before .before .width-of .ensures) (c .before .before .judge .ensures)) (c .enum-told .given .1)
 
 fixed-at-requires : tie.Need-fixed-at-requires
 fixed-at-requires c κs =
-    let a = step-accepted (element (c .before .before .before .before .before .before .before .before .before .before .before .before .before .args .t) (fixed (c .before .before .before .before .before .before .before .before .before .before .before .before .before .args .upper * 2 ^ 64 + c .before .before .before .before .before .before .before .before .before .before .before .before .before .args .lower))) (c .before .before .before .before .before .before .before .before .before .before .before .before .before .args .st) (c .before .before .before .before .before .before .before .before .before .before .before .before .before .args .out .now) (c .before .before .before .before .before .before .before .before .before .before .before .before .before .args .st .columns .types) (element-fixed (seen (c .before .before .before .before .before .before .before .before .before .before .before .before .before .args .st)) (length (c .before .before .before .before .before .before .before .before .before .before .before .before .before .args .out .now)) (c .before .before .before .before .before .before .before .before .before .before .before .before .before .args .t) (c .before .before .before .before .before .before .before .before .before .before .before .before .before .args .upper * 2 ^ 64 + c .before .before .before .before .before .before .before .before .before .before .before .before .before .args .lower) (c .before .before .before .before .before .before .before .before .before .before .before .at-array .ensures) (c .before .before .before .before .before .before .before .also .ensures ∙ ap₂ also (c .before .before .before .before .before .before .before .before .before .test .ensures) (c .before .before .before .before .before .before .before .before .fixed-fault .ensures)) (c .before .before .before .before .before .before .one-more .ensures) (c .before .before .before .before .before .width-of .ensures) (c .before .before .before .before .judge .ensures)) (c .before .before .a .given .1) in
+    let a = step-accepted (element (c .before .before .before .before .before .before .before .before .before .before .before .before .before .args .t) (fixed (c .before .before .before .before .before .before .before .before .before .before .before .before .before .args .upper * 2 ^ 64 + c .before .before .before .before .before .before .before .before .before .before .before .before .before .args .lower))) (c .before .before .before .before .before .before .before .before .before .before .before .before .before .args .st) (c .before .before .before .before .before .before .before .before .before .before .before .before .before .args .out .now) [] (element-fixed (seen (c .before .before .before .before .before .before .before .before .before .before .before .before .before .args .st) []) (length (c .before .before .before .before .before .before .before .before .before .before .before .before .before .args .out .now)) (c .before .before .before .before .before .before .before .before .before .before .before .before .before .args .t) (c .before .before .before .before .before .before .before .before .before .before .before .before .before .args .upper * 2 ^ 64 + c .before .before .before .before .before .before .before .before .before .before .before .before .before .args .lower) (c .before .before .before .before .before .before .before .before .before .before .before .at-array .ensures) (c .before .before .before .before .before .before .before .also .ensures ∙ ap₂ also (c .before .before .before .before .before .before .before .before .before .test .ensures) (c .before .before .before .before .before .before .before .before .fixed-fault .ensures)) (c .before .before .before .before .before .before .one-more .ensures) (c .before .before .before .before .before .width-of .ensures) (c .before .before .before .before .judge .ensures)) (c .before .before .a .given .1) in
     let e = fixed-bytes (c .before .before .before .before .before .before .before .before .before .before .before .before .before .args .st .position) 27 28 (c .before .before .before .before .before .before .before .before .before .before .before .before .before .args .t) (c .before .before .before .before .before .before .before .before .before .before .before .before .before .args .upper * 2 ^ 64 + c .before .before .before .before .before .before .before .before .before .before .before .before .before .args .lower) (also-fine (test (eqb (c .before .before .before .before .before .before .before .before .before .before .before .before .before .args .t) (c .before .before .before .before .before .before .before .before .before .before .before .before .before .args .st .«inner_type»)) WireType (c .before .before .before .before .before .before .before .before .before .before .before .before .before .args .st .position)) (valueFault (c .before .before .before .before .before .before .before .before .before .before .before .before .before .args .st .position) (c .before .before .before .before .before .before .before .before .before .before .before .before .before .args .t) (fixed (c .before .before .before .before .before .before .before .before .before .before .before .before .before .args .upper * 2 ^ 64 + c .before .before .before .before .before .before .before .before .before .before .before .before .before .args .lower))) (a .fine .faultless) .1) in
     let h : c .before .before .before .before .before .before .before .before .before .before .before .before .before .args .st .position + widthOf (c .before .before .before .before .before .before .before .before .before .before .before .before .before .args .t) ≤ (length (c .before .before .before .before .before .before .before .before .before .before .before .before .before .args .out .now)) = room a (ap length e ∙ length-numBytes (widthOf (c .before .before .before .before .before .before .before .before .before .before .before .before .before .args .t)) (c .before .before .before .before .before .before .before .before .before .before .before .before .before .args .upper * 2 ^ 64 + c .before .before .before .before .before .before .before .before .before .before .before .before .before .args .lower)) in
     h
 
 add-in-array : tie.Need-add-in-array
 add-in-array c =
-    let h : c .before .before .before .before .before .before .before .before .before .before .before .before .before .before .before .before .before .args .st .«inner_count» + 1 ≤ mostItems = counts (c .before .before .before .before .before .before .before .before .before .before .before .before .before .before .before .before .before .args .st .«inner_count») mostItems (step-accepted (element (c .before .before .before .before .before .before .before .before .before .before .before .before .before .before .before .before .before .args .t) (fixed (c .before .before .before .before .before .before .before .before .before .before .before .before .before .before .before .before .before .args .upper * 2 ^ 64 + c .before .before .before .before .before .before .before .before .before .before .before .before .before .before .before .before .before .args .lower))) (c .before .before .before .before .before .before .before .before .before .before .before .before .before .before .before .before .before .args .st) (c .before .before .before .before .before .before .before .before .before .before .before .before .before .before .before .before .before .args .out .now) (c .before .before .before .before .before .before .before .before .before .before .before .before .before .before .before .before .before .args .st .columns .types) (element-fixed (seen (c .before .before .before .before .before .before .before .before .before .before .before .before .before .before .before .before .before .args .st)) (length (c .before .before .before .before .before .before .before .before .before .before .before .before .before .before .before .before .before .args .out .now)) (c .before .before .before .before .before .before .before .before .before .before .before .before .before .before .before .before .before .args .t) (c .before .before .before .before .before .before .before .before .before .before .before .before .before .before .before .before .before .args .upper * 2 ^ 64 + c .before .before .before .before .before .before .before .before .before .before .before .before .before .before .before .before .before .args .lower) (c .before .before .before .before .before .before .before .before .before .before .before .before .before .before .before .at-array .ensures) (c .before .before .before .before .before .before .before .before .before .before .before .also .ensures ∙ ap₂ also (c .before .before .before .before .before .before .before .before .before .before .before .before .before .test .ensures) (c .before .before .before .before .before .before .before .before .before .before .before .before .fixed-fault .ensures)) (c .before .before .before .before .before .before .before .before .before .before .one-more .ensures) (c .before .before .before .before .before .before .before .before .before .width-of .ensures) (c .before .before .before .before .before .before .before .before .judge .ensures)) (c .before .before .before .before .before .before .a .given .1)) refl in
+    let h : c .before .before .before .before .before .before .before .before .before .before .before .before .before .before .before .before .before .args .st .«inner_count» + 1 ≤ mostItems = counts (c .before .before .before .before .before .before .before .before .before .before .before .before .before .before .before .before .before .args .st .«inner_count») mostItems (step-accepted (element (c .before .before .before .before .before .before .before .before .before .before .before .before .before .before .before .before .before .args .t) (fixed (c .before .before .before .before .before .before .before .before .before .before .before .before .before .before .before .before .before .args .upper * 2 ^ 64 + c .before .before .before .before .before .before .before .before .before .before .before .before .before .before .before .before .before .args .lower))) (c .before .before .before .before .before .before .before .before .before .before .before .before .before .before .before .before .before .args .st) (c .before .before .before .before .before .before .before .before .before .before .before .before .before .before .before .before .before .args .out .now) [] (element-fixed (seen (c .before .before .before .before .before .before .before .before .before .before .before .before .before .before .before .before .before .args .st) []) (length (c .before .before .before .before .before .before .before .before .before .before .before .before .before .before .before .before .before .args .out .now)) (c .before .before .before .before .before .before .before .before .before .before .before .before .before .before .before .before .before .args .t) (c .before .before .before .before .before .before .before .before .before .before .before .before .before .before .before .before .before .args .upper * 2 ^ 64 + c .before .before .before .before .before .before .before .before .before .before .before .before .before .before .before .before .before .args .lower) (c .before .before .before .before .before .before .before .before .before .before .before .before .before .before .before .at-array .ensures) (c .before .before .before .before .before .before .before .before .before .before .before .also .ensures ∙ ap₂ also (c .before .before .before .before .before .before .before .before .before .before .before .before .before .test .ensures) (c .before .before .before .before .before .before .before .before .before .before .before .before .fixed-fault .ensures)) (c .before .before .before .before .before .before .before .before .before .before .one-more .ensures) (c .before .before .before .before .before .before .before .before .before .width-of .ensures) (c .before .before .before .before .before .before .before .before .judge .ensures)) (c .before .before .before .before .before .before .a .given .1)) refl in
     omega arith
 
 in-array-requires : tie.Need-in-array-requires
@@ -78,10 +78,10 @@ same-length c = search needs
 
 returns-2 : tie.Need-returns-2
 returns-2 c =
-    let a = step-accepted (element (c .before .before .before .before .before .before .before .before .before .before .before .before .before .before .before .before .before .before .args .t) (fixed (c .before .before .before .before .before .before .before .before .before .before .before .before .before .before .before .before .before .before .args .upper * 2 ^ 64 + c .before .before .before .before .before .before .before .before .before .before .before .before .before .before .before .before .before .before .args .lower))) (c .before .before .before .before .before .before .before .before .before .before .before .before .before .before .before .before .before .before .args .st) (c .before .before .before .before .before .before .before .before .before .before .before .before .before .before .before .before .before .before .args .out .now) (c .before .before .before .before .before .before .before .before .before .before .before .before .before .before .before .before .before .before .args .st .columns .types) (element-fixed (seen (c .before .before .before .before .before .before .before .before .before .before .before .before .before .before .before .before .before .before .args .st)) (length (c .before .before .before .before .before .before .before .before .before .before .before .before .before .before .before .before .before .before .args .out .now)) (c .before .before .before .before .before .before .before .before .before .before .before .before .before .before .before .before .before .before .args .t) (c .before .before .before .before .before .before .before .before .before .before .before .before .before .before .before .before .before .before .args .upper * 2 ^ 64 + c .before .before .before .before .before .before .before .before .before .before .before .before .before .before .before .before .before .before .args .lower) (c .before .before .before .before .before .before .before .before .before .before .before .before .before .before .before .before .at-array .ensures) (c .before .before .before .before .before .before .before .before .before .before .before .before .also .ensures ∙ ap₂ also (c .before .before .before .before .before .before .before .before .before .before .before .before .before .before .test .ensures) (c .before .before .before .before .before .before .before .before .before .before .before .before .before .fixed-fault .ensures)) (c .before .before .before .before .before .before .before .before .before .before .before .one-more .ensures) (c .before .before .before .before .before .before .before .before .before .before .width-of .ensures) (c .before .before .before .before .before .before .before .before .before .judge .ensures)) (c .before .before .before .before .before .before .before .a .given .1) in
+    let a = step-accepted (element (c .before .before .before .before .before .before .before .before .before .before .before .before .before .before .before .before .before .before .args .t) (fixed (c .before .before .before .before .before .before .before .before .before .before .before .before .before .before .before .before .before .before .args .upper * 2 ^ 64 + c .before .before .before .before .before .before .before .before .before .before .before .before .before .before .before .before .before .before .args .lower))) (c .before .before .before .before .before .before .before .before .before .before .before .before .before .before .before .before .before .before .args .st) (c .before .before .before .before .before .before .before .before .before .before .before .before .before .before .before .before .before .before .args .out .now) [] (element-fixed (seen (c .before .before .before .before .before .before .before .before .before .before .before .before .before .before .before .before .before .before .args .st) []) (length (c .before .before .before .before .before .before .before .before .before .before .before .before .before .before .before .before .before .before .args .out .now)) (c .before .before .before .before .before .before .before .before .before .before .before .before .before .before .before .before .before .before .args .t) (c .before .before .before .before .before .before .before .before .before .before .before .before .before .before .before .before .before .before .args .upper * 2 ^ 64 + c .before .before .before .before .before .before .before .before .before .before .before .before .before .before .before .before .before .before .args .lower) (c .before .before .before .before .before .before .before .before .before .before .before .before .before .before .before .before .at-array .ensures) (c .before .before .before .before .before .before .before .before .before .before .before .before .also .ensures ∙ ap₂ also (c .before .before .before .before .before .before .before .before .before .before .before .before .before .before .test .ensures) (c .before .before .before .before .before .before .before .before .before .before .before .before .before .fixed-fault .ensures)) (c .before .before .before .before .before .before .before .before .before .before .before .one-more .ensures) (c .before .before .before .before .before .before .before .before .before .before .width-of .ensures) (c .before .before .before .before .before .before .before .before .before .judge .ensures)) (c .before .before .before .before .before .before .before .a .given .1) in
     let e = fixed-bytes (c .before .before .before .before .before .before .before .before .before .before .before .before .before .before .before .before .before .before .args .st .position) 27 28 (c .before .before .before .before .before .before .before .before .before .before .before .before .before .before .before .before .before .before .args .t) (c .before .before .before .before .before .before .before .before .before .before .before .before .before .before .before .before .before .before .args .upper * 2 ^ 64 + c .before .before .before .before .before .before .before .before .before .before .before .before .before .before .before .before .before .before .args .lower) (also-fine (test (eqb (c .before .before .before .before .before .before .before .before .before .before .before .before .before .before .before .before .before .before .args .t) (c .before .before .before .before .before .before .before .before .before .before .before .before .before .before .before .before .before .before .args .st .«inner_type»)) WireType (c .before .before .before .before .before .before .before .before .before .before .before .before .before .before .before .before .before .before .args .st .position)) (valueFault (c .before .before .before .before .before .before .before .before .before .before .before .before .before .before .before .before .before .before .args .st .position) (c .before .before .before .before .before .before .before .before .before .before .before .before .before .before .before .before .before .before .args .t) (fixed (c .before .before .before .before .before .before .before .before .before .before .before .before .before .before .before .before .before .before .args .upper * 2 ^ 64 + c .before .before .before .before .before .before .before .before .before .before .before .before .before .before .before .before .before .before .args .lower))) (a .fine .faultless) .1) in
     let h : c .before .before .before .before .before .before .before .before .before .before .before .before .before .before .before .before .before .before .args .st .position + widthOf (c .before .before .before .before .before .before .before .before .before .before .before .before .before .before .before .before .before .before .args .t) ≤ (length (c .before .before .before .before .before .before .before .before .before .before .before .before .before .before .before .before .before .before .args .out .now)) = room a (ap length e ∙ length-numBytes (widthOf (c .before .before .before .before .before .before .before .before .before .before .before .before .before .before .before .before .before .before .args .t)) (c .before .before .before .before .before .before .before .before .before .before .before .before .before .before .before .before .before .before .args .upper * 2 ^ 64 + c .before .before .before .before .before .before .before .before .before .before .before .before .before .before .before .before .before .before .args .lower)) in
-    step-taken (element (c .before .before .before .before .before .before .before .before .before .before .before .before .before .before .before .before .before .before .args .t) (fixed (c .before .before .before .before .before .before .before .before .before .before .before .before .before .before .before .before .before .before .args .upper * 2 ^ 64 + c .before .before .before .before .before .before .before .before .before .before .before .before .before .before .before .before .before .before .args .lower))) (c .before .before .before .before .before .before .before .before .before .before .before .before .before .before .before .before .before .before .args .st) (c .before .before .before .before .before .before .before .before .before .before .before .before .before .before .before .before .before .before .args .out .now) (c .before .before .before .before .before .before .before .before .before .before .before .before .before .before .before .before .before .before .args .st .columns .types) (element-fixed (seen (c .before .before .before .before .before .before .before .before .before .before .before .before .before .before .before .before .before .before .args .st)) (length (c .before .before .before .before .before .before .before .before .before .before .before .before .before .before .before .before .before .before .args .out .now)) (c .before .before .before .before .before .before .before .before .before .before .before .before .before .before .before .before .before .before .args .t) (c .before .before .before .before .before .before .before .before .before .before .before .before .before .before .before .before .before .before .args .upper * 2 ^ 64 + c .before .before .before .before .before .before .before .before .before .before .before .before .before .before .before .before .before .before .args .lower) (c .before .before .before .before .before .before .before .before .before .before .before .before .before .before .before .before .at-array .ensures) (c .before .before .before .before .before .before .before .before .before .before .before .before .also .ensures ∙ ap₂ also (c .before .before .before .before .before .before .before .before .before .before .before .before .before .before .test .ensures) (c .before .before .before .before .before .before .before .before .before .before .before .before .before .fixed-fault .ensures)) (c .before .before .before .before .before .before .before .before .before .before .before .one-more .ensures) (c .before .before .before .before .before .before .before .before .before .before .width-of .ensures) (c .before .before .before .before .before .before .before .before .before .judge .ensures)) (c .before .before .before .before .before .before .before .a .given .1) (c .in-array .ensures) (c .before .before .before .before .fixed-at .ensures .1 ∙ sym (ap (λ (bs : List ℕ). put (c .before .before .before .before .before .before .before .before .before .before .before .before .before .before .before .before .before .before .args .out .now) (c .before .before .before .before .before .before .before .before .before .before .before .before .before .before .before .before .before .before .args .st .position) bs) e))
+    step-taken (element (c .before .before .before .before .before .before .before .before .before .before .before .before .before .before .before .before .before .before .args .t) (fixed (c .before .before .before .before .before .before .before .before .before .before .before .before .before .before .before .before .before .before .args .upper * 2 ^ 64 + c .before .before .before .before .before .before .before .before .before .before .before .before .before .before .before .before .before .before .args .lower))) (c .before .before .before .before .before .before .before .before .before .before .before .before .before .before .before .before .before .before .args .st) (c .before .before .before .before .before .before .before .before .before .before .before .before .before .before .before .before .before .before .args .out .now) [] (element-fixed (seen (c .before .before .before .before .before .before .before .before .before .before .before .before .before .before .before .before .before .before .args .st) []) (length (c .before .before .before .before .before .before .before .before .before .before .before .before .before .before .before .before .before .before .args .out .now)) (c .before .before .before .before .before .before .before .before .before .before .before .before .before .before .before .before .before .before .args .t) (c .before .before .before .before .before .before .before .before .before .before .before .before .before .before .before .before .before .before .args .upper * 2 ^ 64 + c .before .before .before .before .before .before .before .before .before .before .before .before .before .before .before .before .before .before .args .lower) (c .before .before .before .before .before .before .before .before .before .before .before .before .before .before .before .before .at-array .ensures) (c .before .before .before .before .before .before .before .before .before .before .before .before .also .ensures ∙ ap₂ also (c .before .before .before .before .before .before .before .before .before .before .before .before .before .before .test .ensures) (c .before .before .before .before .before .before .before .before .before .before .before .before .before .fixed-fault .ensures)) (c .before .before .before .before .before .before .before .before .before .before .before .one-more .ensures) (c .before .before .before .before .before .before .before .before .before .before .width-of .ensures) (c .before .before .before .before .before .before .before .before .before .judge .ensures)) (c .before .before .before .before .before .before .before .a .given .1) (c .in-array .ensures) (c .before .before .before .before .fixed-at .ensures .1 ∙ sym (ap (λ (bs : List ℕ). put (c .before .before .before .before .before .before .before .before .before .before .before .before .before .before .before .before .before .before .args .out .now) (c .before .before .before .before .before .before .before .before .before .before .before .before .before .before .before .before .before .before .args .st .position) bs) e))
 
 pub fixed-element-spec : {M : Type 1} → statement M
 fixed-element-spec =

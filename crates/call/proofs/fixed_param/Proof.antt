@@ -2,7 +2,7 @@
 use Prim.Native.Nat.{ℕ, _+_, _*_, _-_, _^_, _≤_}
 use mathlib.Core.Path.{_≡_, refl, sym, ap, _∙_}
 use mathlib.Core.Bool.{Bool}
-use mathlib.Core.List.{List, _++_}
+use mathlib.Core.List.{List, [], _++_}
 use native.Mathlib.Omega.{arith}
 use lib.ListN.{length}
 use Rattle.format.specs.declared.Fault.the-variants.{WireType}
@@ -51,24 +51,24 @@ enum-told : tie.Need-enum-told
 enum-told c = search needs
 
 returns : tie.Need-returns
-returns c = step-refused (oneParam (c .before .before .before .before .before .before .before .before .args .t) (fixed (c .before .before .before .before .before .before .before .before .args .upper * 2 ^ 64 + c .before .before .before .before .before .before .before .before .args .lower))) (c .before .before .before .before .before .before .before .before .args .st) (c .before .before .before .before .before .before .before .before .args .out .now) (c .before .before .before .before .before .before .before .before .args .st .columns .types) (fixed-answer (seen (c .before .before .before .before .before .before .before .before .args .st)) (length (c .before .before .before .before .before .before .before .before .args .out .now)) (c .before .before .before .before .before .before .before .before .args .t) (c .before .before .before .before .before .before .before .before .args .upper * 2 ^ 64 + c .before .before .before .before .before .before .before .before .args .lower) (c .before .before .before .before .before .before .at-call .ensures) (c .before .before .before .before .before .fixed-fault .ensures) (c .before .before .before .before .one-more .ensures) (c .before .before .before .width-of .ensures) (c .before .before .judge .ensures)) (c .enum-told .given .1)
+returns c = step-refused (oneParam (c .before .before .before .before .before .before .before .before .args .t) (fixed (c .before .before .before .before .before .before .before .before .args .upper * 2 ^ 64 + c .before .before .before .before .before .before .before .before .args .lower))) (c .before .before .before .before .before .before .before .before .args .st) (c .before .before .before .before .before .before .before .before .args .out .now) [] (fixed-answer (seen (c .before .before .before .before .before .before .before .before .args .st) []) (length (c .before .before .before .before .before .before .before .before .args .out .now)) (c .before .before .before .before .before .before .before .before .args .t) (c .before .before .before .before .before .before .before .before .args .upper * 2 ^ 64 + c .before .before .before .before .before .before .before .before .args .lower) (c .before .before .before .before .before .before .at-call .ensures) (c .before .before .before .before .before .fixed-fault .ensures) (c .before .before .before .before .one-more .ensures) (c .before .before .before .width-of .ensures) (c .before .before .judge .ensures)) (c .enum-told .given .1)
 
 number-at-requires : tie.Need-number-at-requires
 number-at-requires c κs =
-    let a = step-accepted (oneParam (c .before .before .before .before .before .before .before .before .before .before .args .t) (fixed (c .before .before .before .before .before .before .before .before .before .before .args .upper * 2 ^ 64 + c .before .before .before .before .before .before .before .before .before .before .args .lower))) (c .before .before .before .before .before .before .before .before .before .before .args .st) (c .before .before .before .before .before .before .before .before .before .before .args .out .now) (c .before .before .before .before .before .before .before .before .before .before .args .st .columns .types) (fixed-answer (seen (c .before .before .before .before .before .before .before .before .before .before .args .st)) (length (c .before .before .before .before .before .before .before .before .before .before .args .out .now)) (c .before .before .before .before .before .before .before .before .before .before .args .t) (c .before .before .before .before .before .before .before .before .before .before .args .upper * 2 ^ 64 + c .before .before .before .before .before .before .before .before .before .before .args .lower) (c .before .before .before .before .before .before .before .before .at-call .ensures) (c .before .before .before .before .before .before .before .fixed-fault .ensures) (c .before .before .before .before .before .before .one-more .ensures) (c .before .before .before .before .before .width-of .ensures) (c .before .before .before .before .judge .ensures)) (c .before .before .a .given .1) in
+    let a = step-accepted (oneParam (c .before .before .before .before .before .before .before .before .before .before .args .t) (fixed (c .before .before .before .before .before .before .before .before .before .before .args .upper * 2 ^ 64 + c .before .before .before .before .before .before .before .before .before .before .args .lower))) (c .before .before .before .before .before .before .before .before .before .before .args .st) (c .before .before .before .before .before .before .before .before .before .before .args .out .now) [] (fixed-answer (seen (c .before .before .before .before .before .before .before .before .before .before .args .st) []) (length (c .before .before .before .before .before .before .before .before .before .before .args .out .now)) (c .before .before .before .before .before .before .before .before .before .before .args .t) (c .before .before .before .before .before .before .before .before .before .before .args .upper * 2 ^ 64 + c .before .before .before .before .before .before .before .before .before .before .args .lower) (c .before .before .before .before .before .before .before .before .at-call .ensures) (c .before .before .before .before .before .before .before .fixed-fault .ensures) (c .before .before .before .before .before .before .one-more .ensures) (c .before .before .before .before .before .width-of .ensures) (c .before .before .before .before .judge .ensures)) (c .before .before .a .given .1) in
     let h : c .before .before .before .before .before .before .before .before .before .before .args .st .position + (1 + widthOf (c .before .before .before .before .before .before .before .before .before .before .args .t)) ≤ (length (c .before .before .before .before .before .before .before .before .before .before .args .out .now)) = room a (fixed-size (c .before .before .before .before .before .before .before .before .before .before .args .st .position) (c .before .before .before .before .before .before .before .before .before .before .args .t) (c .before .before .before .before .before .before .before .before .before .before .args .upper * 2 ^ 64 + c .before .before .before .before .before .before .before .before .before .before .args .lower) (a .fine .faultless)) in
     omega arith
 
 fixed-at-requires : tie.Need-fixed-at-requires
 fixed-at-requires c κs =
-    let a = step-accepted (oneParam (c .before .before .before .before .before .before .before .before .before .before .before .before .before .before .args .t) (fixed (c .before .before .before .before .before .before .before .before .before .before .before .before .before .before .args .upper * 2 ^ 64 + c .before .before .before .before .before .before .before .before .before .before .before .before .before .before .args .lower))) (c .before .before .before .before .before .before .before .before .before .before .before .before .before .before .args .st) (c .before .before .before .before .before .before .before .before .before .before .before .before .before .before .args .out .now) (c .before .before .before .before .before .before .before .before .before .before .before .before .before .before .args .st .columns .types) (fixed-answer (seen (c .before .before .before .before .before .before .before .before .before .before .before .before .before .before .args .st)) (length (c .before .before .before .before .before .before .before .before .before .before .before .before .before .before .args .out .now)) (c .before .before .before .before .before .before .before .before .before .before .before .before .before .before .args .t) (c .before .before .before .before .before .before .before .before .before .before .before .before .before .before .args .upper * 2 ^ 64 + c .before .before .before .before .before .before .before .before .before .before .before .before .before .before .args .lower) (c .before .before .before .before .before .before .before .before .before .before .before .before .at-call .ensures) (c .before .before .before .before .before .before .before .before .before .before .before .fixed-fault .ensures) (c .before .before .before .before .before .before .before .before .before .before .one-more .ensures) (c .before .before .before .before .before .before .before .before .before .width-of .ensures) (c .before .before .before .before .before .before .before .before .judge .ensures)) (c .before .before .before .before .before .before .a .given .1) in
+    let a = step-accepted (oneParam (c .before .before .before .before .before .before .before .before .before .before .before .before .before .before .args .t) (fixed (c .before .before .before .before .before .before .before .before .before .before .before .before .before .before .args .upper * 2 ^ 64 + c .before .before .before .before .before .before .before .before .before .before .before .before .before .before .args .lower))) (c .before .before .before .before .before .before .before .before .before .before .before .before .before .before .args .st) (c .before .before .before .before .before .before .before .before .before .before .before .before .before .before .args .out .now) [] (fixed-answer (seen (c .before .before .before .before .before .before .before .before .before .before .before .before .before .before .args .st) []) (length (c .before .before .before .before .before .before .before .before .before .before .before .before .before .before .args .out .now)) (c .before .before .before .before .before .before .before .before .before .before .before .before .before .before .args .t) (c .before .before .before .before .before .before .before .before .before .before .before .before .before .before .args .upper * 2 ^ 64 + c .before .before .before .before .before .before .before .before .before .before .before .before .before .before .args .lower) (c .before .before .before .before .before .before .before .before .before .before .before .before .at-call .ensures) (c .before .before .before .before .before .before .before .before .before .before .before .fixed-fault .ensures) (c .before .before .before .before .before .before .before .before .before .before .one-more .ensures) (c .before .before .before .before .before .before .before .before .before .width-of .ensures) (c .before .before .before .before .before .before .before .before .judge .ensures)) (c .before .before .before .before .before .before .a .given .1) in
     let h : c .before .before .before .before .before .before .before .before .before .before .before .before .before .before .args .st .position + (1 + widthOf (c .before .before .before .before .before .before .before .before .before .before .before .before .before .before .args .t)) ≤ (length (c .before .before .before .before .before .before .before .before .before .before .before .before .before .before .args .out .now)) = room a (fixed-size (c .before .before .before .before .before .before .before .before .before .before .before .before .before .before .args .st .position) (c .before .before .before .before .before .before .before .before .before .before .before .before .before .before .args .t) (c .before .before .before .before .before .before .before .before .before .before .before .before .before .before .args .upper * 2 ^ 64 + c .before .before .before .before .before .before .before .before .before .before .before .before .before .before .args .lower) (a .fine .faultless)) in
     let p = puts-number (c .before .before .before .before .before .before .before .before .before .before .before .before .before .before .args .out .now) (c .before .before .before .before .before .before .before .before .before .before .before .before .before .before .args .st .position) 1 (c .before .before .before .before .before .before .before .before .before .before .before .before .before .before .args .t) (omega arith) (c .before .before .before .number-at .ensures) in
     omega arith
 
 add-between : tie.Need-add-between
 add-between c =
-    let h : c .before .before .before .before .before .before .before .before .before .before .before .before .before .before .before .before .before .before .args .st .count + 1 ≤ mostItems = counts (c .before .before .before .before .before .before .before .before .before .before .before .before .before .before .before .before .before .before .args .st .count) mostItems (step-accepted (oneParam (c .before .before .before .before .before .before .before .before .before .before .before .before .before .before .before .before .before .before .args .t) (fixed (c .before .before .before .before .before .before .before .before .before .before .before .before .before .before .before .before .before .before .args .upper * 2 ^ 64 + c .before .before .before .before .before .before .before .before .before .before .before .before .before .before .before .before .before .before .args .lower))) (c .before .before .before .before .before .before .before .before .before .before .before .before .before .before .before .before .before .before .args .st) (c .before .before .before .before .before .before .before .before .before .before .before .before .before .before .before .before .before .before .args .out .now) (c .before .before .before .before .before .before .before .before .before .before .before .before .before .before .before .before .before .before .args .st .columns .types) (fixed-answer (seen (c .before .before .before .before .before .before .before .before .before .before .before .before .before .before .before .before .before .before .args .st)) (length (c .before .before .before .before .before .before .before .before .before .before .before .before .before .before .before .before .before .before .args .out .now)) (c .before .before .before .before .before .before .before .before .before .before .before .before .before .before .before .before .before .before .args .t) (c .before .before .before .before .before .before .before .before .before .before .before .before .before .before .before .before .before .before .args .upper * 2 ^ 64 + c .before .before .before .before .before .before .before .before .before .before .before .before .before .before .before .before .before .before .args .lower) (c .before .before .before .before .before .before .before .before .before .before .before .before .before .before .before .before .at-call .ensures) (c .before .before .before .before .before .before .before .before .before .before .before .before .before .before .before .fixed-fault .ensures) (c .before .before .before .before .before .before .before .before .before .before .before .before .before .before .one-more .ensures) (c .before .before .before .before .before .before .before .before .before .before .before .before .before .width-of .ensures) (c .before .before .before .before .before .before .before .before .before .before .before .before .judge .ensures)) (c .before .before .before .before .before .before .before .before .before .before .a .given .1)) refl in
+    let h : c .before .before .before .before .before .before .before .before .before .before .before .before .before .before .before .before .before .before .args .st .count + 1 ≤ mostItems = counts (c .before .before .before .before .before .before .before .before .before .before .before .before .before .before .before .before .before .before .args .st .count) mostItems (step-accepted (oneParam (c .before .before .before .before .before .before .before .before .before .before .before .before .before .before .before .before .before .before .args .t) (fixed (c .before .before .before .before .before .before .before .before .before .before .before .before .before .before .before .before .before .before .args .upper * 2 ^ 64 + c .before .before .before .before .before .before .before .before .before .before .before .before .before .before .before .before .before .before .args .lower))) (c .before .before .before .before .before .before .before .before .before .before .before .before .before .before .before .before .before .before .args .st) (c .before .before .before .before .before .before .before .before .before .before .before .before .before .before .before .before .before .before .args .out .now) [] (fixed-answer (seen (c .before .before .before .before .before .before .before .before .before .before .before .before .before .before .before .before .before .before .args .st) []) (length (c .before .before .before .before .before .before .before .before .before .before .before .before .before .before .before .before .before .before .args .out .now)) (c .before .before .before .before .before .before .before .before .before .before .before .before .before .before .before .before .before .before .args .t) (c .before .before .before .before .before .before .before .before .before .before .before .before .before .before .before .before .before .before .args .upper * 2 ^ 64 + c .before .before .before .before .before .before .before .before .before .before .before .before .before .before .before .before .before .before .args .lower) (c .before .before .before .before .before .before .before .before .before .before .before .before .before .before .before .before .at-call .ensures) (c .before .before .before .before .before .before .before .before .before .before .before .before .before .before .before .fixed-fault .ensures) (c .before .before .before .before .before .before .before .before .before .before .before .before .before .before .one-more .ensures) (c .before .before .before .before .before .before .before .before .before .before .before .before .before .width-of .ensures) (c .before .before .before .before .before .before .before .before .before .before .before .before .judge .ensures)) (c .before .before .before .before .before .before .before .before .before .before .a .given .1)) refl in
     omega arith
 
 between-requires : tie.Need-between-requires
@@ -79,12 +79,12 @@ same-length c = search needs
 
 returns-2 : tie.Need-returns-2
 returns-2 c =
-    let a = step-accepted (oneParam (c .before .before .before .before .before .before .before .before .before .before .before .before .before .before .before .before .before .before .before .args .t) (fixed (c .before .before .before .before .before .before .before .before .before .before .before .before .before .before .before .before .before .before .before .args .upper * 2 ^ 64 + c .before .before .before .before .before .before .before .before .before .before .before .before .before .before .before .before .before .before .before .args .lower))) (c .before .before .before .before .before .before .before .before .before .before .before .before .before .before .before .before .before .before .before .args .st) (c .before .before .before .before .before .before .before .before .before .before .before .before .before .before .before .before .before .before .before .args .out .now) (c .before .before .before .before .before .before .before .before .before .before .before .before .before .before .before .before .before .before .before .args .st .columns .types) (fixed-answer (seen (c .before .before .before .before .before .before .before .before .before .before .before .before .before .before .before .before .before .before .before .args .st)) (length (c .before .before .before .before .before .before .before .before .before .before .before .before .before .before .before .before .before .before .before .args .out .now)) (c .before .before .before .before .before .before .before .before .before .before .before .before .before .before .before .before .before .before .before .args .t) (c .before .before .before .before .before .before .before .before .before .before .before .before .before .before .before .before .before .before .before .args .upper * 2 ^ 64 + c .before .before .before .before .before .before .before .before .before .before .before .before .before .before .before .before .before .before .before .args .lower) (c .before .before .before .before .before .before .before .before .before .before .before .before .before .before .before .before .before .at-call .ensures) (c .before .before .before .before .before .before .before .before .before .before .before .before .before .before .before .before .fixed-fault .ensures) (c .before .before .before .before .before .before .before .before .before .before .before .before .before .before .before .one-more .ensures) (c .before .before .before .before .before .before .before .before .before .before .before .before .before .before .width-of .ensures) (c .before .before .before .before .before .before .before .before .before .before .before .before .before .judge .ensures)) (c .before .before .before .before .before .before .before .before .before .before .before .a .given .1) in
+    let a = step-accepted (oneParam (c .before .before .before .before .before .before .before .before .before .before .before .before .before .before .before .before .before .before .before .args .t) (fixed (c .before .before .before .before .before .before .before .before .before .before .before .before .before .before .before .before .before .before .before .args .upper * 2 ^ 64 + c .before .before .before .before .before .before .before .before .before .before .before .before .before .before .before .before .before .before .before .args .lower))) (c .before .before .before .before .before .before .before .before .before .before .before .before .before .before .before .before .before .before .before .args .st) (c .before .before .before .before .before .before .before .before .before .before .before .before .before .before .before .before .before .before .before .args .out .now) [] (fixed-answer (seen (c .before .before .before .before .before .before .before .before .before .before .before .before .before .before .before .before .before .before .before .args .st) []) (length (c .before .before .before .before .before .before .before .before .before .before .before .before .before .before .before .before .before .before .before .args .out .now)) (c .before .before .before .before .before .before .before .before .before .before .before .before .before .before .before .before .before .before .before .args .t) (c .before .before .before .before .before .before .before .before .before .before .before .before .before .before .before .before .before .before .before .args .upper * 2 ^ 64 + c .before .before .before .before .before .before .before .before .before .before .before .before .before .before .before .before .before .before .before .args .lower) (c .before .before .before .before .before .before .before .before .before .before .before .before .before .before .before .before .before .at-call .ensures) (c .before .before .before .before .before .before .before .before .before .before .before .before .before .before .before .before .fixed-fault .ensures) (c .before .before .before .before .before .before .before .before .before .before .before .before .before .before .before .one-more .ensures) (c .before .before .before .before .before .before .before .before .before .before .before .before .before .before .width-of .ensures) (c .before .before .before .before .before .before .before .before .before .before .before .before .before .judge .ensures)) (c .before .before .before .before .before .before .before .before .before .before .before .a .given .1) in
     let h : c .before .before .before .before .before .before .before .before .before .before .before .before .before .before .before .before .before .before .before .args .st .position + (1 + widthOf (c .before .before .before .before .before .before .before .before .before .before .before .before .before .before .before .before .before .before .before .args .t)) ≤ (length (c .before .before .before .before .before .before .before .before .before .before .before .before .before .before .before .before .before .before .before .args .out .now)) = room a (fixed-size (c .before .before .before .before .before .before .before .before .before .before .before .before .before .before .before .before .before .before .before .args .st .position) (c .before .before .before .before .before .before .before .before .before .before .before .before .before .before .before .before .before .before .before .args .t) (c .before .before .before .before .before .before .before .before .before .before .before .before .before .before .before .before .before .before .before .args .upper * 2 ^ 64 + c .before .before .before .before .before .before .before .before .before .before .before .before .before .before .before .before .before .before .before .args .lower) (a .fine .faultless)) in
     let p = puts-number (c .before .before .before .before .before .before .before .before .before .before .before .before .before .before .before .before .before .before .before .args .out .now) (c .before .before .before .before .before .before .before .before .before .before .before .before .before .before .before .before .before .before .before .args .st .position) 1 (c .before .before .before .before .before .before .before .before .before .before .before .before .before .before .before .before .before .before .before .args .t) (omega arith) (c .before .before .before .before .before .before .before .before .number-at .ensures) in
     let q = puts (c .before .before .before .before .before .before .before .before .number-at .last .0) (c .before .before .before .before .before .before .before .before .number-at .result) (widthOf (c .before .before .before .before .before .before .before .before .before .before .before .before .before .before .before .before .before .before .before .args .t)) (numBytes (widthOf (c .before .before .before .before .before .before .before .before .before .before .before .before .before .before .before .before .before .before .before .args .t)) (c .before .before .before .before .before .before .before .before .before .before .before .before .before .before .before .before .before .before .before .args .upper * 2 ^ 64 + c .before .before .before .before .before .before .before .before .before .before .before .before .before .before .before .before .before .before .before .args .lower)) (length-numBytes (widthOf (c .before .before .before .before .before .before .before .before .before .before .before .before .before .before .before .before .before .before .before .args .t)) (c .before .before .before .before .before .before .before .before .before .before .before .before .before .before .before .before .before .before .before .args .upper * 2 ^ 64 + c .before .before .before .before .before .before .before .before .before .before .before .before .before .before .before .before .before .before .before .args .lower)) (omega arith) (c .before .before .before .before .fixed-at .ensures) in
     let e = one-bytes (c .before .before .before .before .before .before .before .before .before .before .before .before .before .before .before .before .before .before .before .args .st .position) (c .before .before .before .before .before .before .before .before .before .before .before .before .before .before .before .before .before .before .before .args .t) (fixed (c .before .before .before .before .before .before .before .before .before .before .before .before .before .before .before .before .before .before .before .args .upper * 2 ^ 64 + c .before .before .before .before .before .before .before .before .before .before .before .before .before .before .before .before .before .before .before .args .lower)) (a .fine .faultless) ∙ ap (λ (bs : List ℕ). numBytes 1 (c .before .before .before .before .before .before .before .before .before .before .before .before .before .before .before .before .before .before .before .args .t) ++ bs) (fixed-bytes (c .before .before .before .before .before .before .before .before .before .before .before .before .before .before .before .before .before .before .before .args .st .position) 27 28 (c .before .before .before .before .before .before .before .before .before .before .before .before .before .before .before .before .before .before .before .args .t) (c .before .before .before .before .before .before .before .before .before .before .before .before .before .before .before .before .before .before .before .args .upper * 2 ^ 64 + c .before .before .before .before .before .before .before .before .before .before .before .before .before .before .before .before .before .before .before .args .lower) (a .fine .faultless)) in
-    step-taken (oneParam (c .before .before .before .before .before .before .before .before .before .before .before .before .before .before .before .before .before .before .before .args .t) (fixed (c .before .before .before .before .before .before .before .before .before .before .before .before .before .before .before .before .before .before .before .args .upper * 2 ^ 64 + c .before .before .before .before .before .before .before .before .before .before .before .before .before .before .before .before .before .before .before .args .lower))) (c .before .before .before .before .before .before .before .before .before .before .before .before .before .before .before .before .before .before .before .args .st) (c .before .before .before .before .before .before .before .before .before .before .before .before .before .before .before .before .before .before .before .args .out .now) (c .before .before .before .before .before .before .before .before .before .before .before .before .before .before .before .before .before .before .before .args .st .columns .types) (fixed-answer (seen (c .before .before .before .before .before .before .before .before .before .before .before .before .before .before .before .before .before .before .before .args .st)) (length (c .before .before .before .before .before .before .before .before .before .before .before .before .before .before .before .before .before .before .before .args .out .now)) (c .before .before .before .before .before .before .before .before .before .before .before .before .before .before .before .before .before .before .before .args .t) (c .before .before .before .before .before .before .before .before .before .before .before .before .before .before .before .before .before .before .before .args .upper * 2 ^ 64 + c .before .before .before .before .before .before .before .before .before .before .before .before .before .before .before .before .before .before .before .args .lower) (c .before .before .before .before .before .before .before .before .before .before .before .before .before .before .before .before .before .at-call .ensures) (c .before .before .before .before .before .before .before .before .before .before .before .before .before .before .before .before .fixed-fault .ensures) (c .before .before .before .before .before .before .before .before .before .before .before .before .before .before .before .one-more .ensures) (c .before .before .before .before .before .before .before .before .before .before .before .before .before .before .width-of .ensures) (c .before .before .before .before .before .before .before .before .before .before .before .before .before .judge .ensures)) (c .before .before .before .before .before .before .before .before .before .before .before .a .given .1) (c .between .ensures) (puts-both p q .is ∙ sym (ap (λ (bs : List ℕ). put (c .before .before .before .before .before .before .before .before .before .before .before .before .before .before .before .before .before .before .before .args .out .now) (c .before .before .before .before .before .before .before .before .before .before .before .before .before .before .before .before .before .before .before .args .st .position) bs) e))
+    step-taken (oneParam (c .before .before .before .before .before .before .before .before .before .before .before .before .before .before .before .before .before .before .before .args .t) (fixed (c .before .before .before .before .before .before .before .before .before .before .before .before .before .before .before .before .before .before .before .args .upper * 2 ^ 64 + c .before .before .before .before .before .before .before .before .before .before .before .before .before .before .before .before .before .before .before .args .lower))) (c .before .before .before .before .before .before .before .before .before .before .before .before .before .before .before .before .before .before .before .args .st) (c .before .before .before .before .before .before .before .before .before .before .before .before .before .before .before .before .before .before .before .args .out .now) [] (fixed-answer (seen (c .before .before .before .before .before .before .before .before .before .before .before .before .before .before .before .before .before .before .before .args .st) []) (length (c .before .before .before .before .before .before .before .before .before .before .before .before .before .before .before .before .before .before .before .args .out .now)) (c .before .before .before .before .before .before .before .before .before .before .before .before .before .before .before .before .before .before .before .args .t) (c .before .before .before .before .before .before .before .before .before .before .before .before .before .before .before .before .before .before .before .args .upper * 2 ^ 64 + c .before .before .before .before .before .before .before .before .before .before .before .before .before .before .before .before .before .before .before .args .lower) (c .before .before .before .before .before .before .before .before .before .before .before .before .before .before .before .before .before .at-call .ensures) (c .before .before .before .before .before .before .before .before .before .before .before .before .before .before .before .before .fixed-fault .ensures) (c .before .before .before .before .before .before .before .before .before .before .before .before .before .before .before .one-more .ensures) (c .before .before .before .before .before .before .before .before .before .before .before .before .before .before .width-of .ensures) (c .before .before .before .before .before .before .before .before .before .before .before .before .before .judge .ensures)) (c .before .before .before .before .before .before .before .before .before .before .before .a .given .1) (c .between .ensures) (puts-both p q .is ∙ sym (ap (λ (bs : List ℕ). put (c .before .before .before .before .before .before .before .before .before .before .before .before .before .before .before .before .before .before .before .args .out .now) (c .before .before .before .before .before .before .before .before .before .before .before .before .before .before .before .before .before .before .before .args .st .position) bs) e))
 
 pub fixed-param-spec : {M : Type 1} → statement M
 fixed-param-spec =

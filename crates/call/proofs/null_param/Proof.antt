@@ -2,7 +2,7 @@
 use Prim.Native.Nat.{ℕ, _+_, _*_, _-_, _^_, _≤_}
 use mathlib.Core.Path.{_≡_, refl, sym, ap, _∙_}
 use mathlib.Core.Bool.{Bool}
-use mathlib.Core.List.{List, _++_}
+use mathlib.Core.List.{List, [], _++_}
 use native.Mathlib.Omega.{arith}
 use lib.ListN.{length}
 use Rattle.format.specs.declared.Fault.the-variants.{WireType}
@@ -39,14 +39,14 @@ enum-told : tie.Need-enum-told
 enum-told c = search needs
 
 returns : tie.Need-returns
-returns c = step-refused (nullParam) (c .before .before .before .before .before .before .args .st) (c .before .before .before .before .before .before .args .out .now) (c .before .before .before .before .before .before .args .st .columns .types) (null-answer (seen (c .before .before .before .before .before .before .args .st)) (length (c .before .before .before .before .before .before .args .out .now)) (c .before .before .before .before .at-call .ensures) (c .before .before .before .one-more .ensures) (c .before .before .judge .ensures)) (c .enum-told .given .1)
+returns c = step-refused (nullParam) (c .before .before .before .before .before .before .args .st) (c .before .before .before .before .before .before .args .out .now) [] (null-answer (seen (c .before .before .before .before .before .before .args .st) []) (length (c .before .before .before .before .before .before .args .out .now)) (c .before .before .before .before .at-call .ensures) (c .before .before .before .one-more .ensures) (c .before .before .judge .ensures)) (c .enum-told .given .1)
 
 number-at-requires : tie.Need-number-at-requires
-number-at-requires c κs = room (step-accepted (nullParam) (c .before .before .before .before .before .before .before .before .args .st) (c .before .before .before .before .before .before .before .before .args .out .now) (c .before .before .before .before .before .before .before .before .args .st .columns .types) (null-answer (seen (c .before .before .before .before .before .before .before .before .args .st)) (length (c .before .before .before .before .before .before .before .before .args .out .now)) (c .before .before .before .before .before .before .at-call .ensures) (c .before .before .before .before .before .one-more .ensures) (c .before .before .before .before .judge .ensures)) (c .before .before .a .given .1)) (ap length null-bytes ∙ length-numBytes 1 1)
+number-at-requires c κs = room (step-accepted (nullParam) (c .before .before .before .before .before .before .before .before .args .st) (c .before .before .before .before .before .before .before .before .args .out .now) [] (null-answer (seen (c .before .before .before .before .before .before .before .before .args .st) []) (length (c .before .before .before .before .before .before .before .before .args .out .now)) (c .before .before .before .before .before .before .at-call .ensures) (c .before .before .before .before .before .one-more .ensures) (c .before .before .before .before .judge .ensures)) (c .before .before .a .given .1)) (ap length null-bytes ∙ length-numBytes 1 1)
 
 add-between : tie.Need-add-between
 add-between c =
-    let h : c .before .before .before .before .before .before .before .before .before .before .before .before .args .st .count + 1 ≤ mostItems = counts (c .before .before .before .before .before .before .before .before .before .before .before .before .args .st .count) mostItems (step-accepted (nullParam) (c .before .before .before .before .before .before .before .before .before .before .before .before .args .st) (c .before .before .before .before .before .before .before .before .before .before .before .before .args .out .now) (c .before .before .before .before .before .before .before .before .before .before .before .before .args .st .columns .types) (null-answer (seen (c .before .before .before .before .before .before .before .before .before .before .before .before .args .st)) (length (c .before .before .before .before .before .before .before .before .before .before .before .before .args .out .now)) (c .before .before .before .before .before .before .before .before .before .before .at-call .ensures) (c .before .before .before .before .before .before .before .before .before .one-more .ensures) (c .before .before .before .before .before .before .before .before .judge .ensures)) (c .before .before .before .before .before .before .a .given .1)) refl in
+    let h : c .before .before .before .before .before .before .before .before .before .before .before .before .args .st .count + 1 ≤ mostItems = counts (c .before .before .before .before .before .before .before .before .before .before .before .before .args .st .count) mostItems (step-accepted (nullParam) (c .before .before .before .before .before .before .before .before .before .before .before .before .args .st) (c .before .before .before .before .before .before .before .before .before .before .before .before .args .out .now) [] (null-answer (seen (c .before .before .before .before .before .before .before .before .before .before .before .before .args .st) []) (length (c .before .before .before .before .before .before .before .before .before .before .before .before .args .out .now)) (c .before .before .before .before .before .before .before .before .before .before .at-call .ensures) (c .before .before .before .before .before .before .before .before .before .one-more .ensures) (c .before .before .before .before .before .before .before .before .judge .ensures)) (c .before .before .before .before .before .before .a .given .1)) refl in
     omega arith
 
 between-requires : tie.Need-between-requires
@@ -56,7 +56,7 @@ same-length : tie.Need-same-length
 same-length c = search needs
 
 returns-2 : tie.Need-returns-2
-returns-2 c = step-taken (nullParam) (c .before .before .before .before .before .before .before .before .before .before .before .before .before .args .st) (c .before .before .before .before .before .before .before .before .before .before .before .before .before .args .out .now) (c .before .before .before .before .before .before .before .before .before .before .before .before .before .args .st .columns .types) (null-answer (seen (c .before .before .before .before .before .before .before .before .before .before .before .before .before .args .st)) (length (c .before .before .before .before .before .before .before .before .before .before .before .before .before .args .out .now)) (c .before .before .before .before .before .before .before .before .before .before .before .at-call .ensures) (c .before .before .before .before .before .before .before .before .before .before .one-more .ensures) (c .before .before .before .before .before .before .before .before .before .judge .ensures)) (c .before .before .before .before .before .before .before .a .given .1) (c .between .ensures) (c .before .before .before .before .number-at .ensures .1 ∙ sym (ap (λ (bs : List ℕ). put (c .before .before .before .before .before .before .before .before .before .before .before .before .before .args .out .now) (c .before .before .before .before .before .before .before .before .before .before .before .before .before .args .st .position) bs) null-bytes))
+returns-2 c = step-taken (nullParam) (c .before .before .before .before .before .before .before .before .before .before .before .before .before .args .st) (c .before .before .before .before .before .before .before .before .before .before .before .before .before .args .out .now) [] (null-answer (seen (c .before .before .before .before .before .before .before .before .before .before .before .before .before .args .st) []) (length (c .before .before .before .before .before .before .before .before .before .before .before .before .before .args .out .now)) (c .before .before .before .before .before .before .before .before .before .before .before .at-call .ensures) (c .before .before .before .before .before .before .before .before .before .before .one-more .ensures) (c .before .before .before .before .before .before .before .before .before .judge .ensures)) (c .before .before .before .before .before .before .before .a .given .1) (c .between .ensures) (c .before .before .before .before .number-at .ensures .1 ∙ sym (ap (λ (bs : List ℕ). put (c .before .before .before .before .before .before .before .before .before .before .before .before .before .args .out .now) (c .before .before .before .before .before .before .before .before .before .before .before .before .before .args .st .position) bs) null-bytes))
 
 pub null-param-spec : {M : Type 1} → statement M
 null-param-spec =

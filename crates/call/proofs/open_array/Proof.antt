@@ -2,7 +2,7 @@
 use Prim.Native.Nat.{ℕ, _+_, _*_, _-_, _^_, _≤_}
 use mathlib.Core.Path.{_≡_, refl, sym, ap, _∙_}
 use mathlib.Core.Bool.{Bool}
-use mathlib.Core.List.{List, _++_}
+use mathlib.Core.List.{List, [], _++_}
 use native.Mathlib.Omega.{arith}
 use lib.ListN.{length}
 use Rattle.format.specs.declared.Fault.the-variants.{WireType}
@@ -46,24 +46,24 @@ enum-told : tie.Need-enum-told
 enum-told c = search needs
 
 returns : tie.Need-returns
-returns c = step-refused (openArray (c .before .before .before .before .before .before .before .before .args .t)) (c .before .before .before .before .before .before .before .before .args .st) (c .before .before .before .before .before .before .before .before .args .out .now) (c .before .before .before .before .before .before .before .before .args .st .columns .types) (open-answer (seen (c .before .before .before .before .before .before .before .before .args .st)) (length (c .before .before .before .before .before .before .before .before .args .out .now)) (c .before .before .before .before .before .before .before .before .args .t) (c .before .before .before .before .before .before .at-call .ensures) (c .before .before .before .before .test .ensures ∙ ap (λ (b : Bool). test b WireType (c .before .before .before .before .before .before .before .before .args .st .position)) (c .before .before .before .before .before .is-element .ensures)) (c .before .before .before .one-more .ensures) (c .before .before .judge .ensures)) (c .enum-told .given .1)
+returns c = step-refused (openArray (c .before .before .before .before .before .before .before .before .args .t)) (c .before .before .before .before .before .before .before .before .args .st) (c .before .before .before .before .before .before .before .before .args .out .now) [] (open-answer (seen (c .before .before .before .before .before .before .before .before .args .st) []) (length (c .before .before .before .before .before .before .before .before .args .out .now)) (c .before .before .before .before .before .before .before .before .args .t) (c .before .before .before .before .before .before .at-call .ensures) (c .before .before .before .before .test .ensures ∙ ap (λ (b : Bool). test b WireType (c .before .before .before .before .before .before .before .before .args .st .position)) (c .before .before .before .before .before .is-element .ensures)) (c .before .before .before .one-more .ensures) (c .before .before .judge .ensures)) (c .enum-told .given .1)
 
 number-at-requires : tie.Need-number-at-requires
 number-at-requires c κs =
-    let a = step-accepted (openArray (c .before .before .before .before .before .before .before .before .before .before .args .t)) (c .before .before .before .before .before .before .before .before .before .before .args .st) (c .before .before .before .before .before .before .before .before .before .before .args .out .now) (c .before .before .before .before .before .before .before .before .before .before .args .st .columns .types) (open-answer (seen (c .before .before .before .before .before .before .before .before .before .before .args .st)) (length (c .before .before .before .before .before .before .before .before .before .before .args .out .now)) (c .before .before .before .before .before .before .before .before .before .before .args .t) (c .before .before .before .before .before .before .before .before .at-call .ensures) (c .before .before .before .before .before .before .test .ensures ∙ ap (λ (b : Bool). test b WireType (c .before .before .before .before .before .before .before .before .before .before .args .st .position)) (c .before .before .before .before .before .before .before .is-element .ensures)) (c .before .before .before .before .before .one-more .ensures) (c .before .before .before .before .judge .ensures)) (c .before .before .a .given .1) in
+    let a = step-accepted (openArray (c .before .before .before .before .before .before .before .before .before .before .args .t)) (c .before .before .before .before .before .before .before .before .before .before .args .st) (c .before .before .before .before .before .before .before .before .before .before .args .out .now) [] (open-answer (seen (c .before .before .before .before .before .before .before .before .before .before .args .st) []) (length (c .before .before .before .before .before .before .before .before .before .before .args .out .now)) (c .before .before .before .before .before .before .before .before .before .before .args .t) (c .before .before .before .before .before .before .before .before .at-call .ensures) (c .before .before .before .before .before .before .test .ensures ∙ ap (λ (b : Bool). test b WireType (c .before .before .before .before .before .before .before .before .before .before .args .st .position)) (c .before .before .before .before .before .before .before .is-element .ensures)) (c .before .before .before .before .before .one-more .ensures) (c .before .before .before .before .judge .ensures)) (c .before .before .a .given .1) in
     let h : c .before .before .before .before .before .before .before .before .before .before .args .st .position + 4 ≤ (length (c .before .before .before .before .before .before .before .before .before .before .args .out .now)) = room a (open-size (c .before .before .before .before .before .before .before .before .before .before .args .t) (test-fine (isElement (c .before .before .before .before .before .before .before .before .before .before .args .t)) _ (c .before .before .before .before .before .before .before .before .before .before .args .st .position) (a .fine .faultless))) in
     omega arith
 
 number-at-requires-2 : tie.Need-number-at-requires-2
 number-at-requires-2 c κs =
-    let a = step-accepted (openArray (c .before .before .before .before .before .before .before .before .before .before .before .before .before .before .args .t)) (c .before .before .before .before .before .before .before .before .before .before .before .before .before .before .args .st) (c .before .before .before .before .before .before .before .before .before .before .before .before .before .before .args .out .now) (c .before .before .before .before .before .before .before .before .before .before .before .before .before .before .args .st .columns .types) (open-answer (seen (c .before .before .before .before .before .before .before .before .before .before .before .before .before .before .args .st)) (length (c .before .before .before .before .before .before .before .before .before .before .before .before .before .before .args .out .now)) (c .before .before .before .before .before .before .before .before .before .before .before .before .before .before .args .t) (c .before .before .before .before .before .before .before .before .before .before .before .before .at-call .ensures) (c .before .before .before .before .before .before .before .before .before .before .test .ensures ∙ ap (λ (b : Bool). test b WireType (c .before .before .before .before .before .before .before .before .before .before .before .before .before .before .args .st .position)) (c .before .before .before .before .before .before .before .before .before .before .before .is-element .ensures)) (c .before .before .before .before .before .before .before .before .before .one-more .ensures) (c .before .before .before .before .before .before .before .before .judge .ensures)) (c .before .before .before .before .before .before .a .given .1) in
+    let a = step-accepted (openArray (c .before .before .before .before .before .before .before .before .before .before .before .before .before .before .args .t)) (c .before .before .before .before .before .before .before .before .before .before .before .before .before .before .args .st) (c .before .before .before .before .before .before .before .before .before .before .before .before .before .before .args .out .now) [] (open-answer (seen (c .before .before .before .before .before .before .before .before .before .before .before .before .before .before .args .st) []) (length (c .before .before .before .before .before .before .before .before .before .before .before .before .before .before .args .out .now)) (c .before .before .before .before .before .before .before .before .before .before .before .before .before .before .args .t) (c .before .before .before .before .before .before .before .before .before .before .before .before .at-call .ensures) (c .before .before .before .before .before .before .before .before .before .before .test .ensures ∙ ap (λ (b : Bool). test b WireType (c .before .before .before .before .before .before .before .before .before .before .before .before .before .before .args .st .position)) (c .before .before .before .before .before .before .before .before .before .before .before .is-element .ensures)) (c .before .before .before .before .before .before .before .before .before .one-more .ensures) (c .before .before .before .before .before .before .before .before .judge .ensures)) (c .before .before .before .before .before .before .a .given .1) in
     let h : c .before .before .before .before .before .before .before .before .before .before .before .before .before .before .args .st .position + 4 ≤ (length (c .before .before .before .before .before .before .before .before .before .before .before .before .before .before .args .out .now)) = room a (open-size (c .before .before .before .before .before .before .before .before .before .before .before .before .before .before .args .t) (test-fine (isElement (c .before .before .before .before .before .before .before .before .before .before .before .before .before .before .args .t)) _ (c .before .before .before .before .before .before .before .before .before .before .before .before .before .before .args .st .position) (a .fine .faultless))) in
     let p = puts-number (c .before .before .before .before .before .before .before .before .before .before .before .before .before .before .args .out .now) (c .before .before .before .before .before .before .before .before .before .before .before .before .before .before .args .st .position) 1 157 (omega arith) (c .before .before .before .number-at .ensures) in
     omega arith
 
 number-at-requires-3 : tie.Need-number-at-requires-3
 number-at-requires-3 c κs =
-    let a = step-accepted (openArray (c .before .before .before .before .before .before .before .before .before .before .before .before .before .before .before .before .before .before .args .t)) (c .before .before .before .before .before .before .before .before .before .before .before .before .before .before .before .before .before .before .args .st) (c .before .before .before .before .before .before .before .before .before .before .before .before .before .before .before .before .before .before .args .out .now) (c .before .before .before .before .before .before .before .before .before .before .before .before .before .before .before .before .before .before .args .st .columns .types) (open-answer (seen (c .before .before .before .before .before .before .before .before .before .before .before .before .before .before .before .before .before .before .args .st)) (length (c .before .before .before .before .before .before .before .before .before .before .before .before .before .before .before .before .before .before .args .out .now)) (c .before .before .before .before .before .before .before .before .before .before .before .before .before .before .before .before .before .before .args .t) (c .before .before .before .before .before .before .before .before .before .before .before .before .before .before .before .before .at-call .ensures) (c .before .before .before .before .before .before .before .before .before .before .before .before .before .before .test .ensures ∙ ap (λ (b : Bool). test b WireType (c .before .before .before .before .before .before .before .before .before .before .before .before .before .before .before .before .before .before .args .st .position)) (c .before .before .before .before .before .before .before .before .before .before .before .before .before .before .before .is-element .ensures)) (c .before .before .before .before .before .before .before .before .before .before .before .before .before .one-more .ensures) (c .before .before .before .before .before .before .before .before .before .before .before .before .judge .ensures)) (c .before .before .before .before .before .before .before .before .before .before .a .given .1) in
+    let a = step-accepted (openArray (c .before .before .before .before .before .before .before .before .before .before .before .before .before .before .before .before .before .before .args .t)) (c .before .before .before .before .before .before .before .before .before .before .before .before .before .before .before .before .before .before .args .st) (c .before .before .before .before .before .before .before .before .before .before .before .before .before .before .before .before .before .before .args .out .now) [] (open-answer (seen (c .before .before .before .before .before .before .before .before .before .before .before .before .before .before .before .before .before .before .args .st) []) (length (c .before .before .before .before .before .before .before .before .before .before .before .before .before .before .before .before .before .before .args .out .now)) (c .before .before .before .before .before .before .before .before .before .before .before .before .before .before .before .before .before .before .args .t) (c .before .before .before .before .before .before .before .before .before .before .before .before .before .before .before .before .at-call .ensures) (c .before .before .before .before .before .before .before .before .before .before .before .before .before .before .test .ensures ∙ ap (λ (b : Bool). test b WireType (c .before .before .before .before .before .before .before .before .before .before .before .before .before .before .before .before .before .before .args .st .position)) (c .before .before .before .before .before .before .before .before .before .before .before .before .before .before .before .is-element .ensures)) (c .before .before .before .before .before .before .before .before .before .before .before .before .before .one-more .ensures) (c .before .before .before .before .before .before .before .before .before .before .before .before .judge .ensures)) (c .before .before .before .before .before .before .before .before .before .before .a .given .1) in
     let h : c .before .before .before .before .before .before .before .before .before .before .before .before .before .before .before .before .before .before .args .st .position + 4 ≤ (length (c .before .before .before .before .before .before .before .before .before .before .before .before .before .before .before .before .before .before .args .out .now)) = room a (open-size (c .before .before .before .before .before .before .before .before .before .before .before .before .before .before .before .before .before .before .args .t) (test-fine (isElement (c .before .before .before .before .before .before .before .before .before .before .before .before .before .before .before .before .before .before .args .t)) _ (c .before .before .before .before .before .before .before .before .before .before .before .before .before .before .before .before .before .before .args .st .position) (a .fine .faultless))) in
     let p = puts-number (c .before .before .before .before .before .before .before .before .before .before .before .before .before .before .before .before .before .before .args .out .now) (c .before .before .before .before .before .before .before .before .before .before .before .before .before .before .before .before .before .before .args .st .position) 1 157 (omega arith) (c .before .before .before .before .before .before .before .number-at .ensures) in
     let q = puts-number (c .before .before .before .before .before .before .before .number-at .last .0) (c .before .before .before .before .before .before .before .number-at .result) 1 (c .before .before .before .before .before .before .before .before .before .before .before .before .before .before .before .before .before .before .args .t) (omega arith) (c .before .before .before .number-at2 .ensures) in
@@ -71,12 +71,12 @@ number-at-requires-3 c κs =
 
 add-in-array : tie.Need-add-in-array
 add-in-array c =
-    let h : c .before .before .before .before .before .before .before .before .before .before .before .before .before .before .before .before .before .before .before .before .before .before .args .st .count + 1 ≤ mostItems = counts (c .before .before .before .before .before .before .before .before .before .before .before .before .before .before .before .before .before .before .before .before .before .before .args .st .count) mostItems (step-accepted (openArray (c .before .before .before .before .before .before .before .before .before .before .before .before .before .before .before .before .before .before .before .before .before .before .args .t)) (c .before .before .before .before .before .before .before .before .before .before .before .before .before .before .before .before .before .before .before .before .before .before .args .st) (c .before .before .before .before .before .before .before .before .before .before .before .before .before .before .before .before .before .before .before .before .before .before .args .out .now) (c .before .before .before .before .before .before .before .before .before .before .before .before .before .before .before .before .before .before .before .before .before .before .args .st .columns .types) (open-answer (seen (c .before .before .before .before .before .before .before .before .before .before .before .before .before .before .before .before .before .before .before .before .before .before .args .st)) (length (c .before .before .before .before .before .before .before .before .before .before .before .before .before .before .before .before .before .before .before .before .before .before .args .out .now)) (c .before .before .before .before .before .before .before .before .before .before .before .before .before .before .before .before .before .before .before .before .before .before .args .t) (c .before .before .before .before .before .before .before .before .before .before .before .before .before .before .before .before .before .before .before .before .at-call .ensures) (c .before .before .before .before .before .before .before .before .before .before .before .before .before .before .before .before .before .before .test .ensures ∙ ap (λ (b : Bool). test b WireType (c .before .before .before .before .before .before .before .before .before .before .before .before .before .before .before .before .before .before .before .before .before .before .args .st .position)) (c .before .before .before .before .before .before .before .before .before .before .before .before .before .before .before .before .before .before .before .is-element .ensures)) (c .before .before .before .before .before .before .before .before .before .before .before .before .before .before .before .before .before .one-more .ensures) (c .before .before .before .before .before .before .before .before .before .before .before .before .before .before .before .before .judge .ensures)) (c .before .before .before .before .before .before .before .before .before .before .before .before .before .before .a .given .1)) refl in
+    let h : c .before .before .before .before .before .before .before .before .before .before .before .before .before .before .before .before .before .before .before .before .before .before .args .st .count + 1 ≤ mostItems = counts (c .before .before .before .before .before .before .before .before .before .before .before .before .before .before .before .before .before .before .before .before .before .before .args .st .count) mostItems (step-accepted (openArray (c .before .before .before .before .before .before .before .before .before .before .before .before .before .before .before .before .before .before .before .before .before .before .args .t)) (c .before .before .before .before .before .before .before .before .before .before .before .before .before .before .before .before .before .before .before .before .before .before .args .st) (c .before .before .before .before .before .before .before .before .before .before .before .before .before .before .before .before .before .before .before .before .before .before .args .out .now) [] (open-answer (seen (c .before .before .before .before .before .before .before .before .before .before .before .before .before .before .before .before .before .before .before .before .before .before .args .st) []) (length (c .before .before .before .before .before .before .before .before .before .before .before .before .before .before .before .before .before .before .before .before .before .before .args .out .now)) (c .before .before .before .before .before .before .before .before .before .before .before .before .before .before .before .before .before .before .before .before .before .before .args .t) (c .before .before .before .before .before .before .before .before .before .before .before .before .before .before .before .before .before .before .before .before .at-call .ensures) (c .before .before .before .before .before .before .before .before .before .before .before .before .before .before .before .before .before .before .test .ensures ∙ ap (λ (b : Bool). test b WireType (c .before .before .before .before .before .before .before .before .before .before .before .before .before .before .before .before .before .before .before .before .before .before .args .st .position)) (c .before .before .before .before .before .before .before .before .before .before .before .before .before .before .before .before .before .before .before .is-element .ensures)) (c .before .before .before .before .before .before .before .before .before .before .before .before .before .before .before .before .before .one-more .ensures) (c .before .before .before .before .before .before .before .before .before .before .before .before .before .before .before .before .judge .ensures)) (c .before .before .before .before .before .before .before .before .before .before .before .before .before .before .a .given .1)) refl in
     omega arith
 
 sub-in-array : tie.Need-sub-in-array
 sub-in-array c =
-    let a = step-accepted (openArray (c .before .before .before .before .before .before .before .before .before .before .before .before .before .before .before .before .before .before .before .before .before .before .args .t)) (c .before .before .before .before .before .before .before .before .before .before .before .before .before .before .before .before .before .before .before .before .before .before .args .st) (c .before .before .before .before .before .before .before .before .before .before .before .before .before .before .before .before .before .before .before .before .before .before .args .out .now) (c .before .before .before .before .before .before .before .before .before .before .before .before .before .before .before .before .before .before .before .before .before .before .args .st .columns .types) (open-answer (seen (c .before .before .before .before .before .before .before .before .before .before .before .before .before .before .before .before .before .before .before .before .before .before .args .st)) (length (c .before .before .before .before .before .before .before .before .before .before .before .before .before .before .before .before .before .before .before .before .before .before .args .out .now)) (c .before .before .before .before .before .before .before .before .before .before .before .before .before .before .before .before .before .before .before .before .before .before .args .t) (c .before .before .before .before .before .before .before .before .before .before .before .before .before .before .before .before .before .before .before .before .at-call .ensures) (c .before .before .before .before .before .before .before .before .before .before .before .before .before .before .before .before .before .before .test .ensures ∙ ap (λ (b : Bool). test b WireType (c .before .before .before .before .before .before .before .before .before .before .before .before .before .before .before .before .before .before .before .before .before .before .args .st .position)) (c .before .before .before .before .before .before .before .before .before .before .before .before .before .before .before .before .before .before .before .is-element .ensures)) (c .before .before .before .before .before .before .before .before .before .before .before .before .before .before .before .before .before .one-more .ensures) (c .before .before .before .before .before .before .before .before .before .before .before .before .before .before .before .before .judge .ensures)) (c .before .before .before .before .before .before .before .before .before .before .before .before .before .before .a .given .1) in
+    let a = step-accepted (openArray (c .before .before .before .before .before .before .before .before .before .before .before .before .before .before .before .before .before .before .before .before .before .before .args .t)) (c .before .before .before .before .before .before .before .before .before .before .before .before .before .before .before .before .before .before .before .before .before .before .args .st) (c .before .before .before .before .before .before .before .before .before .before .before .before .before .before .before .before .before .before .before .before .before .before .args .out .now) [] (open-answer (seen (c .before .before .before .before .before .before .before .before .before .before .before .before .before .before .before .before .before .before .before .before .before .before .args .st) []) (length (c .before .before .before .before .before .before .before .before .before .before .before .before .before .before .before .before .before .before .before .before .before .before .args .out .now)) (c .before .before .before .before .before .before .before .before .before .before .before .before .before .before .before .before .before .before .before .before .before .before .args .t) (c .before .before .before .before .before .before .before .before .before .before .before .before .before .before .before .before .before .before .before .before .at-call .ensures) (c .before .before .before .before .before .before .before .before .before .before .before .before .before .before .before .before .before .before .test .ensures ∙ ap (λ (b : Bool). test b WireType (c .before .before .before .before .before .before .before .before .before .before .before .before .before .before .before .before .before .before .before .before .before .before .args .st .position)) (c .before .before .before .before .before .before .before .before .before .before .before .before .before .before .before .before .before .before .before .is-element .ensures)) (c .before .before .before .before .before .before .before .before .before .before .before .before .before .before .before .before .before .one-more .ensures) (c .before .before .before .before .before .before .before .before .before .before .before .before .before .before .before .before .judge .ensures)) (c .before .before .before .before .before .before .before .before .before .before .before .before .before .before .a .given .1) in
     let h : c .before .before .before .before .before .before .before .before .before .before .before .before .before .before .before .before .before .before .before .before .before .before .args .st .position + 4 ≤ (length (c .before .before .before .before .before .before .before .before .before .before .before .before .before .before .before .before .before .before .before .before .before .before .args .out .now)) = room a (open-size (c .before .before .before .before .before .before .before .before .before .before .before .before .before .before .before .before .before .before .before .before .before .before .args .t) (test-fine (isElement (c .before .before .before .before .before .before .before .before .before .before .before .before .before .before .before .before .before .before .before .before .before .before .args .t)) _ (c .before .before .before .before .before .before .before .before .before .before .before .before .before .before .before .before .before .before .before .before .before .before .args .st .position) (a .fine .faultless))) in
     let e : c .before .before .before .before .before .before .before .before .before .before .before .before .before .before .a .given .0 .0 ≡ c .before .before .before .before .before .before .before .before .before .before .before .before .before .before .before .before .before .before .before .before .before .before .args .st .position + 4 = a .reached ∙ ap (λ (k : ℕ). c .before .before .before .before .before .before .before .before .before .before .before .before .before .before .before .before .before .before .before .before .before .before .args .st .position + k) (open-size (c .before .before .before .before .before .before .before .before .before .before .before .before .before .before .before .before .before .before .before .before .before .before .args .t) (test-fine (isElement (c .before .before .before .before .before .before .before .before .before .before .before .before .before .before .before .before .before .before .before .before .before .before .args .t)) _ (c .before .before .before .before .before .before .before .before .before .before .before .before .before .before .before .before .before .before .before .before .before .before .args .st .position) (a .fine .faultless))) in
     omega arith
@@ -89,12 +89,12 @@ same-length c = search needs
 
 returns-2 : tie.Need-returns-2
 returns-2 c =
-    let a = step-accepted (openArray (c .before .before .before .before .before .before .before .before .before .before .before .before .before .before .before .before .before .before .before .before .before .before .before .args .t)) (c .before .before .before .before .before .before .before .before .before .before .before .before .before .before .before .before .before .before .before .before .before .before .before .args .st) (c .before .before .before .before .before .before .before .before .before .before .before .before .before .before .before .before .before .before .before .before .before .before .before .args .out .now) (c .before .before .before .before .before .before .before .before .before .before .before .before .before .before .before .before .before .before .before .before .before .before .before .args .st .columns .types) (open-answer (seen (c .before .before .before .before .before .before .before .before .before .before .before .before .before .before .before .before .before .before .before .before .before .before .before .args .st)) (length (c .before .before .before .before .before .before .before .before .before .before .before .before .before .before .before .before .before .before .before .before .before .before .before .args .out .now)) (c .before .before .before .before .before .before .before .before .before .before .before .before .before .before .before .before .before .before .before .before .before .before .before .args .t) (c .before .before .before .before .before .before .before .before .before .before .before .before .before .before .before .before .before .before .before .before .before .at-call .ensures) (c .before .before .before .before .before .before .before .before .before .before .before .before .before .before .before .before .before .before .before .test .ensures ∙ ap (λ (b : Bool). test b WireType (c .before .before .before .before .before .before .before .before .before .before .before .before .before .before .before .before .before .before .before .before .before .before .before .args .st .position)) (c .before .before .before .before .before .before .before .before .before .before .before .before .before .before .before .before .before .before .before .before .is-element .ensures)) (c .before .before .before .before .before .before .before .before .before .before .before .before .before .before .before .before .before .before .one-more .ensures) (c .before .before .before .before .before .before .before .before .before .before .before .before .before .before .before .before .before .judge .ensures)) (c .before .before .before .before .before .before .before .before .before .before .before .before .before .before .before .a .given .1) in
+    let a = step-accepted (openArray (c .before .before .before .before .before .before .before .before .before .before .before .before .before .before .before .before .before .before .before .before .before .before .before .args .t)) (c .before .before .before .before .before .before .before .before .before .before .before .before .before .before .before .before .before .before .before .before .before .before .before .args .st) (c .before .before .before .before .before .before .before .before .before .before .before .before .before .before .before .before .before .before .before .before .before .before .before .args .out .now) [] (open-answer (seen (c .before .before .before .before .before .before .before .before .before .before .before .before .before .before .before .before .before .before .before .before .before .before .before .args .st) []) (length (c .before .before .before .before .before .before .before .before .before .before .before .before .before .before .before .before .before .before .before .before .before .before .before .args .out .now)) (c .before .before .before .before .before .before .before .before .before .before .before .before .before .before .before .before .before .before .before .before .before .before .before .args .t) (c .before .before .before .before .before .before .before .before .before .before .before .before .before .before .before .before .before .before .before .before .before .at-call .ensures) (c .before .before .before .before .before .before .before .before .before .before .before .before .before .before .before .before .before .before .before .test .ensures ∙ ap (λ (b : Bool). test b WireType (c .before .before .before .before .before .before .before .before .before .before .before .before .before .before .before .before .before .before .before .before .before .before .before .args .st .position)) (c .before .before .before .before .before .before .before .before .before .before .before .before .before .before .before .before .before .before .before .before .is-element .ensures)) (c .before .before .before .before .before .before .before .before .before .before .before .before .before .before .before .before .before .before .one-more .ensures) (c .before .before .before .before .before .before .before .before .before .before .before .before .before .before .before .before .before .judge .ensures)) (c .before .before .before .before .before .before .before .before .before .before .before .before .before .before .before .a .given .1) in
     let h : c .before .before .before .before .before .before .before .before .before .before .before .before .before .before .before .before .before .before .before .before .before .before .before .args .st .position + 4 ≤ (length (c .before .before .before .before .before .before .before .before .before .before .before .before .before .before .before .before .before .before .before .before .before .before .before .args .out .now)) = room a (open-size (c .before .before .before .before .before .before .before .before .before .before .before .before .before .before .before .before .before .before .before .before .before .before .before .args .t) (test-fine (isElement (c .before .before .before .before .before .before .before .before .before .before .before .before .before .before .before .before .before .before .before .before .before .before .before .args .t)) _ (c .before .before .before .before .before .before .before .before .before .before .before .before .before .before .before .before .before .before .before .before .before .before .before .args .st .position) (a .fine .faultless))) in
     let p = puts-number (c .before .before .before .before .before .before .before .before .before .before .before .before .before .before .before .before .before .before .before .before .before .before .before .args .out .now) (c .before .before .before .before .before .before .before .before .before .before .before .before .before .before .before .before .before .before .before .before .before .before .before .args .st .position) 1 157 (omega arith) (c .before .before .before .before .before .before .before .before .before .before .before .before .number-at .ensures) in
     let q = puts-number (c .before .before .before .before .before .before .before .before .before .before .before .before .number-at .last .0) (c .before .before .before .before .before .before .before .before .before .before .before .before .number-at .result) 1 (c .before .before .before .before .before .before .before .before .before .before .before .before .before .before .before .before .before .before .before .before .before .before .before .args .t) (omega arith) (c .before .before .before .before .before .before .before .before .number-at2 .ensures) in
     let r = puts-number (c .before .before .before .before .before .before .before .before .number-at2 .last .0) (c .before .before .before .before .before .before .before .before .number-at2 .result) 2 0 (omega arith) (c .before .before .before .before .number-at3 .ensures) in
-    step-taken (openArray (c .before .before .before .before .before .before .before .before .before .before .before .before .before .before .before .before .before .before .before .before .before .before .before .args .t)) (c .before .before .before .before .before .before .before .before .before .before .before .before .before .before .before .before .before .before .before .before .before .before .before .args .st) (c .before .before .before .before .before .before .before .before .before .before .before .before .before .before .before .before .before .before .before .before .before .before .before .args .out .now) (c .before .before .before .before .before .before .before .before .before .before .before .before .before .before .before .before .before .before .before .before .before .before .before .args .st .columns .types) (open-answer (seen (c .before .before .before .before .before .before .before .before .before .before .before .before .before .before .before .before .before .before .before .before .before .before .before .args .st)) (length (c .before .before .before .before .before .before .before .before .before .before .before .before .before .before .before .before .before .before .before .before .before .before .before .args .out .now)) (c .before .before .before .before .before .before .before .before .before .before .before .before .before .before .before .before .before .before .before .before .before .before .before .args .t) (c .before .before .before .before .before .before .before .before .before .before .before .before .before .before .before .before .before .before .before .before .before .at-call .ensures) (c .before .before .before .before .before .before .before .before .before .before .before .before .before .before .before .before .before .before .before .test .ensures ∙ ap (λ (b : Bool). test b WireType (c .before .before .before .before .before .before .before .before .before .before .before .before .before .before .before .before .before .before .before .before .before .before .before .args .st .position)) (c .before .before .before .before .before .before .before .before .before .before .before .before .before .before .before .before .before .before .before .before .is-element .ensures)) (c .before .before .before .before .before .before .before .before .before .before .before .before .before .before .before .before .before .before .one-more .ensures) (c .before .before .before .before .before .before .before .before .before .before .before .before .before .before .before .before .before .judge .ensures)) (c .before .before .before .before .before .before .before .before .before .before .before .before .before .before .before .a .given .1) (c .in-array .ensures) (puts-both p (puts-both q r) .is ∙ sym (ap (λ (bs : List ℕ). put (c .before .before .before .before .before .before .before .before .before .before .before .before .before .before .before .before .before .before .before .before .before .before .before .args .out .now) (c .before .before .before .before .before .before .before .before .before .before .before .before .before .before .before .before .before .before .before .before .before .before .before .args .st .position) bs) (open-bytes (c .before .before .before .before .before .before .before .before .before .before .before .before .before .before .before .before .before .before .before .before .before .before .before .args .t) (not-tiny (c .before .before .before .before .before .before .before .before .before .before .before .before .before .before .before .before .before .before .before .before .before .before .before .args .t) (test-fine (isElement (c .before .before .before .before .before .before .before .before .before .before .before .before .before .before .before .before .before .before .before .before .before .before .before .args .t)) _ (c .before .before .before .before .before .before .before .before .before .before .before .before .before .before .before .before .before .before .before .before .before .before .before .args .st .position) (a .fine .faultless))))))
+    step-taken (openArray (c .before .before .before .before .before .before .before .before .before .before .before .before .before .before .before .before .before .before .before .before .before .before .before .args .t)) (c .before .before .before .before .before .before .before .before .before .before .before .before .before .before .before .before .before .before .before .before .before .before .before .args .st) (c .before .before .before .before .before .before .before .before .before .before .before .before .before .before .before .before .before .before .before .before .before .before .before .args .out .now) [] (open-answer (seen (c .before .before .before .before .before .before .before .before .before .before .before .before .before .before .before .before .before .before .before .before .before .before .before .args .st) []) (length (c .before .before .before .before .before .before .before .before .before .before .before .before .before .before .before .before .before .before .before .before .before .before .before .args .out .now)) (c .before .before .before .before .before .before .before .before .before .before .before .before .before .before .before .before .before .before .before .before .before .before .before .args .t) (c .before .before .before .before .before .before .before .before .before .before .before .before .before .before .before .before .before .before .before .before .before .at-call .ensures) (c .before .before .before .before .before .before .before .before .before .before .before .before .before .before .before .before .before .before .before .test .ensures ∙ ap (λ (b : Bool). test b WireType (c .before .before .before .before .before .before .before .before .before .before .before .before .before .before .before .before .before .before .before .before .before .before .before .args .st .position)) (c .before .before .before .before .before .before .before .before .before .before .before .before .before .before .before .before .before .before .before .before .is-element .ensures)) (c .before .before .before .before .before .before .before .before .before .before .before .before .before .before .before .before .before .before .one-more .ensures) (c .before .before .before .before .before .before .before .before .before .before .before .before .before .before .before .before .before .judge .ensures)) (c .before .before .before .before .before .before .before .before .before .before .before .before .before .before .before .a .given .1) (c .in-array .ensures) (puts-both p (puts-both q r) .is ∙ sym (ap (λ (bs : List ℕ). put (c .before .before .before .before .before .before .before .before .before .before .before .before .before .before .before .before .before .before .before .before .before .before .before .args .out .now) (c .before .before .before .before .before .before .before .before .before .before .before .before .before .before .before .before .before .before .before .before .before .before .before .args .st .position) bs) (open-bytes (c .before .before .before .before .before .before .before .before .before .before .before .before .before .before .before .before .before .before .before .before .before .before .before .args .t) (not-tiny (c .before .before .before .before .before .before .before .before .before .before .before .before .before .before .before .before .before .before .before .before .before .before .before .args .t) (test-fine (isElement (c .before .before .before .before .before .before .before .before .before .before .before .before .before .before .before .before .before .before .before .before .before .before .before .args .t)) _ (c .before .before .before .before .before .before .before .before .before .before .before .before .before .before .before .before .before .before .before .before .before .before .before .args .st .position) (a .fine .faultless))))))
 
 pub open-array-spec : {M : Type 1} → statement M
 open-array-spec =

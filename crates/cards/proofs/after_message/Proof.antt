@@ -1,13 +1,19 @@
 -- `cards::after_message` meets its contract: the message's own refusal, or the one given. Assumes nothing.
-use mathlib.Core.Path.{refl}
+use Prim.Native.Nat.{ℕ}
+use mathlib.Core.Path.{refl, _∙_, ap}
 use Rattle.format.specs.Result.{no}
+use Rattle.format.specs.Message.{readMessage, responseLayout}
+use Rattle.message.specs.Verdict.{verdictOf}
 use Rattle.query.proofs.Opened.{verdict-fine, verdict-no, refused, admitted}
 use borrow.Author.Needs.{needs}
 use Rattle.cards.proofs.after_message.Statement.{statement}
 use Rattle.cards.proofs.after_message.Tie as tie
 
-accept-requires : tie.Need-accept-requires
-accept-requires c κs = search needs
+response-layout-requires : tie.Need-response-layout-requires
+response-layout-requires c κs = search needs
+
+accept-layout-requires : tie.Need-accept-layout-requires
+accept-layout-requires c κs = search needs
 
 enum-known-verdict : tie.Need-enum-known-verdict
 enum-known-verdict c = search needs
@@ -17,15 +23,15 @@ enum-told c = search needs
 
 returns : tie.Need-returns
 returns c =
-    let a = c .before .before .before .before .before .args in
-    refused 4 (a .m .now) (λ p. no (a .r .fault) (a .r .place)) (verdict-no _ (c .before .before .before .accept .ensures) (c .before .verdict .given .1))
+    let a = c .before .before .before .before .before .before .args in
+    refused (responseLayout (a .timed)) (a .m .now) (λ p. no (a .r .fault) (a .r .place)) (verdict-no (readMessage (responseLayout (a .timed)) (a .m .now)) (c .before .before .before .accept-layout .ensures ∙ ap (λ (n : ℕ). verdictOf (readMessage n (a .m .now))) (c .before .before .before .before .response-layout .ensures)) (c .before .verdict .given .1))
 
 returns-2 : tie.Need-returns-2
 returns-2 c =
-    let a = c .before .before .before .before .args in
-    let w = verdict-fine _ (c .before .before .accept .ensures) (c .enum-told .given .1) in
-    admitted 4 (a .m .now) (λ p. no (a .r .fault) (a .r .place)) (w .1) refl
+    let a = c .before .before .before .before .before .args in
+    let w = verdict-fine (readMessage (responseLayout (a .timed)) (a .m .now)) (c .before .before .accept-layout .ensures ∙ ap (λ (n : ℕ). verdictOf (readMessage n (a .m .now))) (c .before .before .before .response-layout .ensures)) (c .enum-told .given .1) in
+    admitted (responseLayout (a .timed)) (a .m .now) (λ p. no (a .r .fault) (a .r .place)) (w .1) refl
 
 pub after-message-spec : {M : Type 1} → statement M
 after-message-spec =
-    tie.close (tie.spec accept-requires enum-known-verdict enum-told returns returns-2)
+    tie.close (tie.spec response-layout-requires accept-layout-requires enum-known-verdict enum-told returns returns-2)

@@ -1,5 +1,6 @@
 -- `exports::chaloenpik_accept` meets its contract: the answer of `accept`, packed. Assumes nothing.
 use mathlib.Core.Path.{_∙_}
+use Rattle.format.specs.Message.{kindLayout}
 use borrow.Author.Needs.{needs}
 use Rattle.exports.proofs.Packs.{packs-fine, packs-refusal}
 use Rattle.exports.proofs.chaloenpik_accept.Statement.{statement}
@@ -17,7 +18,7 @@ enum-told c = search needs
 returns : tie.Need-returns
 returns c =
     let a = c .before .before .before .before .args in
-    packs-fine (a .kind) (a .m .now) (c .before .before .accept .ensures) (c .enum-told .given .1)
+    packs-fine (kindLayout (a .kind)) (a .m .now) (c .before .before .accept .ensures) (c .enum-told .given .1)
 
 refused-requires : tie.Need-refused-requires
 refused-requires c κs = search needs
@@ -25,7 +26,7 @@ refused-requires c κs = search needs
 returns-2 : tie.Need-returns-2
 returns-2 c =
     let a = c .before .before .before .before .before .before .args in
-    c .refused .ensures ∙ packs-refusal (a .kind) (a .m .now) (c .before .before .before .before .accept .ensures) (c .before .before .verdict .given .1)
+    c .refused .ensures ∙ packs-refusal (kindLayout (a .kind)) (a .m .now) (c .before .before .before .before .accept .ensures) (c .before .before .verdict .given .1)
 
 pub chaloenpik-accept-spec : {M : Type 1} → statement M
 chaloenpik-accept-spec =

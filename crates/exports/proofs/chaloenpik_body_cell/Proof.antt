@@ -23,7 +23,7 @@ returns : tie.Need-returns
 returns c =
     let before-keep = c .before .before .before .before in
     let a = before-keep .before .before .before .before .before .before .args in
-    wrote (cell (a .t) (body (optional (a .null) (a .s .now)))) (a .state .now) (a .types .now) (a .out .now) _ _ _ (before-keep .before .before .load .ensures) (before-keep .body-cell .ensures) (c .keep .ensures)
+    wrote (cell (a .t) (body (optional (a .null) (a .s .now)))) (a .state .now) (a .types .now) (a .out .now) _ _ (before-keep .before .before .load .ensures) (before-keep .body-cell .ensures) (c .keep .ensures)
 
 pub chaloenpik-body-cell-spec : {M : Type 1} → statement M
 chaloenpik-body-cell-spec =

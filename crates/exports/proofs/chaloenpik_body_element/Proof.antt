@@ -3,6 +3,7 @@ use Rattle.format.specs.Value.{body}
 use Rattle.put.specs.Put.{optional}
 use Rattle.write.specs.Steps.{element}
 use Rattle.numbers.proofs.Kept.{wrote}
+use mathlib.Core.List.{[]}
 use borrow.Author.Needs.{needs}
 use Rattle.exports.proofs.chaloenpik_body_element.Statement.{statement}
 use Rattle.exports.proofs.chaloenpik_body_element.Tie as tie
@@ -23,7 +24,7 @@ returns : tie.Need-returns
 returns c =
     let before-keep = c .before .before .before .before in
     let a = before-keep .before .before .before .before .before .before .args in
-    wrote (element (a .t) (body (optional (a .null) (a .s .now)))) (a .state .now) (a .types .now) (a .out .now) _ _ _ (before-keep .before .before .load .ensures) (before-keep .body-element .ensures) (c .keep .ensures)
+    wrote (element (a .t) (body (optional (a .null) (a .s .now)))) (a .state .now) [] (a .out .now) _ _ (before-keep .before .before .load .ensures) (before-keep .body-element .ensures) (c .keep .ensures)
 
 pub chaloenpik-body-element-spec : {M : Type 1} → statement M
 chaloenpik-body-element-spec =

@@ -21,7 +21,7 @@ returns : tie.Need-returns
 returns c =
     let before-keep = c .before .before .before .before in
     let a = before-keep .before .before .before .before .before .args in
-    wrote closeRow (a .state .now) (a .types .now) (a .out .now) _ _ _ (before-keep .before .before .load .ensures) (before-keep .close-row .ensures) (c .keep .ensures)
+    wrote closeRow (a .state .now) (a .types .now) (a .out .now) _ _ (before-keep .before .before .load .ensures) (before-keep .close-row .ensures) (c .keep .ensures)
 
 pub chaloenpik-close-row-spec : {M : Type 1} → statement M
 chaloenpik-close-row-spec =

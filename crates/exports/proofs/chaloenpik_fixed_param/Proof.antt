@@ -3,6 +3,7 @@ use Prim.Native.Nat.{_+_, _*_, _^_}
 use Rattle.format.specs.Value.{fixed}
 use Rattle.write.specs.Steps.{oneParam}
 use Rattle.numbers.proofs.Kept.{wrote}
+use mathlib.Core.List.{[]}
 use borrow.Author.Needs.{needs}
 use Rattle.exports.proofs.chaloenpik_fixed_param.Statement.{statement}
 use Rattle.exports.proofs.chaloenpik_fixed_param.Tie as tie
@@ -23,7 +24,7 @@ returns : tie.Need-returns
 returns c =
     let before-keep = c .before .before .before .before in
     let a = before-keep .before .before .before .before .before .args in
-    wrote (oneParam (a .t) (fixed ((a .upper) * 2 ^ 64 + (a .lower)))) (a .state .now) (a .types .now) (a .out .now) _ _ _ (before-keep .before .before .load .ensures) (before-keep .fixed-param .ensures) (c .keep .ensures)
+    wrote (oneParam (a .t) (fixed ((a .upper) * 2 ^ 64 + (a .lower)))) (a .state .now) [] (a .out .now) _ _ (before-keep .before .before .load .ensures) (before-keep .fixed-param .ensures) (c .keep .ensures)
 
 pub chaloenpik-fixed-param-spec : {M : Type 1} → statement M
 chaloenpik-fixed-param-spec =

@@ -11,6 +11,9 @@ use borrow.Author.Needs.{needs}
 use Rattle.fields.proofs.count.Statement.{statement}
 use Rattle.fields.proofs.count.Tie as tie
 
+kind-layout-requires : tie.Need-kind-layout-requires
+kind-layout-requires c κs = search needs
+
 slice-aggregate-over : tie.Need-slice-aggregate-over
 slice-aggregate-over c = search needs
 
@@ -28,23 +31,26 @@ toured-refusal-requires c κs = search needs
 
 returns : tie.Need-returns
 returns c =
-    let a = c .before .before .before .before .before .before .before .args in
+    let a = c .before .before .before .before .before .before .before .before .args in
+    let layout = c .before .before .before .before .before .before .kind-layout in
     let s = begun 0 0 (replicate 6 0) in
-    rw (refuses (fieldsOf (a .kind) (a .m .now)) (length (a .m .now)) s (c .before .before .before .before .over .ensures .0) (c .before .enum-told .given .1) (c .toured-refusal .ensures))
+    rw (← layout .ensures, refuses (fieldsOf (layout .result) (a .m .now)) (length (a .m .now)) s (c .before .before .before .before .over .ensures .0) (c .before .enum-told .given .1) (c .toured-refusal .ensures))
 
 returns-2 : tie.Need-returns-2
 returns-2 c =
-    let a = c .before .before .before .before .before .before .before .args in
+    let a = c .before .before .before .before .before .before .before .before .args in
+    let layout = c .before .before .before .before .before .before .kind-layout in
     let s = begun 0 0 (replicate 6 0) in
     let small : length (a .m .now) < 2 ^ 64 = omega arith in
-    let f = seen (a .kind) (a .m .now) (bytes-all (a .m .now) (c .before .before .before .before .before .before .shared-slice-known .given)) small (length (a .m .now)) s (c .before .before .before .before .over .ensures) (c .before .toured .given .1) in
+    let f = seen (layout .result) (a .m .now) (bytes-all (a .m .now) (c .before .before .before .before .before .before .before .shared-slice-known .given)) small (length (a .m .now)) s (c .before .before .before .before .over .ensures) (c .before .toured .given .1) in
     let w = seen-window 0 (replicate 6 0) f in
-    rw (f .are) (ap ok (w .seen))
+    rw (← layout .ensures, f .are) (ap ok (w .seen))
 
 pub count-spec : {M : Type 1} → statement M
 count-spec =
     tie.close
     (tie.spec
+    kind-layout-requires
     slice-aggregate-over
     over-requires
     enum-known-toured

@@ -12,6 +12,9 @@ use borrow.Author.Needs.{needs}
 use Rattle.fields.proofs.owner.Statement.{statement}
 use Rattle.fields.proofs.owner.Tie as tie
 
+kind-layout-requires : tie.Need-kind-layout-requires
+kind-layout-requires c κs = search needs
+
 slice-aggregate-over : tie.Need-slice-aggregate-over
 slice-aggregate-over c = search needs
 
@@ -29,40 +32,44 @@ toured-refusal-requires c κs = search needs
 
 returns : tie.Need-returns
 returns c =
-    let a = c .before .before .before .before .before .before .before .args in
+    let a = c .before .before .before .before .before .before .before .before .args in
+    let layout = c .before .before .before .before .before .before .kind-layout in
     let s = begun 0 (a .offset) (replicate 6 0) in
-    rw (refuses (fieldsOf (a .kind) (a .m .now)) (length (a .m .now)) s (c .before .before .before .before .over .ensures .0) (c .before .enum-told .given .1) (c .toured-refusal .ensures))
+    rw (← layout .ensures, refuses (fieldsOf (layout .result) (a .m .now)) (length (a .m .now)) s (c .before .before .before .before .over .ensures .0) (c .before .enum-told .given .1) (c .toured-refusal .ensures))
 
 past-end-requires : tie.Need-past-end-requires
 past-end-requires c κs = search needs
 
 returns-2 : tie.Need-returns-2
 returns-2 c =
-    let a = c .before .before .before .before .before .before .before .before .before .before .args in
+    let a = c .before .before .before .before .before .before .before .before .before .before .before .args in
+    let layout = c .before .before .before .before .before .before .before .before .before .kind-layout in
     let s = begun 0 (a .offset) (replicate 6 0) in
     let small : length (a .m .now) < 2 ^ 64 = omega arith in
-    let f = seen (a .kind) (a .m .now) (bytes-all (a .m .now) (c .before .before .before .before .before .before .before .before .before .shared-slice-known .given)) small (length (a .m .now)) s (c .before .before .before .before .before .before .before .over .ensures) (c .before .before .before .before .toured .given .1) in
+    let f = seen (layout .result) (a .m .now) (bytes-all (a .m .now) (c .before .before .before .before .before .before .before .before .before .before .shared-slice-known .given)) small (length (a .m .now)) s (c .before .before .before .before .before .before .before .over .ensures) (c .before .before .before .before .toured .given .1) in
     let t = c .before .before .before .before .toured .given .0 .0 in
     let w = seen-owner (a .offset) (replicate 6 0) refl f in
-    rw (f .are) (past-told (c .past-end .ensures) ∙ sym (owner-missed (f .es) (a .offset) (length (f .es)) (replicate 6 0) t w (c .before .if1 .taken)))
+    rw (← layout .ensures, f .are) (past-told (c .past-end .ensures) ∙ sym (owner-missed (f .es) (a .offset) (length (f .es)) (replicate 6 0) t w (c .before .if1 .taken)))
 
 entry-of-requires : tie.Need-entry-of-requires
 entry-of-requires c κs = search needs
 
 returns-3 : tie.Need-returns-3
 returns-3 c =
-    let a = c .before .before .before .before .before .before .before .before .before .before .before .args in
+    let a = c .before .before .before .before .before .before .before .before .before .before .before .before .args in
+    let layout = c .before .before .before .before .before .before .before .before .before .before .kind-layout in
     let s = begun 0 (a .offset) (replicate 6 0) in
     let small : length (a .m .now) < 2 ^ 64 = omega arith in
-    let f = seen (a .kind) (a .m .now) (bytes-all (a .m .now) (c .before .before .before .before .before .before .before .before .before .before .shared-slice-known .given)) small (length (a .m .now)) s (c .before .before .before .before .before .before .before .before .over .ensures) (c .before .before .before .before .before .toured .given .1) in
+    let f = seen (layout .result) (a .m .now) (bytes-all (a .m .now) (c .before .before .before .before .before .before .before .before .before .before .before .shared-slice-known .given)) small (length (a .m .now)) s (c .before .before .before .before .before .before .before .before .over .ensures) (c .before .before .before .before .before .toured .given .1) in
     let t = c .before .before .before .before .before .toured .given .0 .0 in
     let w = seen-owner (a .offset) (replicate 6 0) refl f in
-    rw (f .are) (ap (λ (x : Entry). ok (x, t .last)) (c .entry-of .ensures) ∙ sym (owner-met (f .es) (a .offset) (length (f .es)) (replicate 6 0) t refl w (c .before .before .if1 .left)))
+    rw (← layout .ensures, f .are) (ap (λ (x : Entry). ok (x, t .last)) (c .entry-of .ensures) ∙ sym (owner-met (f .es) (a .offset) (length (f .es)) (replicate 6 0) t refl w (c .before .before .if1 .left)))
 
 pub owner-spec : {M : Type 1} → statement M
 owner-spec =
     tie.close
     (tie.spec
+    kind-layout-requires
     slice-aggregate-over
     over-requires
     enum-known-toured

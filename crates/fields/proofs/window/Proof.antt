@@ -11,6 +11,9 @@ use borrow.Author.Needs.{needs}
 use Rattle.fields.proofs.window.Statement.{statement}
 use Rattle.fields.proofs.window.Tie as tie
 
+kind-layout-requires : tie.Need-kind-layout-requires
+kind-layout-requires c κs = search needs
+
 over-requires : tie.Need-over-requires
 over-requires c κs = search needs
 
@@ -28,10 +31,11 @@ same-length c = search needs
 
 returns : tie.Need-returns
 returns c =
-    let a = c .before .before .before .before .before .before .before .before .before .args in
+    let a = c .before .before .before .before .before .before .before .before .before .before .args in
+    let layout = c .before .before .before .before .before .before .before .kind-layout in
     let s = begun (a .first) 0 (a .out .now) in
-    let e = refuses (fieldsOf (a .kind) (a .m .now)) (length (a .m .now)) s (c .before .before .before .before .before .over .ensures .0) (c .before .enum-told .given .1) (c .toured-refusal .ensures) in
-    (rw e, rw e (stays s e (c .before .before .before .before .before .over .ensures .1)))
+    let e = refuses (fieldsOf (layout .result) (a .m .now)) (length (a .m .now)) s (c .before .before .before .before .before .over .ensures .0) (c .before .enum-told .given .1) (c .toured-refusal .ensures) in
+    (rw (← layout .ensures, e), rw (← layout .ensures, e) (stays s e (c .before .before .before .before .before .over .ensures .1)))
 
 past-end-requires : tie.Need-past-end-requires
 past-end-requires c κs = search needs
@@ -41,33 +45,36 @@ same-length-2 c = search needs
 
 returns-2 : tie.Need-returns-2
 returns-2 c =
-    let a = c .before .before .before .before .before .before .before .before .before .before .before .before .args in
+    let a = c .before .before .before .before .before .before .before .before .before .before .before .before .before .args in
+    let layout = c .before .before .before .before .before .before .before .before .before .before .kind-layout in
     let s = begun (a .first) 0 (a .out .now) in
     let small : length (a .m .now) < 2 ^ 64 = omega arith in
-    let f = seen (a .kind) (a .m .now) (bytes-all (a .m .now) (c .before .before .before .before .before .before .before .before .before .before .before .shared-slice-known .given)) small (length (a .m .now)) s (c .before .before .before .before .before .before .before .before .over .ensures) (c .before .before .before .before .toured .given .1) in
+    let f = seen (layout .result) (a .m .now) (bytes-all (a .m .now) (c .before .before .before .before .before .before .before .before .before .before .before .before .shared-slice-known .given)) small (length (a .m .now)) s (c .before .before .before .before .before .before .before .before .over .ensures) (c .before .before .before .before .toured .given .1) in
     let w = seen-window (a .first) (a .out .now) f in
     let all = w .seen in
     let past = c .before .if1 .taken in
-    rw (f .are) (past-told (c .past-end .ensures) ∙ sym (window-past (f .es) (a .first) (length (a .out .now)) (omega arith)), w .numbers)
+    rw (← layout .ensures, f .are) (past-told (c .past-end .ensures) ∙ sym (window-past (f .es) (a .first) (length (a .out .now)) (omega arith)), w .numbers)
 
 same-length-3 : tie.Need-same-length-3
 same-length-3 c = search needs
 
 returns-3 : tie.Need-returns-3
 returns-3 c =
-    let a = c .before .before .before .before .before .before .before .before .before .before .before .args in
+    let a = c .before .before .before .before .before .before .before .before .before .before .before .before .args in
+    let layout = c .before .before .before .before .before .before .before .before .before .kind-layout in
     let s = begun (a .first) 0 (a .out .now) in
     let small : length (a .m .now) < 2 ^ 64 = omega arith in
-    let f = seen (a .kind) (a .m .now) (bytes-all (a .m .now) (c .before .before .before .before .before .before .before .before .before .before .shared-slice-known .given)) small (length (a .m .now)) s (c .before .before .before .before .before .before .before .over .ensures) (c .before .before .before .toured .given .1) in
+    let f = seen (layout .result) (a .m .now) (bytes-all (a .m .now) (c .before .before .before .before .before .before .before .before .before .before .before .shared-slice-known .given)) small (length (a .m .now)) s (c .before .before .before .before .before .before .before .over .ensures) (c .before .before .before .toured .given .1) in
     let w = seen-window (a .first) (a .out .now) f in
     let all = w .seen in
     let there = c .if1 .left in
-    rw (f .are) (ap ok (w .taken) ∙ sym (window-there (f .es) (a .first) (length (a .out .now)) (omega arith)), w .numbers)
+    rw (← layout .ensures, f .are) (ap ok (w .taken) ∙ sym (window-there (f .es) (a .first) (length (a .out .now)) (omega arith)), w .numbers)
 
 pub window-spec : {M : Type 1} → statement M
 window-spec =
     tie.close
     (tie.spec
+    kind-layout-requires
     over-requires
     enum-known-toured
     enum-told

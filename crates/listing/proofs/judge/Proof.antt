@@ -6,7 +6,7 @@ use lib.ListN.{length, take, drop, getD, length-drop}
 use lib.Seq.{take-all}
 use native.Mathlib.Omega.{arith}
 use borrow.Author.Tests.{eq-eqb, ne-eqb, le-leb, lt-leb}
-use Rattle.format.specs.Message.{readMessage}
+use Rattle.format.specs.Message.{readMessage, kindLayout}
 use Rattle.message.specs.Verdict.{verdictOf}
 use Rattle.listing.specs.Listing.{listingOf}
 use borrow.Author.Needs.{needs}
@@ -42,7 +42,7 @@ returns-2 c =
     let few : length s ≤ 65537 = c .before .before .if2 .taken in
     let rest : take (length s - 1) (drop 1 s) ≡ drop 1 s = take-all (length s - 1) (drop 1 s) (simp length-drop (omega arith)) in
     c .accept .ensures
-    ∙ ap (λ (m : List ℕ). verdictOf (readMessage (getD s 0 0) m)) rest
+    ∙ ap (λ (m : List ℕ). verdictOf (readMessage (kindLayout (getD s 0 0)) m)) rest
     ∙ sym (rw (ne-eqb _ _ (c .before .before .before .before .if1 .left), le-leb (length s) 65537 few))
 
 is-kind-requires : tie.Need-is-kind-requires

@@ -1,91 +1,20 @@
--- `message::accept` meets its contract: the kind, the length, the message, and that nothing is left over. Assumes nothing.
-use mathlib.Core.Path.{sym, ap, _∙_}
-use borrow.Author.Tests.{not-true, not-false}
-use Rattle.scan.proofs.Answers.{next-go, next-stop}
+-- `message::accept` meets its contract: it asks by the layout of the kind. Assumes nothing.
+use Prim.Native.Nat.{ℕ}
+use mathlib.Core.Path.{ap, _∙_}
+use Rattle.format.specs.Message.{readMessage}
 use Rattle.message.specs.Verdict.{verdictOf}
-use Rattle.message.proofs.Whole.{unknown, bad-length, bad-message, left-over, all-read}
 use borrow.Author.Needs.{needs}
 use Rattle.message.proofs.accept.Statement.{statement}
 use Rattle.message.proofs.accept.Tie as tie
 
-is-kind-requires : tie.Need-is-kind-requires
-is-kind-requires c κs = search needs
+kind-layout-requires : tie.Need-kind-layout-requires
+kind-layout-requires c κs = search needs
+
+accept-layout-requires : tie.Need-accept-layout-requires
+accept-layout-requires c κs = search needs
 
 returns : tie.Need-returns
-returns c =
-    let a = c .before .before .before .args in
-    sym (ap verdictOf (unknown (a .kind) (a .m .now) (sym (c .before .is-kind .ensures) ∙ not-true _ (c .if1 .taken))))
-
-skip-length-requires : tie.Need-skip-length-requires
-skip-length-requires c κs = search needs
-
-enum-known-measured : tie.Need-enum-known-measured
-enum-known-measured c = search needs
-
-enum-told : tie.Need-enum-told
-enum-told c = search needs
-
-next-refusal-requires : tie.Need-next-refusal-requires
-next-refusal-requires c κs = search needs
-
-returns-2 : tie.Need-returns-2
-returns-2 c =
-    let a = c .before .before .before .before .before .before .before .args in
-    let known = sym (c .before .before .before .before .before .is-kind .ensures) ∙ not-false _ (c .before .before .before .before .if1 .left) in
-    let stop = next-stop _ (c .before .before .before .skip-length .ensures) (c .before .enum-told .given .1) (c .next-refusal .ensures) in
-    sym (ap verdictOf (bad-length (a .kind) (a .m .now) known stop))
-
-skip-message-requires : tie.Need-skip-message-requires
-skip-message-requires c κs = search needs
-
-enum-known-step : tie.Need-enum-known-step
-enum-known-step c = search needs
-
-enum-told-2 : tie.Need-enum-told-2
-enum-told-2 c = search needs
-
-next-refusal-requires-2 : tie.Need-next-refusal-requires-2
-next-refusal-requires-2 c κs = search needs
-
-returns-3 : tie.Need-returns-3
-returns-3 c =
-    let a = c .before .before .before .before .before .before .before .before .before .before .before .args in
-    let known = sym (c .before .before .before .before .before .before .before .before .before .is-kind .ensures) ∙ not-false _ (c .before .before .before .before .before .before .before .before .if1 .left) in
-    let size = next-go _ (c .before .before .before .before .before .before .before .skip-length .ensures) (c .before .before .before .before .before .measured .given .1) in
-    let stop = next-stop _ (c .before .before .before .skip-message .ensures) (c .before .enum-told2 .given .1) (c .next-refusal2 .ensures) in
-    sym (ap verdictOf (bad-message (a .kind) (a .m .now) known (size .1) stop))
-
-returns-4 : tie.Need-returns-4
-returns-4 c =
-    let a = c .before .before .before .before .before .before .before .before .before .before .before .before .args in
-    let known = sym (c .before .before .before .before .before .before .before .before .before .before .is-kind .ensures) ∙ not-false _ (c .before .before .before .before .before .before .before .before .before .if1 .left) in
-    let size = next-go _ (c .before .before .before .before .before .before .before .before .skip-length .ensures) (c .before .before .before .before .before .before .measured .given .1) in
-    let go = next-go _ (c .before .before .before .before .skip-message .ensures) (c .before .before .step .given .1) in
-    sym (ap verdictOf (left-over (a .kind) (a .m .now) known (size .1) (go .1) (c .if2 .taken)))
-
-returns-5 : tie.Need-returns-5
-returns-5 c =
-    let a = c .before .before .before .before .before .before .before .before .before .before .before .before .args in
-    let known = sym (c .before .before .before .before .before .before .before .before .before .before .is-kind .ensures) ∙ not-false _ (c .before .before .before .before .before .before .before .before .before .if1 .left) in
-    let size = next-go _ (c .before .before .before .before .before .before .before .before .skip-length .ensures) (c .before .before .before .before .before .before .measured .given .1) in
-    let go = next-go _ (c .before .before .before .before .skip-message .ensures) (c .before .before .step .given .1) in
-    sym (ap verdictOf (all-read (a .kind) (a .m .now) known (size .1) (go .1) (c .if2 .left)))
+returns c = c .accept-layout .ensures ∙ ap (λ (l : ℕ). verdictOf (readMessage l (c .before .before .before .args .m .now))) (c .before .kind-layout .ensures)
 
 pub accept-spec : {M : Type 1} → statement M
-accept-spec =
-    tie.close
-    (tie.spec
-    is-kind-requires
-    returns
-    skip-length-requires
-    enum-known-measured
-    enum-told
-    next-refusal-requires
-    returns-2
-    skip-message-requires
-    enum-known-step
-    enum-told-2
-    next-refusal-requires-2
-    returns-3
-    returns-4
-    returns-5)
+accept-spec = tie.close (tie.spec kind-layout-requires accept-layout-requires returns)

@@ -1,11 +1,9 @@
 -- `message::skip_noted` meets its contract: the number, and the string if there is one. Assumes nothing.
 use mathlib.Core.Path.{sym, _∙_}
 use mathlib.Core.Option.{none}
-use borrow.Author.Tests.{not-true, not-false}
 use Rattle.format.specs.Format.{number, present}
 use Rattle.format.specs.Value.{string, anything}
 use Rattle.scan.proofs.Steps.{goes-on, halts}
-use Rattle.message.proofs.Runs.{present-ends, absent-ends}
 use borrow.Author.Needs.{needs}
 use Rattle.message.proofs.skip_noted.Statement.{statement}
 use Rattle.message.proofs.skip_noted.Tie as tie
@@ -27,20 +25,13 @@ returns c =
     let a = c .before .before .before .before .before .args in
     sym (halts (number (a .width) 0) (present (a .there) none (string (a .nullable) anything 0 0)) _ _ (c .before .before .before .skip-fixed .ensures) (c .before .enum-told .given .1) (c .next-refusal .ensures))
 
+skip-note-requires : tie.Need-skip-note-requires
+skip-note-requires c κs = search needs
+
 returns-2 : tie.Need-returns-2
 returns-2 c =
     let a = c .before .before .before .before .before .before .args in
-    let f = string (a .nullable) anything 0 0 in
-    sym (goes-on (number (a .width) 0) (present (a .there) none f) _ _ (c .before .before .before .before .skip-fixed .ensures) (c .before .before .number .given .1) ∙ absent-ends none f _ _ _ (not-true _ (c .if1 .taken)))
-
-skip-body-requires : tie.Need-skip-body-requires
-skip-body-requires c κs = search needs
-
-returns-3 : tie.Need-returns-3
-returns-3 c =
-    let a = c .before .before .before .before .before .before .before .args in
-    let f = string (a .nullable) anything 0 0 in
-    c .skip-body .ensures ∙ sym (goes-on (number (a .width) 0) (present (a .there) none f) _ _ (c .before .before .before .before .before .skip-fixed .ensures) (c .before .before .before .number .given .1) ∙ present-ends none f _ _ _ (not-false _ (c .before .if1 .left)))
+    c .skip-note .ensures ∙ sym (goes-on (number (a .width) 0) (present (a .there) none (string (a .nullable) anything 0 0)) _ _ (c .before .before .before .before .skip-fixed .ensures) (c .before .before .number .given .1))
 
 pub skip-noted-spec : {M : Type 1} → statement M
 skip-noted-spec =
@@ -51,6 +42,5 @@ skip-noted-spec =
     enum-told
     next-refusal-requires
     returns
-    returns-2
-    skip-body-requires
-    returns-3)
+    skip-note-requires
+    returns-2)

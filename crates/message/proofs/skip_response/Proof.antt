@@ -1,10 +1,10 @@
 -- `message::skip_response` meets its contract: its head, and then its tables. Assumes nothing.
-use mathlib.Core.Path.{sym, ap, _∙_}
-use Rattle.format.specs.Message.{mostItems, first, table}
-use Rattle.scan.specs.Shown.{shownNext}
-use Rattle.scan.proofs.Answers.{number-go, number-stop, next-go, next-stop}
+use mathlib.Core.Path.{sym, _∙_}
+use Rattle.format.specs.Message.{head, mostItems, first, table}
+use Rattle.scan.proofs.Answers.{number-go, number-stop}
+use Rattle.scan.proofs.Steps.{goes-on, halts}
 use Rattle.scan.proofs.Params.{list-go, list-stop}
-use Rattle.message.proofs.Heads.{response-go, response-stop}
+use Rattle.message.proofs.Heads.{tables, response-ends}
 use borrow.Author.Needs.{needs}
 use Rattle.message.proofs.skip_response.Statement.{statement}
 use Rattle.message.proofs.skip_response.Tie as tie
@@ -23,8 +23,8 @@ next-refusal-requires c κs = search needs
 
 returns : tie.Need-returns
 returns c =
-    let stop = next-stop _ (c .before .before .before .skip-head .ensures) (c .before .enum-told .given .1) (c .next-refusal .ensures) in
-    sym (ap shownNext (response-stop _ _ stop))
+    let timed = c .before .before .before .before .before .args .timed in
+    sym (response-ends timed _ _ ∙ halts (head timed) tables _ _ (c .before .before .before .skip-head .ensures) (c .before .enum-told .given .1) (c .next-refusal .ensures))
 
 read-count-requires : tie.Need-read-count-requires
 read-count-requires c κs = search needs
@@ -40,18 +40,20 @@ number-refusal-requires c κs = search needs
 
 returns-2 : tie.Need-returns-2
 returns-2 c =
-    let go = next-go _ (c .before .before .before .before .before .before .before .skip-head .ensures) (c .before .before .before .before .before .begun .given .1) in
+    let timed = c .before .before .before .before .before .before .before .before .before .args .timed in
+    let go = goes-on (head timed) tables _ _ (c .before .before .before .before .before .before .before .skip-head .ensures) (c .before .before .before .before .before .begun .given .1) in
     let stop = number-stop _ (c .before .before .before .read-count .ensures) (c .before .enum-told2 .given .1) (c .number-refusal .ensures) in
-    sym (response-go _ _ (go .1) ∙ list-stop _ _ 2 mostItems 40 first table stop)
+    sym (response-ends timed _ _ ∙ go ∙ list-stop _ _ 2 mostItems 40 first table stop)
 
 skip-tables-requires : tie.Need-skip-tables-requires
 skip-tables-requires c κs = search needs
 
 returns-3 : tie.Need-returns-3
 returns-3 c =
-    let go = next-go _ (c .before .before .before .before .before .before .before .before .skip-head .ensures) (c .before .before .before .before .before .before .begun .given .1) in
+    let timed = c .before .before .before .before .before .before .before .before .before .before .args .timed in
+    let go = goes-on (head timed) tables _ _ (c .before .before .before .before .before .before .before .before .skip-head .ensures) (c .before .before .before .before .before .before .begun .given .1) in
     let count = number-go _ (c .before .before .before .before .read-count .ensures) (c .before .before .count .given .1) in
-    c .skip-tables .ensures ∙ sym (response-go _ _ (go .1) ∙ list-go _ _ 2 mostItems 40 first table count)
+    c .skip-tables .ensures ∙ sym (response-ends timed _ _ ∙ go ∙ list-go _ _ 2 mostItems 40 first table count)
 
 pub skip-response-spec : {M : Type 1} → statement M
 skip-response-spec =

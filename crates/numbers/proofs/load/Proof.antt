@@ -9,17 +9,17 @@ element-copy-out-stage-of c = search needs
 stage-of-requires : tie.Need-stage-of-requires
 stage-of-requires c κs = search needs
 
-element-copy-out-t9 : tie.Need-element-copy-out-t9
-element-copy-out-t9 c = search needs
+element-copy-out-t8 : tie.Need-element-copy-out-t8
+element-copy-out-t8 c = search needs
 
-element-copy-out-t13 : tie.Need-element-copy-out-t13
-element-copy-out-t13 c = search needs
+element-copy-out-t12 : tie.Need-element-copy-out-t12
+element-copy-out-t12 c = search needs
 
-element-copy-out-t17 : tie.Need-element-copy-out-t17
-element-copy-out-t17 c = search needs
+element-copy-out-t16 : tie.Need-element-copy-out-t16
+element-copy-out-t16 c = search needs
 
-element-copy-out-t21 : tie.Need-element-copy-out-t21
-element-copy-out-t21 c = search needs
+element-copy-out-t20 : tie.Need-element-copy-out-t20
+element-copy-out-t20 c = search needs
 
 element-copy-out-byte-of : tie.Need-element-copy-out-byte-of
 element-copy-out-byte-of c = search needs
@@ -27,26 +27,23 @@ element-copy-out-byte-of c = search needs
 byte-of-requires : tie.Need-byte-of-requires
 byte-of-requires c κs = search needs
 
-element-copy-out-t29 : tie.Need-element-copy-out-t29
-element-copy-out-t29 c = search needs
+element-copy-out-t28 : tie.Need-element-copy-out-t28
+element-copy-out-t28 c = search needs
 
-element-copy-out-t33 : tie.Need-element-copy-out-t33
-element-copy-out-t33 c = search needs
+element-copy-out-t32 : tie.Need-element-copy-out-t32
+element-copy-out-t32 c = search needs
 
-element-copy-out-t37 : tie.Need-element-copy-out-t37
-element-copy-out-t37 c = search needs
+element-copy-out-t36 : tie.Need-element-copy-out-t36
+element-copy-out-t36 c = search needs
 
-element-copy-out-t41 : tie.Need-element-copy-out-t41
-element-copy-out-t41 c = search needs
+element-copy-out-t40 : tie.Need-element-copy-out-t40
+element-copy-out-t40 c = search needs
 
-element-copy-out-t45 : tie.Need-element-copy-out-t45
-element-copy-out-t45 c = search needs
+element-copy-out-t44 : tie.Need-element-copy-out-t44
+element-copy-out-t44 c = search needs
 
 returns : tie.Need-returns
-returns c =
-    let b = c .before .before .before .before .before .before in
-    let s = b .before .before .before .before .before .before in
-    rw (s .stage-of .ensures, b .byte-of .ensures)
+returns c = rw (c .before .before .before .before .before .before .before .before .before .before .before .stage-of .ensures, c .before .before .before .before .before .byte-of .ensures)
 
 pub load-spec : {M : Type 1} → statement M
 load-spec =
@@ -54,15 +51,15 @@ load-spec =
     (tie.spec
     element-copy-out-stage-of
     stage-of-requires
-    element-copy-out-t9
-    element-copy-out-t13
-    element-copy-out-t17
-    element-copy-out-t21
+    element-copy-out-t8
+    element-copy-out-t12
+    element-copy-out-t16
+    element-copy-out-t20
     element-copy-out-byte-of
     byte-of-requires
-    element-copy-out-t29
-    element-copy-out-t33
-    element-copy-out-t37
-    element-copy-out-t41
-    element-copy-out-t45
+    element-copy-out-t28
+    element-copy-out-t32
+    element-copy-out-t36
+    element-copy-out-t40
+    element-copy-out-t44
     returns)

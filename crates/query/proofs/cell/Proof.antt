@@ -1,4 +1,5 @@
 -- `query::cell` meets its contract: what was found answers this question too.
+use mathlib.Core.Bool.{true}
 use mathlib.Core.Path.{_∙_, sym, ap}
 use Rattle.format.specs.Result.{Res, ok, bind}
 use Rattle.query.specs.declared.ShownCell.{ShownCell}
@@ -19,7 +20,7 @@ cell-of-requires c κs = search needs
 returns : tie.Need-returns
 returns c =
     let a = c .before .before .before .args in
-    c .cell-of .ensures ∙ ap (λ (r : Res ShownCell). bind r (λ s. ok (s .cell))) (c .before .find-cell .ensures) ∙ follows 4 tablesOf tableAt (a .m .now) (a .t) (λ at b. cellHere at b (a .k) (a .c)) shownOf (λ s. ok (s .cell))
+    c .cell-of .ensures ∙ ap (λ (r : Res ShownCell). bind r (λ s. ok (s .cell))) (c .before .find-cell .ensures) ∙ follows 4 tablesOf (tableAt true) (a .m .now) (a .t) (λ at b. cellHere at b (a .k) (a .c)) shownOf (λ s. ok (s .cell))
 
 pub cell-spec : {M : Type 1} → statement M
 cell-spec = tie.close (tie.spec find-cell-requires cell-of-requires returns)

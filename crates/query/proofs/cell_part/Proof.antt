@@ -1,5 +1,6 @@
 -- `query::cell_part` meets its contract: that part of the message.
 use mathlib.Core.Path.{_∙_, sym, ap}
+use mathlib.Core.Bool.{true}
 use native.Mathlib.Omega.{arith}
 use Rattle.query.specs.Answers.{cellHere, partIn}
 use Rattle.query.specs.Places.{tablesOf, tableAt}
@@ -15,7 +16,7 @@ part-in-requires : tie.Need-part-in-requires
 part-in-requires c κs =
     let a = c .before .before .args in
     let all = bytes-all (a .m .now) (λ k. omega (arith, c .before .shared-slice-known .given k)) in
-    part-fits 4 tablesOf tableAt (a .m .now) (a .t) (λ at b. cellHere at b (a .k) (a .c)) (cell-stands (a .m .now) all (a .t) (a .k) (a .c)) (c .cell-span .ensures)
+    part-fits 4 tablesOf (tableAt true) (a .m .now) (a .t) (λ at b. cellHere at b (a .k) (a .c)) (cell-stands true (a .m .now) all (a .t) (a .k) (a .c)) (c .cell-span .ensures)
 
 returns : tie.Need-returns
 returns c = let a = c .before .before .before .args in c .part-in .ensures ∙ ap (partIn (a .m .now)) (c .before .cell-span .ensures)

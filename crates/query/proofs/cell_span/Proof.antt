@@ -1,4 +1,5 @@
 -- `query::cell_span` meets its contract: what was found answers this question too.
+use mathlib.Core.Bool.{true}
 use mathlib.Core.Path.{_∙_, sym, ap}
 use Rattle.format.specs.Result.{Res, ok, bind}
 use Rattle.query.specs.declared.ShownCell.{ShownCell}
@@ -19,7 +20,7 @@ span-of-requires c κs = search needs
 returns : tie.Need-returns
 returns c =
     let a = c .before .before .before .args in
-    c .span-of .ensures ∙ ap (λ (r : Res ShownCell). bind r (λ s. partOf (s .«type_at») (s .cell))) (c .before .find-cell .ensures) ∙ follows 4 tablesOf tableAt (a .m .now) (a .t) (λ at b. cellHere at b (a .k) (a .c)) shownOf (λ s. partOf (s .«type_at») (s .cell))
+    c .span-of .ensures ∙ ap (λ (r : Res ShownCell). bind r (λ s. partOf (s .«type_at») (s .cell))) (c .before .find-cell .ensures) ∙ follows 4 tablesOf (tableAt true) (a .m .now) (a .t) (λ at b. cellHere at b (a .k) (a .c)) shownOf (λ s. partOf (s .«type_at») (s .cell))
 
 pub cell-span-spec : {M : Type 1} → statement M
 cell-span-spec = tie.close (tie.spec find-cell-requires span-of-requires returns)

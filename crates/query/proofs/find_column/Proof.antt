@@ -1,4 +1,5 @@
 -- `query::find_column` meets its contract: the table's refusal, or the search of its names.
+use mathlib.Core.Bool.{true}
 use mathlib.Core.Path.{_∙_, sym, ap}
 use native.Mathlib.Omega.{arith}
 use Rattle.query.specs.Answers.{toldTable, layoutOf, firstNamed}
@@ -8,8 +9,8 @@ use borrow.Author.Needs.{needs}
 use Rattle.query.proofs.find_column.Statement.{statement}
 use Rattle.query.proofs.find_column.Tie as tie
 
-table-requires : tie.Need-table-requires
-table-requires c κs = search needs
+find-table-requires : tie.Need-find-table-requires
+find-table-requires c κs = search needs
 
 enum-known-answer : tie.Need-enum-known-answer
 enum-known-answer c = search needs
@@ -23,20 +24,20 @@ search-requires c κs = search needs
 returns : tie.Need-returns
 returns c =
     let a = c .before .before .before .before .before .before .args in
-    not-found 4 tablesOf tableAt (a .m .now) (a .t) layoutOf (λ at b. firstNamed (a .name .now) (b .metadata .names) 0) (sym (ap toldTable (c .before .answer .given .1)) ∙ c .before .before .before .table .ensures)
+    not-found 4 tablesOf (tableAt true) (a .m .now) (a .t) layoutOf (λ at b. firstNamed (a .name .now) (b .metadata .names) 0) (sym (ap toldTable (c .before .answer .given .1)) ∙ c .before .before .before .find-table .ensures)
 
 returns-2 : tie.Need-returns-2
 returns-2 c =
     let a = c .before .before .before .before .before .before .before .args in
     let all = bytes-all (a .m .now) (λ k. omega (arith, c .before .before .before .before .before .before .shared-slice-known .given k)) in
-    let o = opened (a .m .now) all (a .t) (sym (ap toldTable (c .before .before .answer2 .given .1)) ∙ c .before .before .before .before .table .ensures) in
+    let o = opened true (a .m .now) all (a .t) (sym (ap toldTable (c .before .before .answer2 .given .1)) ∙ c .before .before .before .before .find-table .ensures) in
     c .search .ensures (o .tab .metadata .names) (named o) ∙ sym (asked o (λ at b. firstNamed (a .name .now) (b .metadata .names) 0))
 
 pub find-column-spec : {M : Type 1} → statement M
 find-column-spec =
     tie.close
     (tie.spec
-    table-requires
+    find-table-requires
     enum-known-answer
     enum-known-answer-2
     search-requires

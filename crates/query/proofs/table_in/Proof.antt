@@ -16,8 +16,8 @@ returns c =
     λ p e.
     let a = c .before .before .before .before .args in
     let all = bytes-all (a .m .now) (λ k. omega (arith, c .before .before .before .shared-slice-known .given k)) in
-    let n = tables-is (a .m .now) all p e (c .before .before .tables-counted .result) (c .before .before .tables-counted .ensures) (c .before .count-at .ensures) in
-    table-past (a .m .now) all p e (a .t) (omega arith)
+    let n = tables-is (a .timed) (a .m .now) all p e (c .before .before .tables-counted .result) (c .before .before .tables-counted .ensures) (c .before .count-at .ensures) in
+    table-past (a .timed) (a .m .now) all p e (a .t) (omega arith)
 
 after-requires : tie.Need-after-requires
 after-requires c κs = search needs
@@ -34,9 +34,9 @@ returns-2 c =
     let a = c .before .before .before .before .before .before .before .args in
     let all = bytes-all (a .m .now) (λ k. omega (arith, c .before .before .before .before .before .before .shared-slice-known .given k)) in
     let counted = c .before .before .before .before .before .tables-counted in
-    let n = tables-is (a .m .now) all p e (counted .result) (counted .ensures) (c .before .before .before .before .count-at .ensures) in
-    let at = table-at-is (a .m .now) all p e (a .t) (counted .result) (c .before .before .after .result) (omega arith) (counted .ensures) (c .before .before .after .ensures) (c .before .over .ensures) in
-    table-found (a .m .now) all p e (a .t) (c .before .over .result) (omega arith) at (c .layout-at .ensures)
+    let n = tables-is (a .timed) (a .m .now) all p e (counted .result) (counted .ensures) (c .before .before .before .before .count-at .ensures) in
+    let at = table-at-is (a .timed) (a .m .now) all p e (a .t) (counted .result) (c .before .before .after .result) (omega arith) (counted .ensures) (c .before .before .after .ensures) (c .before .over .ensures) in
+    table-found (a .timed) (a .m .now) all p e (a .t) (c .before .over .result) (omega arith) at (c .layout-at .ensures)
 
 pub table-in-spec : {M : Type 1} → statement M
 table-in-spec =

@@ -1,6 +1,12 @@
 -- `record::read_response` meets its contract: version, client data and flags, then the rest.
-use mathlib.Core.Path.{_∙_}
-use Rattle.record.proofs.Fields.{whole-is}
+use Prim.Native.Nat.{ℕ}
+use mathlib.Core.Path.{_∙_, ap, ap₂}
+use lib.ListN.{length}
+use Rattle.format.specs.Message.{Response}
+use Rattle.record.specs.declared.Num.{Num}
+use Rattle.record.specs.declared.Block.{Block}
+use Rattle.record.specs.Records.{responseOf}
+use Rattle.record.proofs.Records.{replied, response-read}
 use borrow.Author.Needs.{needs}
 use Rattle.record.proofs.read_response.Statement.{statement}
 use Rattle.record.proofs.read_response.Tie as tie
@@ -19,8 +25,15 @@ read-flagged-requires c κs = search needs
 
 returns : tie.Need-returns
 returns c =
-    c .read-flagged .ensures
-    ∙ whole-is (c .before .before .before .before .before .before .args .m .now) (c .before .before .before .before .number-at .result) (c .before .before .before .block-at .result) (c .before .byte-at .result) (c .before .before .before .before .number-at .ensures) (c .before .before .before .block-at .ensures) (c .before .byte-at .ensures)
+    λ r e.
+    let a = c .before .before .before .before .before .before .args in
+    let m = a .m .now in
+    let p = response-read (a .timed) m r e in
+    let t = replied (a .timed) m (p .0) (length m) (p .1) in
+    let flags = c .before .byte-at .ensures ∙ ap (λ (x : Num). x .n) (t .flags) in
+    let client = ap (λ (x : Block). x .bytes) (c .before .before .before .block-at .ensures ∙ t .client .0) in
+    let version = ap (λ (x : Num). x .n) (c .before .before .before .before .number-at .ensures) ∙ p .3 in
+    c .read-flagged .ensures (p .0) (length m) (p .1) flags client ∙ ap₂ (λ (v : ℕ) (l : Response). responseOf v l) version (p .2)
 
 pub read-response-spec : {M : Type 1} → statement M
 read-response-spec =

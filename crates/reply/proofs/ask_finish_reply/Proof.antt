@@ -3,6 +3,7 @@ use mathlib.Core.Path.{refl}
 use Rattle.write.specs.Steps.{plan, finishReply}
 use Rattle.write.specs.Shown.{seen}
 use Rattle.write.proofs.Taken.{answered}
+use mathlib.Core.List.{[]}
 use borrow.Author.Needs.{needs}
 use Rattle.reply.proofs.ask_finish_reply.Statement.{statement}
 use Rattle.reply.proofs.ask_finish_reply.Tie as tie
@@ -14,7 +15,7 @@ judge-requires : tie.Need-judge-requires
 judge-requires c κs = search needs
 
 returns : tie.Need-returns
-returns c = answered (plan finishReply (seen (c .before .before .args .st)) (c .before .before .args .size)) (c .before .before .args .size) (c .judge .ensures) (c .before .at-reply .ensures) refl (λ u w. (refl, refl))
+returns c = answered (plan finishReply (seen (c .before .before .args .st) []) (c .before .before .args .size)) (c .before .before .args .size) (c .judge .ensures) (c .before .at-reply .ensures) refl (λ u w. (refl, refl))
 
 pub ask-finish-reply-spec : {M : Type 1} → statement M
 ask-finish-reply-spec = tie.close (tie.spec at-reply-requires judge-requires returns)

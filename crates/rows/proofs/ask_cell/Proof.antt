@@ -1,12 +1,16 @@
 -- `rows::ask_cell` meets its contract: its tests are those of the definition. Assumes nothing.
 use Prim.Native.Nat.{ℕ}
-use mathlib.Core.Path.{ap, ap₂, _∙_}
+use mathlib.Core.Path.{ap, ap₂, _∙_, _≡_, sym}
 use mathlib.Core.Bool.{_&&_}
 use lib.Dec.{ltb, eqb}
 use Rattle.format.specs.declared.Fault.the-variants.{WireType}
 use Rattle.format.specs.Format.{Verdict}
 use Rattle.write.specs.Steps.{also, test}
 use Rattle.write.specs.Shown.{verdictOf}
+use Rattle.write.proofs.Seen.{counted}
+use Rattle.format.specs.Message.{mostColumns}
+use lib.ListN.{length}
+use native.Mathlib.Omega.{arith}
 use borrow.Author.Needs.{needs}
 use Rattle.rows.proofs.ask_cell.Statement.{statement}
 use Rattle.rows.proofs.ask_cell.Tie as tie
@@ -14,8 +18,8 @@ use Rattle.rows.proofs.ask_cell.Tie as tie
 at-row-requires : tie.Need-at-row-requires
 at-row-requires c κs = search needs
 
-columns-count-requires : tie.Need-columns-count-requires
-columns-count-requires c κs = search needs
+columns-seen-requires : tie.Need-columns-seen-requires
+columns-seen-requires c κs = search needs
 
 both-requires : tie.Need-both-requires
 both-requires c κs = search needs
@@ -39,7 +43,8 @@ returns : tie.Need-returns
 returns c =
     let a = c .before .before .before .before .before .before .before .before .before .before .args in
     let st = a .st in
-    let x = c .before .before .before .before .before .both .ensures ∙ ap₂ _&&_ (c .before .before .before .before .before .before .before .before .at-row .ensures) (ap (ltb (st .«inner_count»)) (c .before .before .before .before .before .before .before .columns-count .ensures)) in
+    let h : length (a .types .now) ≡ mostColumns = omega arith in
+    let x = c .before .before .before .before .before .both .ensures ∙ ap₂ _&&_ (c .before .before .before .before .before .before .before .before .at-row .ensures) (ap (ltb (st .«inner_count»)) (c .before .before .before .before .before .before .before .columns-seen .ensures ∙ sym (counted (st .columns) (a .types .now) h))) in
     let y = c .before .also .ensures ∙ ap (λ (v : Verdict). also v (verdictOf (a .fault))) (c .before .before .before .test .ensures ∙ ap (λ (t : ℕ). test (eqb (a .t) t) WireType (st .position)) (c .before .before .before .before .next-type .ensures)) in
     c .judge .ensures ∙ rw (x, y, c .before .before .row-keeps .ensures)
 
@@ -48,7 +53,7 @@ ask-cell-spec =
     tie.close
     (tie.spec
     at-row-requires
-    columns-count-requires
+    columns-seen-requires
     both-requires
     next-type-requires
     test-requires

@@ -14,7 +14,7 @@ judge-requires : tie.Need-judge-requires
 judge-requires c κs = search needs
 
 returns : tie.Need-returns
-returns c = answered (plan closeTable (seen (c .before .before .args .st)) (c .before .before .args .size)) (c .before .before .args .size) (c .judge .ensures) (c .before .at-table .ensures) refl (λ u w. (refl, refl))
+returns c = answered (plan closeTable (seen (c .before .before .args .st) (c .before .before .args .types .now)) (c .before .before .args .size)) (c .before .before .args .size) (c .judge .ensures) (c .before .at-table .ensures) refl (λ u w. (refl, refl))
 
 pub ask-close-table-spec : {M : Type 1} → statement M
 ask-close-table-spec = tie.close (tie.spec at-table-requires judge-requires returns)

@@ -18,7 +18,7 @@ judge-requires : tie.Need-judge-requires
 judge-requires c κs = search needs
 
 returns : tie.Need-returns
-returns c = answered (plan openRow (seen (c .before .before .before .args .st)) (c .before .before .before .args .size)) (c .before .before .before .args .size) (c .judge .ensures) (c .before .before .at-table .ensures) refl (λ u w. (c .before .one-more .ensures, sym (length-numBytes 4 0)))
+returns c = answered (plan openRow (seen (c .before .before .before .args .st) (c .before .before .before .args .types .now)) (c .before .before .before .args .size)) (c .before .before .before .args .size) (c .judge .ensures) (c .before .before .at-table .ensures) refl (λ u w. (c .before .one-more .ensures, sym (length-numBytes 4 0)))
 
 pub ask-open-row-spec : {M : Type 1} → statement M
 ask-open-row-spec = tie.close (tie.spec at-table-requires one-more-requires judge-requires returns)

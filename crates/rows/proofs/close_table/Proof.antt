@@ -24,24 +24,24 @@ enum-told : tie.Need-enum-told
 enum-told c = search needs
 
 returns : tie.Need-returns
-returns c = step-refused closeTable (c .before .before .before .before .args .st) (c .before .before .before .before .args .out .now) (c .before .before .before .before .args .st .columns .types) (c .before .before .ask-close-table .ensures) (c .enum-told .given .1)
+returns c = step-refused closeTable (c .before .before .before .before .args .st) (c .before .before .before .before .args .out .now) (c .before .before .before .before .args .types .now) (c .before .before .ask-close-table .ensures) (c .enum-told .given .1)
 
 add-number-at : tie.Need-add-number-at
 add-number-at c =
-    let f = table-fills (seen (c .before .before .before .before .before .before .before .args .st)) (length (c .before .before .before .before .before .before .before .args .out .now)) _ (step-accepted closeTable (c .before .before .before .before .before .before .before .args .st) (c .before .before .before .before .before .before .before .args .out .now) (c .before .before .before .before .before .before .before .args .st .columns .types) (c .before .before .before .before .before .ask-close-table .ensures) (c .before .before .before .a .given .1)) .0 in
+    let f = table-fills (seen (c .before .before .before .before .before .before .before .args .st) (c .before .before .before .before .before .before .before .args .types .now)) (length (c .before .before .before .before .before .before .before .args .out .now)) _ (step-accepted closeTable (c .before .before .before .before .before .before .before .args .st) (c .before .before .before .before .before .before .before .args .out .now) (c .before .before .before .before .before .before .before .args .types .now) (c .before .before .before .before .before .ask-close-table .ensures) (c .before .before .before .a .given .1)) .0 in
     let h : c .before .before .before .before .before .before .before .args .st .«table_at» + 4 ≤ c .before .before .before .before .before .before .before .args .st .position = f .inside in
     let k : c .before .before .before .before .before .before .before .args .st .position ≤ 4 + mostMessage = f .few in
     omega arith
 
 sub-number-at : tie.Need-sub-number-at
-sub-number-at c = table-fills (seen (c .before .before .before .before .before .before .before .before .args .st)) (length (c .before .before .before .before .before .before .before .before .args .out .now)) _ (step-accepted closeTable (c .before .before .before .before .before .before .before .before .args .st) (c .before .before .before .before .before .before .before .before .args .out .now) (c .before .before .before .before .before .before .before .before .args .st .columns .types) (c .before .before .before .before .before .before .ask-close-table .ensures) (c .before .before .before .before .a .given .1)) .0 .inside
+sub-number-at c = table-fills (seen (c .before .before .before .before .before .before .before .before .args .st) (c .before .before .before .before .before .before .before .before .args .types .now)) (length (c .before .before .before .before .before .before .before .before .args .out .now)) _ (step-accepted closeTable (c .before .before .before .before .before .before .before .before .args .st) (c .before .before .before .before .before .before .before .before .args .out .now) (c .before .before .before .before .before .before .before .before .args .types .now) (c .before .before .before .before .before .before .ask-close-table .ensures) (c .before .before .before .before .a .given .1)) .0 .inside
 
 number-at-requires : tie.Need-number-at-requires
-number-at-requires c κs = table-fills (seen (c .before .before .before .before .before .before .before .before .args .st)) (length (c .before .before .before .before .before .before .before .before .args .out .now)) _ (step-accepted closeTable (c .before .before .before .before .before .before .before .before .args .st) (c .before .before .before .before .before .before .before .before .args .out .now) (c .before .before .before .before .before .before .before .before .args .st .columns .types) (c .before .before .before .before .before .before .ask-close-table .ensures) (c .before .before .before .before .a .given .1)) .0 .room
+number-at-requires c κs = table-fills (seen (c .before .before .before .before .before .before .before .before .args .st) (c .before .before .before .before .before .before .before .before .args .types .now)) (length (c .before .before .before .before .before .before .before .before .args .out .now)) _ (step-accepted closeTable (c .before .before .before .before .before .before .before .before .args .st) (c .before .before .before .before .before .before .before .before .args .out .now) (c .before .before .before .before .before .before .before .before .args .types .now) (c .before .before .before .before .before .before .ask-close-table .ensures) (c .before .before .before .before .a .given .1)) .0 .room
 
 number-at-requires-2 : tie.Need-number-at-requires-2
 number-at-requires-2 c κs =
-    let f = table-fills (seen (c .before .before .before .before .before .before .before .before .before .before .before .before .args .st)) (length (c .before .before .before .before .before .before .before .before .before .before .before .before .args .out .now)) _ (step-accepted closeTable (c .before .before .before .before .before .before .before .before .before .before .before .before .args .st) (c .before .before .before .before .before .before .before .before .before .before .before .before .args .out .now) (c .before .before .before .before .before .before .before .before .before .before .before .before .args .st .columns .types) (c .before .before .before .before .before .before .before .before .before .before .ask-close-table .ensures) (c .before .before .before .before .before .before .before .before .a .given .1)) in
+    let f = table-fills (seen (c .before .before .before .before .before .before .before .before .before .before .before .before .args .st) (c .before .before .before .before .before .before .before .before .before .before .before .before .args .types .now)) (length (c .before .before .before .before .before .before .before .before .before .before .before .before .args .out .now)) _ (step-accepted closeTable (c .before .before .before .before .before .before .before .before .before .before .before .before .args .st) (c .before .before .before .before .before .before .before .before .before .before .before .before .args .out .now) (c .before .before .before .before .before .before .before .before .before .before .before .before .args .types .now) (c .before .before .before .before .before .before .before .before .before .before .ask-close-table .ensures) (c .before .before .before .before .before .before .before .before .a .given .1)) in
     let h : c .before .before .before .before .before .before .before .before .before .before .before .before .args .st .«rows_at» + 4 ≤ length (c .before .before .before .before .before .before .before .before .before .before .before .before .args .out .now) = f .1 .room in
     let same = filled-length (c .before .before .before .before .before .before .before .before .before .before .before .before .args .out .now) (c .before .before .before .before .before .before .before .before .before .before .before .before .args .st .«table_at») 4 (c .before .before .before .before .before .before .before .before .before .before .before .before .args .st .position - (c .before .before .before .before .before .before .before .before .before .before .before .before .args .st .«table_at» + 4)) (f .0 .room) (c .before .before .before .number-at .ensures .1) in
     rw same h
@@ -54,7 +54,7 @@ same-length c = search needs
 
 returns-2 : tie.Need-returns-2
 returns-2 c =
-    step-taken closeTable (c .before .before .before .before .before .before .before .before .before .before .before .before .before .before .before .before .args .st) (c .before .before .before .before .before .before .before .before .before .before .before .before .before .before .before .before .args .out .now) (c .before .before .before .before .before .before .before .before .before .before .before .before .before .before .before .before .args .st .columns .types) (c .before .before .before .before .before .before .before .before .before .before .before .before .before .before .ask-close-table .ensures) (c .before .before .before .before .before .before .before .before .before .before .before .before .a .given .1) (c .between .ensures)
+    step-taken closeTable (c .before .before .before .before .before .before .before .before .before .before .before .before .before .before .before .before .args .st) (c .before .before .before .before .before .before .before .before .before .before .before .before .before .before .before .before .args .out .now) (c .before .before .before .before .before .before .before .before .before .before .before .before .before .before .before .before .args .types .now) (c .before .before .before .before .before .before .before .before .before .before .before .before .before .before .ask-close-table .ensures) (c .before .before .before .before .before .before .before .before .before .before .before .before .a .given .1) (c .between .ensures)
     (fill-two (c .before .before .before .before .before .before .before .before .before .before .before .before .before .before .before .before .args .out .now) (c .before .before .before .before .before .before .before .before .before .before .before .before .before .before .before .before .args .st .position) (c .before .before .before .before .before .before .before .before .before .before .before .before .before .before .before .before .args .st .«table_at») 4 (c .before .before .before .before .before .before .before .before .before .before .before .before .before .before .before .before .args .st .position - (c .before .before .before .before .before .before .before .before .before .before .before .before .before .before .before .before .args .st .«table_at» + 4)) (c .before .before .before .before .before .before .before .before .before .before .before .before .before .before .before .before .args .st .«rows_at») 4 (c .before .before .before .before .before .before .before .before .before .before .before .before .before .before .before .before .args .st .rows)
     (c .before .before .before .before .before .before .before .number-at .ensures .1) (c .before .before .before .number-at2 .ensures .1))
 

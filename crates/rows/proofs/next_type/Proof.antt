@@ -6,16 +6,16 @@ use Rattle.rows.proofs.next_type.Statement.{statement}
 use Rattle.rows.proofs.next_type.Tie as tie
 
 returns : tie.Need-returns
-returns c = let st = c .before .before .args .st in sym (none-seen (st .columns) (st .«inner_count») (c .if1 .taken))
+returns c = let a = c .before .args in sym (none-seen (a .columns) (a .types .now) (a .cells) (c .if1 .taken))
 
 returns-2 : tie.Need-returns-2
-returns-2 c = let st = c .before .before .before .args .st in sym (none-left (st .columns) (st .«inner_count») (c .before .if1 .left) (c .if2 .taken))
+returns-2 c = let a = c .before .before .args in sym (none-left (a .columns) (a .types .now) (a .cells) (c .before .if1 .left) (c .if2 .taken))
 
-array-read-result : tie.Need-array-read-result
-array-read-result c = search needs
+element-copy-out-result : tie.Need-element-copy-out-result
+element-copy-out-result c = search needs
 
 returns-3 : tie.Need-returns-3
-returns-3 c = let st = c .before .before .before .before .args .st in sym (next-is (st .columns) (st .«inner_count») (c .before .before .if1 .left) (c .before .if2 .left))
+returns-3 c = let a = c .before .before .before .args in sym (next-is (a .columns) (a .types .now) (a .cells) (c .before .before .if1 .left) (c .before .if2 .left))
 
 pub next-type-spec : {M : Type 1} → statement M
-next-type-spec = tie.close (tie.spec returns returns-2 array-read-result returns-3)
+next-type-spec = tie.close (tie.spec returns returns-2 element-copy-out-result returns-3)

@@ -5,8 +5,8 @@ use borrow.Author.Needs.{needs}
 use Rattle.tour.proofs.over.Statement.{statement}
 use Rattle.tour.proofs.over.Tie as tie
 
-accept-requires : tie.Need-accept-requires
-accept-requires c κs = search needs
+accept-layout-requires : tie.Need-accept-layout-requires
+accept-layout-requires c κs = search needs
 
 enum-told : tie.Need-enum-told
 enum-told c = search needs
@@ -18,7 +18,7 @@ verdict-refusal-requires : tie.Need-verdict-refusal-requires
 verdict-refusal-requires c κs = search needs
 
 returns : tie.Need-returns
-returns c = let a = c .before .before .before .before .before .before .args in tour-refused (a .kind) (a .m .now) _ (begun (a .first) (a .offset) (a .out .now)) (c .before .before .before .accept .ensures) (c .before .enum-told2 .given .1) (c .verdict-refusal .ensures)
+returns c = let a = c .before .before .before .before .before .before .args in tour-refused (a .layout) (a .m .now) _ (begun (a .first) (a .offset) (a .out .now)) (c .before .before .before .accept-layout .ensures) (c .before .enum-told2 .given .1) (c .verdict-refusal .ensures)
 
 walk-message-requires : tie.Need-walk-message-requires
 walk-message-requires c κs = search needs
@@ -27,13 +27,13 @@ same-length : tie.Need-same-length
 same-length c = search needs
 
 returns-2 : tie.Need-returns-2
-returns-2 c = let a = c .before .before .before .before .before .before .before .before .before .args in tour-accepted (a .kind) (a .m .now) (a .first) (a .offset) (a .out .now) (c .before .before .before .before .before .before .accept .ensures) (c .before .before .before .before .enum-told .given .1) (c .before .before .walk-message .ensures)
+returns-2 c = let a = c .before .before .before .before .before .before .before .before .before .args in tour-accepted (a .layout) (a .m .now) (a .first) (a .offset) (a .out .now) (c .before .before .before .before .before .before .accept-layout .ensures) (c .before .before .before .before .enum-told .given .1) (c .before .before .walk-message .ensures)
 
 pub over-spec : {M : Type 1} → statement M
 over-spec =
     tie.close
     (tie.spec
-    accept-requires
+    accept-layout-requires
     enum-told
     enum-told-2
     verdict-refusal-requires

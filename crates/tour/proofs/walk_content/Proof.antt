@@ -1,4 +1,4 @@
--- `tour::walk_content` meets its contract, kind by kind. Assumes nothing.
+-- `tour::walk_content` meets its contract, layout by layout. Assumes nothing.
 use Rattle.tour.proofs.Tours.{bytes-all}
 use Rattle.tour.proofs.Messages.{walked-1, walked-2, walked-3, walked-4}
 use borrow.Author.Needs.{needs}
@@ -21,19 +21,19 @@ same-length : tie.Need-same-length
 same-length c = search needs
 
 returns : tie.Need-returns
-returns c = let a = c .before .before .before .before .before .before .before .args in walked-1 (a .s .now) (bytes-all (a .s .now) (c .before .before .before .before .before .before .shared-slice-known .given)) (a .kind) (a .version) (c .before .before .before .before .match .keys1) (c .before .before .walk-login-request .ensures)
+returns c = let a = c .before .before .before .before .before .before .before .args in walked-1 (a .s .now) (bytes-all (a .s .now) (c .before .before .before .before .before .before .shared-slice-known .given)) (a .layout) (a .version) (c .before .before .before .before .match .keys1) (c .before .before .walk-login-request .ensures)
 
 same-length-2 : tie.Need-same-length-2
 same-length-2 c = search needs
 
 returns-2 : tie.Need-returns-2
-returns-2 c = let a = c .before .before .before .before .before .before .before .args in walked-2 (a .s .now) (bytes-all (a .s .now) (c .before .before .before .before .before .before .shared-slice-known .given)) (a .kind) (a .version) (c .before .before .before .before .match .keys2) (c .before .before .walk-login-response .ensures)
+returns-2 c = let a = c .before .before .before .before .before .before .before .args in walked-2 (a .s .now) (bytes-all (a .s .now) (c .before .before .before .before .before .before .shared-slice-known .given)) (a .layout) (a .version) (c .before .before .before .before .match .keys2) (c .before .before .walk-login-response .ensures)
 
 same-length-3 : tie.Need-same-length-3
 same-length-3 c = search needs
 
 returns-3 : tie.Need-returns-3
-returns-3 c = let a = c .before .before .before .before .before .before .before .args in walked-3 (a .s .now) (bytes-all (a .s .now) (c .before .before .before .before .before .before .shared-slice-known .given)) (a .kind) (a .version) (c .before .before .before .before .match .keys3) (c .before .before .walk-invocation .ensures)
+returns-3 c = let a = c .before .before .before .before .before .before .before .args in walked-3 (a .s .now) (bytes-all (a .s .now) (c .before .before .before .before .before .before .shared-slice-known .given)) (a .layout) (a .version) (c .before .before .before .before .match .keys3) (c .before .before .walk-invocation .ensures)
 
 same-length-4 : tie.Need-same-length-4
 same-length-4 c = search needs
@@ -42,7 +42,7 @@ returns-4 : tie.Need-returns-4
 returns-4 c =
     let a = c .before .before .before .before .before .before .before .args in
     let n = c .before .before .before .before .match .rest in
-    walked-4 (a .s .now) (bytes-all (a .s .now) (c .before .before .before .before .before .before .shared-slice-known .given)) (a .kind) (a .version) (n .0 .0 .1) (n .0 .1) (n .1) (c .before .before .walk-response .ensures)
+    walked-4 (a .s .now) (bytes-all (a .s .now) (c .before .before .before .before .before .before .shared-slice-known .given)) (a .layout) (a .version) (n .0 .0 .1) (n .0 .1) (n .1) (c .before .before .walk-response .ensures)
 
 pub walk-content-spec : {M : Type 1} → statement M
 walk-content-spec =

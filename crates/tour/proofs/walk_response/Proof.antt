@@ -1,28 +1,25 @@
--- `tour::walk_response` meets its contract: client data, the flags, and what they decide. Assumes nothing.
-use Prim.Native.Nat.{_%_}
-use lib.Dec.{eqb}
-use Rattle.format.specs.declared.Fault.the-variants.{Flags}
-use Rattle.format.proofs.Laws.{lawful-block}
-use Rattle.tour.specs.Parts.{statuses}
-use Rattle.tour.proofs.Tours.{bytes-all, walked-block}
-use Rattle.tour.proofs.Values.{walked-typed}
+-- `tour::walk_response` meets its contract: its head, and then its tables. Assumes nothing.
+use Rattle.format.specs.Message.{mostItems, first}
+use Rattle.format.proofs.Formats.{lawful-head, lawful-table}
+use Rattle.tour.proofs.Tours.{bytes-all}
+use Rattle.tour.proofs.Values.{walked-list}
 use Rattle.tour.proofs.Contents.{walked-then}
 use Rattle.tour.proofs.Tables.{walked-reply}
 use borrow.Author.Needs.{needs}
 use Rattle.tour.proofs.walk_response.Statement.{statement}
 use Rattle.tour.proofs.walk_response.Tie as tie
 
+walk-head-requires : tie.Need-walk-head-requires
+walk-head-requires c κs = search needs
+
+number-at-requires : tie.Need-number-at-requires
+number-at-requires c κs = search needs
+
 walk-fixed-requires : tie.Need-walk-fixed-requires
 walk-fixed-requires c κs = search needs
 
-byte-at-requires : tie.Need-byte-at-requires
-byte-at-requires c κs = search needs
-
-walk-fixed-requires-2 : tie.Need-walk-fixed-requires-2
-walk-fixed-requires-2 c κs = search needs
-
-walk-statuses-requires : tie.Need-walk-statuses-requires
-walk-statuses-requires c κs = search needs
+walk-tables-requires : tie.Need-walk-tables-requires
+walk-tables-requires c κs = search needs
 
 same-length : tie.Need-same-length
 same-length c = search needs
@@ -31,17 +28,17 @@ returns : tie.Need-returns
 returns c =
     let a = c .before .before .before .before .before .before .before .before .before .before .before .before .before .before .before .args in
     let s = a .s .now in
-    let b = bytes-all (a .s .now) (c .before .before .before .before .before .before .before .before .before .before .before .before .before .before .shared-slice-known .given) in
-    walked-reply s b (walked-then s b (lawful-block 8 22) (walked-block s 8 22 (c .before .before .before .before .before .before .before .before .before .before .before .walk-fixed .ensures))
-    (walked-typed (λ n. eqb (n % 32) 0) Flags 30 statuses s b (c .before .before .before .before .before .before .before .before .byte-at .ensures) (c .before .before .before .before .before .before .walk-fixed2 .ensures) (c .before .before .walk-statuses .ensures)))
+    let b = bytes-all s (c .before .before .before .before .before .before .before .before .before .before .before .before .before .before .shared-slice-known .given) in
+    walked-reply s b (a .timed) (walked-then s b (lawful-head (a .timed)) (c .before .before .before .before .before .before .before .before .before .before .before .walk-head .ensures)
+    (walked-list 2 mostItems 40 first lawful-table s b (c .before .before .before .before .before .before .before .before .number-at .ensures) (c .before .before .before .before .before .before .walk-fixed .ensures) (c .before .before .walk-tables .ensures)))
 
 pub walk-response-spec : {M : Type 1} → statement M
 walk-response-spec =
     tie.close
     (tie.spec
+    walk-head-requires
+    number-at-requires
     walk-fixed-requires
-    byte-at-requires
-    walk-fixed-requires-2
-    walk-statuses-requires
+    walk-tables-requires
     same-length
     returns)

@@ -21,7 +21,7 @@ returns : tie.Need-returns
 returns c =
     let a = c .before .before .before .before .before .before .args in
     let step = c .before .before .fixed-cell in
-    written (a .c) (c .before .before .before .before .fixed-of .result) (λ (t : ℕ) (v : Value). Stepped (cell t v) (a .st) (a .st .columns .types) (a .out .now) (step .result) (step .last .0)) (c .before .before .before .before .fixed-of .ensures) (step .ensures)
+    written (a .c) (c .before .before .before .before .fixed-of .result) (λ (t : ℕ) (v : Value). Stepped (cell t v) (a .st) (a .types .now) (a .out .now) (step .result) (step .last .0)) (c .before .before .before .before .fixed-of .ensures) (step .ensures)
 
 pub value-cell-spec : {M : Type 1} → statement M
 value-cell-spec = tie.close (tie.spec fixed-of-requires fixed-cell-requires same-length returns)

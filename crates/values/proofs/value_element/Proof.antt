@@ -1,5 +1,6 @@
 -- `values::value_element` meets its contract: the value taken apart is the value shown. Assumes nothing.
 use Prim.Native.Nat.{ℕ}
+use mathlib.Core.List.{[]}
 use Rattle.format.specs.Value.{Value}
 use Rattle.write.specs.Steps.{element}
 use Rattle.write.specs.Shown.{Stepped}
@@ -21,7 +22,7 @@ returns : tie.Need-returns
 returns c =
     let a = c .before .before .before .before .before .before .args in
     let step = c .before .before .fixed-element in
-    written (a .c) (c .before .before .before .before .fixed-of .result) (λ (t : ℕ) (v : Value). Stepped (element t v) (a .st) (a .st .columns .types) (a .out .now) (step .result) (step .last .0)) (c .before .before .before .before .fixed-of .ensures) (step .ensures)
+    written (a .c) (c .before .before .before .before .fixed-of .result) (λ (t : ℕ) (v : Value). Stepped (element t v) (a .st) [] (a .out .now) (step .result) (step .last .0)) (c .before .before .before .before .fixed-of .ensures) (step .ensures)
 
 pub value-element-spec : {M : Type 1} → statement M
 value-element-spec =

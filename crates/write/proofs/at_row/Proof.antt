@@ -1,6 +1,13 @@
 -- `write::at_row` meets its contract: part by part. Assumes nothing.
-use mathlib.Core.Path.{_≡_}
-use Rattle.write.specs.State.{sound}
+use Prim.Native.Nat.{ℕ}
+use mathlib.Core.Path.{_≡_, sym, ap, ap₂, _∙_}
+use native.Mathlib.Omega.{arith}
+use mathlib.Core.Bool.{_&&_}
+use lib.ListN.{length}
+use lib.Dec.{leb}
+use Rattle.format.specs.Message.{mostColumns}
+use Rattle.write.specs.State.{messageSound, sound}
+use Rattle.write.proofs.Seen.{counted}
 use borrow.Author.Needs.{needs}
 use Rattle.write.proofs.at_row.Statement.{statement}
 use Rattle.write.proofs.at_row.Tie as tie
@@ -17,8 +24,8 @@ ends-by-requires c κs = search needs
 ends-by-requires-2 : tie.Need-ends-by-requires-2
 ends-by-requires-2 c κs = search needs
 
-columns-count-requires : tie.Need-columns-count-requires
-columns-count-requires c κs = search needs
+columns-seen-requires : tie.Need-columns-seen-requires
+columns-seen-requires c κs = search needs
 
 at-most-requires : tie.Need-at-most-requires
 at-most-requires c κs = search needs
@@ -42,8 +49,16 @@ both-requires-5 : tie.Need-both-requires-5
 both-requires-5 c κs = search needs
 
 returns : tie.Need-returns
-unfolding sound
-returns c = cc
+unfolding sound messageSound
+returns c =
+    let a = c .before .before .before .before .before .before .before .before .before .before .before .before .before .args in
+    let h : length (a .types .now) ≡ mostColumns = omega arith in
+    let few = c .before .before .before .before .before .before .at-most .ensures ∙ ap (λ (n : ℕ). leb (a .st .«inner_count») n) (c .before .before .before .before .before .before .before .columns-seen .ensures ∙ sym (counted (a .st .columns) (a .types .now) h)) in
+    c .both5 .ensures ∙ ap₂ _&&_ (c .before .before .before .before .before .is-at .ensures)
+    (c .before .both4 .ensures ∙ ap₂ _&&_ (c .before .before .before .before .before .before .before .before .before .before .before .message-sound .ensures)
+    (c .before .before .both3 .ensures ∙ ap₂ _&&_ (c .before .before .before .before .before .before .before .before .before .before .outer-sound .ensures)
+    (c .before .before .before .both2 .ensures ∙ ap₂ _&&_ (c .before .before .before .before .before .before .before .before .before .ends-by .ensures)
+    (c .before .before .before .before .both .ensures ∙ ap₂ _&&_ (c .before .before .before .before .before .before .before .before .ends-by2 .ensures) few))))
 
 pub at-row-spec : {M : Type 1} → statement M
 at-row-spec =
@@ -53,7 +68,7 @@ at-row-spec =
     outer-sound-requires
     ends-by-requires
     ends-by-requires-2
-    columns-count-requires
+    columns-seen-requires
     at-most-requires
     is-at-requires
     both-requires

@@ -1,6 +1,7 @@
 -- `write::at_table` meets its contract: part by part. Assumes nothing.
-use mathlib.Core.Path.{_≡_}
-use Rattle.write.specs.State.{sound}
+use mathlib.Core.Path.{ap₂, _∙_}
+use mathlib.Core.Bool.{_&&_}
+use Rattle.write.specs.State.{messageSound, sound}
 use borrow.Author.Needs.{needs}
 use Rattle.write.proofs.at_table.Statement.{statement}
 use Rattle.write.proofs.at_table.Tie as tie
@@ -27,8 +28,10 @@ both-requires-3 : tie.Need-both-requires-3
 both-requires-3 c κs = search needs
 
 returns : tie.Need-returns
-unfolding sound
-returns c = cc
+unfolding sound messageSound
+returns c =
+    c .both3 .ensures ∙ ap₂ _&&_ (c .before .before .before .is-at .ensures)
+    (c .before .both2 .ensures ∙ ap₂ _&&_ (c .before .before .before .before .before .before .message-sound .ensures) (c .before .before .both .ensures ∙ ap₂ _&&_ (c .before .before .before .before .before .outer-sound .ensures) (c .before .before .before .before .ends-by .ensures)))
 
 pub at-table-spec : {M : Type 1} → statement M
 at-table-spec =

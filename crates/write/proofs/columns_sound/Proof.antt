@@ -15,19 +15,19 @@ use Rattle.write.proofs.columns_sound.Statement.{statement}
 use Rattle.write.proofs.columns_sound.Tie as tie
 
 abbrev Inv-loop : tie.InvT-loop
-Inv-loop n types fine₀ i₀ fine i = (i ≤ n) × (n ≤ 64) × (fine ≡ allColumns (take i types))
+Inv-loop n types lent fine₀ i₀ fine i = (i ≤ n) × (n ≤ mostColumns) × (fine ≡ allColumns (take i types))
 
 abbrev μ-loop : tie.MeasureT-loop
-μ-loop n types fine₀ i₀ fine i = n - i
+μ-loop n types lent fine₀ i₀ fine i = n - i
 
 returns : tie.Need-returns Inv-loop μ-loop
-returns c = let e = lt-leb (c .before .args .c .n) mostColumns (c .if1 .taken) in sym (rw e)
+returns c = let e = lt-leb (c .before .args .n) mostColumns (c .if1 .taken) in sym (rw e)
 
 loop-holds : tie.Need-loop-holds Inv-loop μ-loop
 loop-holds c = (search needs, c .before .if1 .left, refl)
 
-array-read-is-column : tie.Need-array-read-is-column Inv-loop μ-loop
-array-read-is-column c = search needs
+shared-slice-read-is-column : tie.Need-shared-slice-read-is-column Inv-loop μ-loop
+shared-slice-read-is-column c = search needs
 
 is-column-requires : tie.Need-is-column-requires Inv-loop μ-loop
 is-column-requires c κs = search needs
@@ -43,19 +43,19 @@ loop-less c = search needs
 
 loop-again : tie.Need-loop-again Inv-loop μ-loop
 loop-again c =
-    let x = c .before .before .before .before .before .before .args .c in
-    let l = c .before .before .before .loop in
-    let h : length (x .types) ≡ 64 = search needs in
-    (search needs, l .inv .1, c .both .ensures ∙ ap₂ _&&_ (c .before .is-column .ensures) (l .inv .2) ∙ all-next (x .types) (l .i) (omega arith))
+    let a = c .before .before .before .before .before .before .before .args in
+    let l = c .before .before .before .before .loop in
+    let h : length (a .types .now) ≡ mostColumns = omega arith in
+    (search needs, l .inv .1, c .both .ensures ∙ ap₂ _&&_ (c .before .is-column .ensures) (l .inv .2) ∙ all-next (a .types .now) (l .i) (omega arith))
 
 returns-2 : tie.Need-returns-2 Inv-loop μ-loop
 returns-2 c =
-    let x = c .before .before .before .before .args .c in
+    let a = c .before .before .before .before .args in
     let l = c .before .loop in
-    let h : length (x .types) ≡ 64 = search needs in
-    let e = le-leb (x .n) mostColumns (l .inv .1) in
-    let same : l .i ≡ x .n = omega arith in
-    l .inv .2 ∙ ap (λ (n : ℕ). allColumns (take n (x .types))) same ∙ sym (rw (e, length-take-le (x .n) (x .types) (omega arith), e))
+    let h : length (a .types .now) ≡ mostColumns = omega arith in
+    let e = le-leb (a .n) mostColumns (l .inv .1) in
+    let same : l .i ≡ a .n = omega arith in
+    l .inv .2 ∙ ap (λ (n : ℕ). allColumns (take n (a .types .now))) same ∙ sym (rw (e, length-take-le (a .n) (a .types .now) (omega arith), e))
 
 pub columns-sound-spec : {M : Type 1} → statement M
 columns-sound-spec =
@@ -65,7 +65,7 @@ columns-sound-spec =
     μ-loop
     returns
     loop-holds
-    array-read-is-column
+    shared-slice-read-is-column
     is-column-requires
     both-requires
     add-i

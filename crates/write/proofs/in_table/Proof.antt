@@ -4,11 +4,11 @@ use borrow.Author.Needs.{needs}
 use Rattle.write.proofs.in_table.Statement.{statement}
 use Rattle.write.proofs.in_table.Tie as tie
 
-columns-count-requires : tie.Need-columns-count-requires
-columns-count-requires c κs = search needs
+columns-seen-requires : tie.Need-columns-seen-requires
+columns-seen-requires c κs = search needs
 
 returns : tie.Need-returns
 returns c = cc
 
 pub in-table-spec : {M : Type 1} → statement M
-in-table-spec = tie.close (tie.spec columns-count-requires returns)
+in-table-spec = tie.close (tie.spec columns-seen-requires returns)
