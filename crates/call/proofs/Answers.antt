@@ -17,13 +17,15 @@ use Rattle.put.specs.Put.{sized}
 use Rattle.format.proofs.Numbers.{length-numBytes}
 use Rattle.format.proofs.Results.{and-true-both}
 use Rattle.write.specs.declared.Answer.{Answer}
-use Rattle.write.specs.declared.Stage.the-variants.{Call, Array}
-use Rattle.write.specs.State.{State, isElement, atStage}
-use Rattle.write.specs.Steps.{answerAt, answerOf, plan, also, test, textFault, valueFault, nullParam, oneParam, bytesParam, openArray, element, closeArray, finishCall}
+use Rattle.steps.specs.declared.Stage.the-variants.{Call, Array}
+use Rattle.steps.specs.State.{State, isElement, atStage}
+use Rattle.steps.specs.Plans.{answerOf, also, test}
+use Rattle.steps.specs.Arguments.{textFault, valueFault}
+use Rattle.steps.specs.Steps.{answerAt, plan, nullParam, oneParam, bytesParam, openArray, element, closeArray, finishCall}
 use Rattle.write.specs.Shown.{shownAnswer}
-use Rattle.write.proofs.Params.{open-bytes}
+use Rattle.steps.proofs.Params.{open-bytes}
 use Rattle.write.proofs.Bytes.{one-bytes, fixed-bytes, body-bytes, array-bytes}
-use Rattle.write.proofs.Back.{also-fine, test-fine}
+use Rattle.steps.proofs.Back.{also-fine, test-fine}
 use Rattle.write.proofs.Taken.{answered}
 use Rattle.call.proofs.Written.{null-bytes}
 

@@ -11,9 +11,9 @@ use Rattle.format.specs.Value.{tNull}
 use Rattle.format.specs.Message.{null, argument, param}
 use Rattle.format.proofs.Numbers.{length-numBytes}
 use Rattle.put.specs.Put.{sized}
-use Rattle.write.specs.State.{State}
-use Rattle.write.specs.Steps.{plan, beginCall}
-use Rattle.write.proofs.Call.{begin-bytes}
+use Rattle.steps.specs.State.{State}
+use Rattle.steps.specs.Steps.{plan, beginCall}
+use Rattle.steps.proofs.Call.{begin-bytes}
 
 pub null-bytes : param .bytes (record { type = tNull; argument = null }) ≡ numBytes 1 1
 unfolding param argument into both ruled number nothing

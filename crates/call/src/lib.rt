@@ -1,8 +1,8 @@
 // The steps that write an invocation.
 use format::Fault;
+use steps::Stage;
 use write::Answer;
 use write::Check;
-use write::Stage;
 use write::State;
 use write::Step;
 ghost use mathlib.Core.Path.{_≡_};
@@ -12,8 +12,9 @@ ghost use mathlib.Core.List.{[]};
 ghost use lib.ListN.{length};
 ghost use Rattle.format.specs.Value.{fixed, body};
 ghost use Rattle.put.specs.Put.{put, optional, sized};
-ghost use Rattle.write.specs.State.{closed};
-ghost use Rattle.write.specs.Steps.{answerOf, plan, beginCall, nullParam, oneParam, bytesParam, openArray, element, closeArray, finishCall};
+ghost use Rattle.steps.specs.State.{closed};
+ghost use Rattle.steps.specs.Plans.{answerOf};
+ghost use Rattle.steps.specs.Steps.{plan, beginCall, nullParam, oneParam, bytesParam, openArray, element, closeArray, finishCall};
 ghost use Rattle.write.specs.Shown.{zero, shownAnswer, Stepped};
 
 // Begins an invocation; its length and its count hold zeros until it is finished.

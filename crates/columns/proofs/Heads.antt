@@ -14,14 +14,15 @@ use Rattle.format.specs.Message.{mostColumns, mostItems}
 use Rattle.put.specs.Put.{put}
 use Rattle.write.specs.declared.Answer.{Answer}
 use Rattle.write.specs.declared.Answer.the-variants.{Reached, No}
-use Rattle.write.specs.declared.Stage.the-variants.{Reply}
+use Rattle.steps.specs.declared.Stage.the-variants.{Reply}
 use Rattle.write.specs.declared.State.{State as Code}
 use Rattle.write.specs.declared.Step.{Step as Came}
-use Rattle.write.specs.State.{atStage, closed}
-use Rattle.write.specs.Steps.{Plan, also, test}
+use Rattle.steps.specs.State.{State, atStage, closed}
+use Rattle.steps.specs.Plans.{Plan, also, test}
+use Rattle.steps.specs.Steps.{messageEnd}
 use Rattle.write.specs.Shown.{seen, shownAnswer, verdictOf}
-use Rattle.write.proofs.Accepted.{Accepted, answer-ok}
-use Rattle.write.proofs.Back.{also-fine, test-fine}
+use Rattle.steps.proofs.Accepted.{Accepted, answer-ok}
+use Rattle.steps.proofs.Back.{also-fine, test-fine}
 use Rattle.columns.specs.declared.Survey.{Survey}
 use Rattle.columns.specs.declared.Walk.{Walk}
 use Rattle.columns.specs.declared.Head.{Head}
@@ -45,11 +46,12 @@ module _ (st : Code) (s : Survey) (size : ℕ) where
     pub fits : n ≤ size
 
   -- a plan that asks the same
-  abbrev asks : Plan
+  abbrev asks : Plan State
   asks = record {
     permitted = atStage Reply (seen st []) size;
     faults = surveyFault s;
     limits = leb (st .count + 1) mostItems;
+    most = messageEnd;
     at = st .position;
     bytes = replicate (15 + (s .n + s .size)) 0;
     fills = [];

@@ -18,9 +18,10 @@ use Rattle.format.specs.Message.{metadata, columnType, third, mostColumns}
 use Rattle.format.proofs.Numbers.{length-numBytes}
 use Rattle.put.specs.Put.{sized}
 use Rattle.put.proofs.Laws.{sized-some}
-use Rattle.write.specs.State.{allColumns}
-use Rattle.write.specs.Steps.{also, test, placed, nameFault, nameFaults, typesOf, metadataOf}
-use Rattle.write.proofs.Back.{also-fine, test-fine}
+use Rattle.steps.specs.State.{allColumns}
+use Rattle.steps.specs.Plans.{also, test, placed}
+use Rattle.steps.specs.Arguments.{nameFault, nameFaults, typesOf, metadataOf}
+use Rattle.steps.proofs.Back.{also-fine, test-fine}
 use Rattle.columns.specs.declared.Column.{Column as Entry}
 use Rattle.columns.specs.Entries.{nameOf, columnsOf, typesIn, typeBytes, nameBytes, namesSize}
 

@@ -8,7 +8,7 @@ use Rattle.format.specs.declared.Fault.the-variants.{Name}
 use Rattle.format.specs.Result.{pick}
 use Rattle.format.specs.Format.{bad}
 use Rattle.format.specs.Value.{asciiFrom}
-use Rattle.write.specs.Steps.{placed}
+use Rattle.steps.specs.Plans.{placed}
 
 -- where a name's bytes are counted from is not told
 pub placed-from : (p j k : ℕ) (bs : List ℕ) → placed p (asciiFrom j bs) ≡ placed p (asciiFrom k bs)

@@ -21,11 +21,13 @@ use Rattle.put.proofs.Laws.{put-length, twice}
 use Rattle.write.specs.declared.Answer.the-variants.{Reached, No}
 use Rattle.write.specs.declared.State.{State as Code}
 use Rattle.write.specs.declared.Step.{Step as Came}
-use Rattle.write.specs.State.{State, allColumns}
-use Rattle.write.specs.Steps.{Plan, Out, Step, answerAt, answerOf, outOf, carry, step, also, test, nameFaults, typesOf, metadataOf, plan, openTable}
+use Rattle.steps.specs.State.{State, allColumns}
+use Rattle.steps.specs.Plans.{Plan, Out, answerWithin, answerOf, outOf, carry, also, test}
+use Rattle.steps.specs.Arguments.{nameFaults, typesOf, metadataOf}
+use Rattle.steps.specs.Steps.{Step, step, plan, openTable}
 use Rattle.write.specs.Shown.{seen, shown, shownAnswer, typesAfter, Stepped, Opened}
-use Rattle.write.proofs.Accepted.{Accepted, step-ok, answer-ok}
-use Rattle.write.proofs.Back.{also-fine, test-fine}
+use Rattle.steps.proofs.Accepted.{Accepted, step-ok, answer-ok}
+use Rattle.steps.proofs.Back.{also-fine, test-fine}
 use Rattle.write.proofs.Taken.{step-refused, step-taken}
 use Rattle.columns.specs.declared.Column.{Column as Entry}
 use Rattle.columns.specs.declared.Survey.{Survey}
@@ -38,10 +40,10 @@ use Rattle.columns.proofs.Surveys.{Found, found, fault-same}
 use Rattle.columns.proofs.Pages.{none-put, none-fit, all-fit, all-put}
 
 -- what the tests give is what the plan asks; its length is asked only where nothing else refuses
-answer-same : (p : Plan) (size : ℕ) {v : Verdict} {n : ℕ} → v ≡ p .faults → (p .faults ≡ fine → n ≡ length (p .bytes)) → answerAt (p .permitted) v (p .limits) (p .at) n size ≡ answerOf p size
+answer-same : {S : Type 0} (p : Plan S) (size : ℕ) {v : Verdict} {n : ℕ} → v ≡ p .faults → (p .faults ≡ fine → n ≡ length (p .bytes)) → answerWithin (p .most) (p .permitted) v (p .limits) (p .at) n size ≡ answerOf p size
 answer-same p size {v} {n} e h = rw e (go (p .permitted) (p .faults) h)
   where
-    go : (u : Bool) (w : Verdict) → (w ≡ fine → n ≡ length (p .bytes)) → answerAt u w (p .limits) (p .at) n size ≡ answerAt u w (p .limits) (p .at) (length (p .bytes)) size
+    go : (u : Bool) (w : Verdict) → (w ≡ fine → n ≡ length (p .bytes)) → answerWithin (p .most) u w (p .limits) (p .at) n size ≡ answerWithin (p .most) u w (p .limits) (p .at) (length (p .bytes)) size
     go true fine h = rw (h refl)
     go true (bad x q) h = refl
     go false w h = refl
@@ -50,7 +52,7 @@ step-answer : (s : Step) (st : State) (b : List ℕ) → step s st b .answer ≡
 unfolding step carry
 step-answer s st b = go (answerOf (plan s st (length b)) (length b)) (plan s st (length b))
   where
-    go : (r : Res ℕ) (p : Plan) → outOf r p st b .answer ≡ r
+    go : (r : Res ℕ) (p : Plan State) → outOf r p st b .answer ≡ r
     go (ok n) p = refl
     go (no f q) p = refl
 
@@ -86,7 +88,7 @@ module _ (st : Code) (status : ℕ) (names : List ℕ) (es : List Entry) (b type
   abbrev opens-by : Step
   opens-by = openTable status (columnsOf es names)
 
-  abbrev asks : Plan
+  abbrev asks : Plan State
   asks = plan opens-by (seen st []) (length b)
 
   abbrev page : Res ℕ → Page
@@ -150,7 +152,7 @@ module _ (st : Code) (status : ℕ) (names : List ℕ) (es : List Entry) (b type
       let next : openedAt st n (survey .n) ≡ shown (asks .next n) = ap (openedAt st n) columns in
       let after : step opens-by (seen st []) b ≡ _ = step-ok opens-by (seen st []) b n (step-answer opens-by (seen st []) b ∙ e) .1 in
       let set : typesAfter (step opens-by (seen st []) b .answer) (step opens-by (seen st []) b .state .outer .types) types ≡ sets types 0 (typesIn es)
-      = ap (λ (o : Out). typesAfter (o .answer) (o .state .outer .types) types) after ∙ ap (sets types 0) (types-same es names) in (
+      = ap (λ (o : Out State). typesAfter (o .answer) (o .state .outer .types) types) after ∙ ap (sets types 0) (types-same es names) in (
         all-fit names (length b₂) _ es count (s .stand) (omega arith) (omega arith) (omega arith),
         (step-taken opens-by st b [] (ap shownAnswer (sym e)) refl next out, all .1 ∙ sym set),
       )

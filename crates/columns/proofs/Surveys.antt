@@ -16,8 +16,9 @@ use Rattle.format.specs.Value.{isColumn, mostBytes}
 use Rattle.format.specs.Message.{mostColumns}
 use Rattle.write.specs.declared.Check.{Check}
 use Rattle.write.specs.declared.Check.the-variants.{Fine, Bad}
-use Rattle.write.specs.State.{allColumns}
-use Rattle.write.specs.Steps.{also, test, nameFault, nameFaults, typesOf}
+use Rattle.steps.specs.State.{allColumns}
+use Rattle.steps.specs.Plans.{also, test}
+use Rattle.steps.specs.Arguments.{nameFault, nameFaults, typesOf}
 use Rattle.write.specs.Shown.{verdictOf}
 use Rattle.columns.specs.declared.Column.{Column as Entry}
 use Rattle.columns.specs.declared.Survey.{Survey}

@@ -10,8 +10,9 @@ use Rattle.format.specs.Number.{numBytes}
 use Rattle.format.specs.Format.{Verdict}
 use Rattle.format.specs.Message.{mostColumns}
 use Rattle.put.specs.Put.{sized}
-use Rattle.write.specs.State.{allColumns}
-use Rattle.write.specs.Steps.{Column, also, test, nameFaults, typesOf}
+use Rattle.steps.specs.State.{allColumns}
+use Rattle.steps.specs.Plans.{also, test}
+use Rattle.steps.specs.Arguments.{Column, nameFaults, typesOf}
 use Rattle.columns.specs.declared.Column.{Column as Entry}
 
 -- what stands where an entry is not told

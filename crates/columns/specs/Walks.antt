@@ -14,10 +14,12 @@ use Rattle.put.specs.Put.{put}
 use Rattle.write.specs.declared.Answer.the-variants.{Reached, No}
 use Rattle.write.specs.declared.Check.{Check}
 use Rattle.write.specs.declared.Check.the-variants.{Fine, Bad}
-use Rattle.write.specs.declared.Stage.the-variants.{Reply, Table}
+use Rattle.steps.specs.declared.Stage.the-variants.{Reply, Table}
 use Rattle.write.specs.declared.State.{State as Code}
-use Rattle.write.specs.State.{atStage}
-use Rattle.write.specs.Steps.{answerAt, also, test, nameFault}
+use Rattle.steps.specs.State.{atStage}
+use Rattle.steps.specs.Plans.{also, test}
+use Rattle.steps.specs.Arguments.{nameFault}
+use Rattle.steps.specs.Steps.{answerAt}
 use Rattle.write.specs.Shown.{seen, verdictOf}
 use Rattle.columns.specs.declared.Column.{Column as Entry}
 use Rattle.columns.specs.declared.Survey.{Survey}

@@ -2,10 +2,10 @@
 // then what stands around them is written, and then they are, one by one again: so a table costs what its columns cost, wherever they are lent.
 use format::Fault;
 use format::Refusal;
+use steps::Stage;
 use write::Answer;
 use write::COLUMNS;
 use write::Check;
-use write::Stage;
 use write::State;
 use write::Step;
 ghost use mathlib.Core.Path.{_≡_};
@@ -15,7 +15,8 @@ ghost use lib.Dec.{leb};
 ghost use Rattle.format.specs.Value.{ascii};
 ghost use Rattle.format.specs.Message.{mostColumns, mostItems};
 ghost use Rattle.put.specs.Put.{put};
-ghost use Rattle.write.specs.Steps.{placed, nameFault};
+ghost use Rattle.steps.specs.Plans.{placed};
+ghost use Rattle.steps.specs.Arguments.{nameFault};
 ghost use Rattle.write.specs.Shown.{shownAnswer, verdictOf};
 ghost use Rattle.columns.specs.Entries.{nameOf, nameBytes};
 ghost use Rattle.columns.specs.Walks.{noneAt, nextFault, added, Bounded, surveyFault, headAnswer, headBytes, openedAt, headOf, headOut, Fits, moved, columnOut, columnTypes};

@@ -3,7 +3,7 @@ use Prim.Native.Nat.{ℕ}
 use mathlib.Core.Bool.{Bool}
 use mathlib.Core.List.{List}
 use Rattle.put.specs.Put.{optional}
-use Rattle.write.specs.Steps.{Opening}
+use Rattle.steps.specs.Arguments.{Opening}
 
 -- the fields of a response before its table count
 abbrev pub opening : List ℕ → ℕ → ℕ → Bool → List ℕ → ℕ → Bool → List ℕ → ℕ → List ℕ → Opening

@@ -15,7 +15,7 @@ ghost use mathlib.Core.Path.{_≡_};
 ghost use lib.ListN.{length};
 ghost use Rattle.cards.specs.Answers.{askOpen};
 ghost use Rattle.query.specs.Answers.{toldTable, askTable, toldColumn, askColumn, toldPosition, askPosition, toldCell, askCell, toldPart, askCellSpan, partIn};
-ghost use Rattle.write.specs.Steps.{openTable};
+ghost use Rattle.steps.specs.Steps.{openTable};
 ghost use Rattle.write.specs.Shown.{Opened};
 ghost use Rattle.columns.specs.Entries.{columnsOf};
 ghost use Rattle.columns.specs.Walks.{Bounded, addAll, putAll, FitsAll};

@@ -23,10 +23,12 @@ use Rattle.write.specs.declared.Answer.{Answer}
 use Rattle.write.specs.declared.Answer.the-variants.{Reached, No}
 use Rattle.write.specs.declared.Check.{Check}
 use Rattle.write.specs.declared.Check.the-variants.{Fine, Bad}
-use Rattle.write.specs.State.{closed}
+use Rattle.steps.specs.State.{State, closed}
 use Rattle.write.specs.Shown.{zero, shownAnswer, verdictOf}
-use Rattle.write.specs.Steps.{Plan, answerAt, answerOf, outOf, carry, fillAll, loginPlan, also, test, textFault, hashFault, says, writtenRequest, writtenResponse, Welcome, requestFault, responseFault}
-use Rattle.write.proofs.Back.{also-fine, test-fine}
+use Rattle.steps.specs.Plans.{Plan, answerOf, outOf, carry, fillAll, also, test}
+use Rattle.steps.specs.Arguments.{textFault, hashFault, writtenRequest, writtenResponse, Welcome, requestFault, responseFault}
+use Rattle.steps.specs.Steps.{answerAt, loginPlan, says}
+use Rattle.steps.proofs.Back.{also-fine, test-fine}
 use Rattle.write.proofs.Taken.{taken as accepts}
 use Rattle.login.specs.Told.{Told, hashPart, serverOf}
 
@@ -172,7 +174,7 @@ not-fine e f g = let z : bad _ _ ≡ fine = sym (ap verdictOf e) ∙ f ∙ g in 
 pub puts-whole : (b : List ℕ) (at : ℕ) (bs : List ℕ) {m : ℕ} {c : List ℕ} → at + length bs ≤ length b → (m ≡ at + length bs) × (c ≡ put b at bs) → Puts b at (length bs) bs m c
 puts-whole b at bs f e = puts b at (length bs) bs refl f e
 
-module _ (p : Plan) (b : List ℕ) where
+module _ (p : Plan State) (b : List ℕ) where
   -- a login that is refused, and one that is taken
   pub refused : {a : Answer} {x : Refusal} → a ≡ shownAnswer (answerOf p (length b)) → a ≡ No x → Told (carry p (closed 0) b) a b
   unfolding carry

@@ -8,11 +8,13 @@ use Rattle.format.specs.Result.{pick}
 use Rattle.format.specs.Format.{present}
 use Rattle.format.specs.Message.{edition, Server}
 use Rattle.write.specs.declared.Answer.{Answer}
-use Rattle.write.specs.Steps.{Out, Welcome}
+use Rattle.steps.specs.State.{State}
+use Rattle.steps.specs.Plans.{Out}
+use Rattle.steps.specs.Arguments.{Welcome}
 use Rattle.write.specs.Shown.{shownAnswer}
 
 -- a login comes to r and leaves the buffer b: both are what the definition gives
-abbrev pub Told : Out → Answer → List ℕ → Type 0
+abbrev pub Told : Out State → Answer → List ℕ → Type 0
 Told o r b = (r ≡ shownAnswer (o .answer)) × (b ≡ o .buffer)
 
 abbrev pub welcome : ℕ → ℕ → ℕ → ℕ → List ℕ → Welcome

@@ -13,7 +13,9 @@ ghost use Rattle.format.specs.Format.{fine};
 ghost use Rattle.format.specs.Value.{mostBytes};
 ghost use Rattle.format.specs.Message.{aLoginRequest, aLoginResponse, messageBytes, hashSize, server};
 ghost use Rattle.put.specs.Put.{put};
-ghost use Rattle.write.specs.Steps.{answerOf, loginPlan, says, hashFault, requestFault, responseFault, writtenRequest, writtenResponse, loginRequest, loginResponse};
+ghost use Rattle.steps.specs.Plans.{answerOf};
+ghost use Rattle.steps.specs.Arguments.{hashFault, requestFault, responseFault, writtenRequest, writtenResponse};
+ghost use Rattle.steps.specs.Steps.{loginPlan, says, loginRequest, loginResponse};
 ghost use Rattle.write.specs.Shown.{shownAnswer, verdictOf};
 ghost use Rattle.login.specs.Told.{Told, welcome, serverOf, hashPart};
 
@@ -145,7 +147,7 @@ fn request_fault(version: u8, hashing: u8, service: &[u8], user: &[u8], hash: &[
 }
 
 fn hash_version_fault(version: u8, hashing: u8) -> Check
-    ensures { λ r. ⌜ verdictOf r ≡ pick (eqb version 1) (Rattle.write.specs.Steps.test (leb hashing 1) Version 0) fine ⌝ }
+    ensures { λ r. ⌜ verdictOf r ≡ pick (eqb version 1) (Rattle.steps.specs.Plans.test (leb hashing 1) Version 0) fine ⌝ }
 {
     if version != 1 {
         return Check::Fine;

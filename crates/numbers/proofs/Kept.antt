@@ -6,8 +6,9 @@ use Rattle.format.specs.Result.{Res, ok, no}
 use Rattle.write.specs.declared.State.{State}
 use Rattle.write.specs.declared.Answer.{Answer}
 use Rattle.write.specs.declared.Step.{Step as Came}
-use Rattle.write.specs.State as definition
-use Rattle.write.specs.Steps.{Out, Step, step}
+use Rattle.steps.specs.State as definition
+use Rattle.steps.specs.Plans.{Out}
+use Rattle.steps.specs.Steps.{Step, step}
 use Rattle.write.specs.Shown.{seen, shownAnswer, answered, came, typesAfter, Stepped, Opened}
 use Rattle.numbers.specs.Packed.{packed, itself}
 use Rattle.numbers.specs.Stored.{stateOf, toldAnswer, kept, listed, WroteFrom, Wrote, WroteAll, WroteLogin}
@@ -44,5 +45,5 @@ told-shown : (x : Res ℕ) → toldAnswer (shownAnswer x) ≡ x
 told-shown (ok n) = refl
 told-shown (no f p) = refl
 
-pub wrote-login : (o : Out) {a : Answer} {r : ℕ} {b : List ℕ} → (a ≡ shownAnswer (o .answer)) × (b ≡ o .buffer) → r ≡ packed itself (toldAnswer a) → WroteLogin o r b
+pub wrote-login : (o : Out definition.State) {a : Answer} {r : ℕ} {b : List ℕ} → (a ≡ shownAnswer (o .answer)) × (b ≡ o .buffer) → r ≡ packed itself (toldAnswer a) → WroteLogin o r b
 wrote-login o told packs = (packs ∙ ap (λ (z : Answer). packed itself (toldAnswer z)) (told .0) ∙ ap (packed itself) (told-shown (o .answer)), told .1)

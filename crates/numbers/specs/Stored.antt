@@ -5,14 +5,15 @@ use mathlib.Core.List.{List, [], _∷_}
 use lib.ListN.{getD}
 use lib.Dec.{ltb, eqb}
 use Rattle.format.specs.Result.{Res, ok, no, pick}
-use Rattle.write.specs.declared.Stage.{Stage}
-use Rattle.write.specs.declared.Stage.the-variants.{Closed, Call, Array, Reply, Table, Row}
+use Rattle.steps.specs.declared.Stage.{Stage}
+use Rattle.steps.specs.declared.Stage.the-variants.{Closed, Call, Array, Reply, Table, Row}
 use Rattle.write.specs.declared.State.{State}
-use Rattle.write.specs.State as definition
+use Rattle.steps.specs.State as definition
 use Rattle.write.specs.declared.Answer.{Answer}
 use Rattle.write.specs.declared.Answer.the-variants.{Reached, No}
-use Rattle.write.specs.State.{stageNumber}
-use Rattle.write.specs.Steps.{Out, Step, step}
+use Rattle.steps.specs.State.{stageNumber}
+use Rattle.steps.specs.Plans.{Out}
+use Rattle.steps.specs.Steps.{Step, step}
 use Rattle.write.specs.Shown.{seen, shown, typesAfter}
 use Rattle.numbers.specs.Packed.{packed, itself}
 
@@ -75,5 +76,5 @@ WroteAll s ns types b r ns′ types′ b′ =
     Wrote s ns [] b r ns′ b′ × (types′ ≡ typesAfter (o .answer) (o .state .outer .types) types)
 
 -- and for a call that has no state
-abbrev pub WroteLogin : Out → ℕ → List ℕ → Type 0
+abbrev pub WroteLogin : Out definition.State → ℕ → List ℕ → Type 0
 WroteLogin o r b = (r ≡ packed itself (o .answer)) × (b ≡ o .buffer)

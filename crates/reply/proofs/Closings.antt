@@ -1,12 +1,12 @@
 -- Where the step that finishes a response fills: in front of the position, and so in the buffer.
 use Prim.Native.Nat.{ℕ, _+_, _≤_}
 use native.Mathlib.Omega.{arith}
-use Rattle.write.specs.declared.Stage.the-variants.{Reply}
-use Rattle.write.specs.State.{State}
-use Rattle.write.specs.Steps.{plan, finishReply}
-use Rattle.write.proofs.Accepted.{Accepted}
+use Rattle.steps.specs.declared.Stage.the-variants.{Reply}
+use Rattle.steps.specs.State.{State}
+use Rattle.steps.specs.Steps.{plan, finishReply}
+use Rattle.steps.proofs.Accepted.{Accepted}
 use Rattle.write.proofs.Filled.{Fills, fills}
-use Rattle.write.proofs.Sound.{at-stage, between-reply}
+use Rattle.steps.proofs.Sound.{at-stage, between-reply}
 
 module _ (st : State) (size n : ℕ) where
   pub reply-fills : Accepted (plan finishReply st size) size n → Fills 0 4 (st .position) size × Fills (st .countAt) 2 (st .position) size

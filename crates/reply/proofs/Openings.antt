@@ -24,10 +24,12 @@ use Rattle.write.specs.declared.Answer.{Answer}
 use Rattle.write.specs.declared.Answer.the-variants.{Reached, No}
 use Rattle.write.specs.declared.Check.{Check}
 use Rattle.write.specs.declared.Check.the-variants.{Bad}
-use Rattle.write.specs.Steps.{Step, answerAt, answerOf, plan, also, test, textFault, nullTextFault, openingFault, opened, says, beginReply}
+use Rattle.steps.specs.Plans.{answerOf, also, test}
+use Rattle.steps.specs.Arguments.{textFault, nullTextFault, openingFault, opened}
+use Rattle.steps.specs.Steps.{Step, answerAt, plan, says, beginReply}
 use Rattle.write.specs.Shown.{zero, seen, shownAnswer, verdictOf, Stepped}
-use Rattle.write.proofs.Back.{also-fine, test-fine}
-use Rattle.write.proofs.Reply.{head, begin-bytes}
+use Rattle.steps.proofs.Back.{also-fine, test-fine}
+use Rattle.steps.proofs.Reply.{head, begin-bytes}
 use Rattle.write.proofs.Taken.{answered, step-refused, step-accepted}
 use Rattle.reply.specs.declared.Head.{Head}
 use Rattle.reply.specs.Opening.{openingOf, beginFault, letIn, statusPart, appPart, exceptionPart, beginSize, frontBytes, middleBytes, endBytes, beginBytes}

@@ -10,7 +10,8 @@ use Rattle.format.specs.Number.{numBytes}
 use Rattle.format.specs.Format.{Verdict}
 use Rattle.format.specs.Message.{flagged}
 use Rattle.put.specs.Put.{optional, sized}
-use Rattle.write.specs.Steps.{Opening, also, test, openingFault}
+use Rattle.steps.specs.Plans.{also, test}
+use Rattle.steps.specs.Arguments.{Opening, openingFault}
 use Rattle.reply.specs.declared.Head.{Head}
 
 abbrev pub openingOf : Head → List ℕ → List ℕ → List ℕ → List ℕ → Opening

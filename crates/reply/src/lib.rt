@@ -1,8 +1,8 @@
 // The steps that write a response.
 use format::Fault;
+use steps::Stage;
 use write::Answer;
 use write::Check;
-use write::Stage;
 use write::State;
 use write::Step;
 ghost use mathlib.Core.Path.{_≡_};
@@ -15,7 +15,9 @@ ghost use Rattle.format.specs.Format.{fine};
 ghost use Rattle.format.specs.Value.{anything};
 ghost use Rattle.format.specs.Message.{flagged};
 ghost use Rattle.put.specs.Put.{put, optional};
-ghost use Rattle.write.specs.Steps.{answerAt, answerOf, plan, nullTextFault, beginReply, finishReply};
+ghost use Rattle.steps.specs.Plans.{answerOf};
+ghost use Rattle.steps.specs.Arguments.{nullTextFault};
+ghost use Rattle.steps.specs.Steps.{answerAt, plan, beginReply, finishReply};
 ghost use Rattle.write.specs.Shown.{zero, seen, shownAnswer, verdictOf, Stepped};
 ghost use Rattle.reply.specs.Opening.{openingOf, beginFault, beginSize, letIn, statusPart, appPart, exceptionPart, frontBytes, middleBytes, endBytes, beginBytes};
 

@@ -18,13 +18,15 @@ use Rattle.format.proofs.Numbers.{length-numBytes}
 use Rattle.format.proofs.Results.{and-true-both}
 use Rattle.put.specs.Put.{sized}
 use Rattle.write.specs.declared.Answer.{Answer}
-use Rattle.write.specs.declared.Stage.the-variants.{Row}
+use Rattle.steps.specs.declared.Stage.the-variants.{Row}
 use Rattle.write.specs.declared.State.{State as Code}
-use Rattle.write.specs.State.{State, atStage}
-use Rattle.write.specs.Steps.{answerOf, plan, also, test, valueFault, cell}
+use Rattle.steps.specs.State.{State, atStage}
+use Rattle.steps.specs.Plans.{answerOf, also, test}
+use Rattle.steps.specs.Arguments.{valueFault}
+use Rattle.steps.specs.Steps.{plan, cell}
 use Rattle.write.specs.Shown.{seen, typesIn, shownAnswer}
-use Rattle.write.proofs.Accepted.{Accepted}
-use Rattle.write.proofs.Back.{also-fine}
+use Rattle.steps.proofs.Accepted.{Accepted}
+use Rattle.steps.proofs.Back.{also-fine}
 use Rattle.write.proofs.Bytes.{fixed-bytes, body-bytes}
 use Rattle.write.proofs.Taken.{answered}
 use Rattle.rows.specs.Asked.{cellAnswer}

@@ -2,12 +2,12 @@
 use Prim.Native.Nat.{ℕ, _+_, _≤_}
 use native.Mathlib.Omega.{arith}
 use Rattle.format.proofs.Results.{and-true-both}
-use Rattle.write.specs.declared.Stage.the-variants.{Table, Row}
-use Rattle.write.specs.State.{State, atStage}
-use Rattle.write.specs.Steps.{plan, closeRow, closeTable}
-use Rattle.write.proofs.Accepted.{Accepted}
+use Rattle.steps.specs.declared.Stage.the-variants.{Table, Row}
+use Rattle.steps.specs.State.{State, atStage}
+use Rattle.steps.specs.Steps.{plan, closeRow, closeTable}
+use Rattle.steps.proofs.Accepted.{Accepted}
 use Rattle.write.proofs.Filled.{Fills, fills}
-use Rattle.write.proofs.Sound.{at-stage, around, along, outer-places}
+use Rattle.steps.proofs.Sound.{at-stage, around, along, outer-places}
 
 module _ (st : State) (size n : ℕ) where
   pub row-fills : Accepted (plan closeRow st size) size n → Fills (st .inner .at) 4 (st .position) size

@@ -7,9 +7,10 @@ use Rattle.format.specs.declared.Fault.the-variants.{WireType}
 use Rattle.format.specs.Result.{Res}
 use Rattle.format.specs.Format.{Verdict}
 use Rattle.format.specs.Message.{mostRow}
-use Rattle.write.specs.declared.Stage.the-variants.{Row}
-use Rattle.write.specs.State.{State, atStage}
-use Rattle.write.specs.Steps.{answerAt, also, test}
+use Rattle.steps.specs.declared.Stage.the-variants.{Row}
+use Rattle.steps.specs.State.{State, atStage}
+use Rattle.steps.specs.Plans.{also, test}
+use Rattle.steps.specs.Steps.{answerAt}
 
 abbrev pub cellAnswer : State → ℕ → Verdict → ℕ → ℕ → Res ℕ
 cellAnswer st t fault bytes size =

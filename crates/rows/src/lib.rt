@@ -1,9 +1,9 @@
 // The steps that write the rows of a table, and the one that closes it.
 use format::Fault;
+use steps::Stage;
 use write::Answer;
 use write::COLUMNS;
 use write::Check;
-use write::Stage;
 use write::State;
 use write::Step;
 ghost use mathlib.Core.Path.{_≡_};
@@ -11,7 +11,8 @@ ghost use Prim.Native.Nat.{_+_, _*_, _^_};
 ghost use lib.ListN.{getD};
 ghost use Rattle.format.specs.Value.{fixed, body};
 ghost use Rattle.put.specs.Put.{optional};
-ghost use Rattle.write.specs.Steps.{answerOf, plan, openRow, cell, closeRow, closeTable};
+ghost use Rattle.steps.specs.Plans.{answerOf};
+ghost use Rattle.steps.specs.Steps.{plan, openRow, cell, closeRow, closeTable};
 ghost use Rattle.write.specs.Shown.{seen, typesIn, verdictOf, shownAnswer, Stepped};
 ghost use Rattle.rows.specs.Asked.{cellAnswer};
 

@@ -14,7 +14,8 @@ use Rattle.format.proofs.Formats.{lawful-value}
 use Rattle.show.specs.declared.Cell.{Cell}
 use Rattle.show.specs.Cells.{cellOf, typeOf}
 use Rattle.show.proofs.Kept.{fixed-kept}
-use Rattle.write.specs.Steps.{Step, valueFault}
+use Rattle.steps.specs.Arguments.{valueFault}
+use Rattle.steps.specs.Steps.{Step}
 use Rattle.values.specs.Fixed.{typeIn, valueIn}
 
 not-counted : (l b t n : ℕ) → value l b t .Good (fixed n) → isCounted t ≡ false

@@ -7,7 +7,7 @@ ghost use mathlib.Core.Path.{_≡_};
 ghost use mathlib.Core.List.{[]};
 ghost use lib.Ieee.{binary64, toBits};
 ghost use Rattle.scan.specs.Signed.{unsigned};
-ghost use Rattle.write.specs.Steps.{oneParam, element, cell};
+ghost use Rattle.steps.specs.Steps.{oneParam, element, cell};
 ghost use Rattle.write.specs.Shown.{Stepped};
 ghost use Rattle.values.specs.Fixed.{typeIn, valueIn, fixedOf};
 

@@ -15,9 +15,10 @@ use Rattle.format.specs.Format.{Verdict, fine, bad, number, ruled, into, both, 
 use Rattle.format.specs.Value.{Value, fixed, body, value, string, widthOf, isCounted, isColumn, fixedFine, anything, notEmpty, mostBytes, tNull, tTinyint, tDecimal, tGeography, tArray}
 use Rattle.format.specs.Message.{one, array, bytes, items, argument, param}
 use Rattle.put.specs.Put.{optional, sized}
-use Rattle.write.specs.Steps.{also, test, placed, textFault, nullTextFault, valueFault}
+use Rattle.steps.specs.Plans.{also, test, placed}
+use Rattle.steps.specs.Arguments.{textFault, nullTextFault, valueFault}
 use Rattle.write.specs.Shown.{emptyFault}
-use Rattle.write.proofs.Back.{also-fine, test-fine, no-column, column-fixed}
+use Rattle.steps.proofs.Back.{also-fine, test-fine, no-column, column-fixed}
 
 also-none : (v : Verdict) → also v fine ≡ v
 also-none fine = refl

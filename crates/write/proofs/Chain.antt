@@ -18,12 +18,14 @@ use Rattle.put.specs.Put.{put}
 use Rattle.write.specs.declared.State.{State as Code}
 use Rattle.write.specs.declared.Answer.the-variants.{Reached, No}
 use Rattle.write.specs.declared.Step.{Step as Came}
-use Rattle.write.specs.declared.Stage.the-variants.{Table, Row}
-use Rattle.write.specs.State.{State, stageNumber, allColumns, messageSound, outerSound, sound, atStage}
-use Rattle.write.specs.Steps.{Step, beginCall, nullParam, oneParam, bytesParam, openArray, element, closeArray, finishCall, beginReply, openTable, openRow, cell, closeRow, closeTable, finishReply, Plan, Out, also, test, nameFaults, typesOf, answerOf, outOf, carry, plan, step, after, run, fillAll}
+use Rattle.steps.specs.declared.Stage.the-variants.{Table, Row}
+use Rattle.steps.specs.State.{State, stageNumber, allColumns, messageSound, outerSound, sound, atStage}
+use Rattle.steps.specs.Plans.{Plan, Out, also, test, answerOf, outOf, carry, after, fillAll}
+use Rattle.steps.specs.Arguments.{nameFaults, typesOf}
+use Rattle.steps.specs.Steps.{Step, beginCall, nullParam, oneParam, bytesParam, openArray, element, closeArray, finishCall, beginReply, openTable, openRow, cell, closeRow, closeTable, finishReply, plan, step, run}
 use Rattle.write.specs.Shown.{typesIn, seen, shown, answered, came, Stepped, typesAfter}
-use Rattle.write.proofs.Accepted.{Accepted, answer-ok, step-ok}
-use Rattle.write.proofs.Back.{also-fine, test-fine}
+use Rattle.steps.proofs.Accepted.{Accepted, answer-ok, step-ok}
+use Rattle.steps.proofs.Back.{also-fine, test-fine}
 use Rattle.write.proofs.Seen.{seen-shown}
 
 -- the types that a step is lent: those of a table's steps, and else none
@@ -45,7 +47,7 @@ lentTo closeTable types = types
 lentTo finishReply types = []
 
 -- the types after a step: only the one that opens a table sets them
-abbrev pub leftBy : Step → Out → List ℕ → List ℕ
+abbrev pub leftBy : Step → Out State → List ℕ → List ℕ
 leftBy (beginCall version procedure client) o types = types
 leftBy nullParam o types = types
 leftBy (oneParam t v) o types = types
@@ -169,7 +171,7 @@ left-seen closeRow st types b n l a = table-back (plan closeRow (seen st types) 
 left-seen closeTable st types b n l a = refl
 left-seen finishReply st types b n l a = refl
 
-left-length : (s : Step) (o : Out) (types : List ℕ) → length (leftBy s o types) ≡ length types
+left-length : (s : Step) (o : Out State) (types : List ℕ) → length (leftBy s o types) ≡ length types
 left-length (beginCall version procedure client) o types = refl
 left-length nullParam o types = refl
 left-length (oneParam t v) o types = refl
@@ -208,7 +210,7 @@ left-same closeTable types n x b c = refl
 left-same finishReply types n x b c = refl
 
 -- an accepted call is a step that is accepted
-came-ok : (old : Code) (o : Out) (n : ℕ) → came old o .answer ≡ Reached n → o .answer ≡ ok n
+came-ok : (old : Code) (o : Out State) (n : ℕ) → came old o .answer ≡ Reached n → o .answer ≡ ok n
 came-ok old o n = go (o .answer)
   where
     go : (r : Res ℕ) → answered old r (o .state) .answer ≡ Reached n → r ≡ ok n
@@ -216,7 +218,7 @@ came-ok old o n = go (o .answer)
     go (no f p) e = let z : No _ ≡ Reached n = e in cc
 
 -- of an accepted plan the state that it began in is forgotten
-plan-ok : (p : Plan) (x y : State) (b : List ℕ) (n : ℕ) → carry p x b .answer ≡ ok n → carry p x b ≡ carry p y b
+plan-ok : {S : Type 0} (p : Plan S) (x y : S) (b : List ℕ) (n : ℕ) → carry p x b .answer ≡ ok n → carry p x b ≡ carry p y b
 unfolding carry
 plan-ok p x y b n = go (answerOf p (length b))
   where
@@ -228,7 +230,7 @@ same-step : (s : Step) (st : Code) (types b : List ℕ) (n : ℕ) → step s (se
 unfolding step
 same-step s st types b n e =
     plan-ok (plan s (seen st (lentTo s types)) (length b)) (seen st (lentTo s types)) (seen st types) b n e
-    ∙ ap (λ (p : Plan). carry p (seen st types) b) (blind s st types (length b))
+    ∙ ap (λ (p : Plan State). carry p (seen st types) b) (blind s st types (length b))
 
 pub record Linked (s : Step) (st : Code) (types b : List ℕ) (c : Call s st types b) : Type 0 where
   pub goes : step s (seen st types) b ≡ record { answer = ok (c .reached); state = seen (c .came .state) (c .types′); buffer = c .b′ }
@@ -242,12 +244,12 @@ linked s st types b l c =
     let said : lent .answer ≡ ok n = came-ok st lent n (sym (ap (λ (x : Came). x .answer) (c .called .0 .0)) ∙ c .accepted) in
     let same : lent ≡ o = same-step s st types b n said in
     let p = plan s (seen st types) (length b) in
-    let w = step-ok s (seen st types) b n (sym (ap (λ (x : Out). x .answer) same) ∙ said) in
+    let w = step-ok s (seen st types) b n (sym (ap (λ (x : Out State). x .answer) same) ∙ said) in
     let is : o ≡ record { answer = ok n; state = p .next n; buffer = fillAll (p .fills) (put b (p .at) (p .bytes)) } = w .1 in
     let numbers : c .came .state ≡ shown (p .next n) = ap (λ (x : Came). x .state) (c .called .0 .0 ∙ ap (came st) (same ∙ is)) in
-    let types-left : c .types′ ≡ leftBy s (record { answer = ok n; state = p .next n; buffer = b }) types = c .called .1 ∙ ap (λ (x : Out). leftBy s x types) (same ∙ is) ∙ left-same s types n (p .next n) _ b in
+    let types-left : c .types′ ≡ leftBy s (record { answer = ok n; state = p .next n; buffer = b }) types = c .called .1 ∙ ap (λ (x : Out State). leftBy s x types) (same ∙ is) ∙ left-same s types n (p .next n) _ b in
     let back : seen (c .came .state) (c .types′) ≡ p .next n = rw (numbers, types-left) (left-seen s st types b n l (w .0)) in
-    let buffer : c .b′ ≡ fillAll (p .fills) (put b (p .at) (p .bytes)) = c .called .0 .1 ∙ ap (λ (x : Out). x .buffer) (same ∙ is) in
+    let buffer : c .b′ ≡ fillAll (p .fills) (put b (p .at) (p .bytes)) = c .called .0 .1 ∙ ap (λ (x : Out State). x .buffer) (same ∙ is) in
     record { goes = is ∙ sym (rw (back, buffer) refl); long = ap length (c .called .1) ∙ left-length s lent types ∙ l }
 
 -- a chain of calls is a run
@@ -257,5 +259,5 @@ chain→run [] st types b n b′ l c = (ap ok (sym (c .0)), sym (c .1))
 chain→run (s ∷ ss) st types b n b′ l c =
     let k = linked s st types b l (c .0) in
     let rest = chain→run ss (c .0 .came .state) (c .0 .types′) (c .0 .b′) n b′ (k .long) (c .1) in
-    let on = ap (λ (o : Out). after o (run ss)) (k .goes) in
-    (ap (λ (o : Out). o .answer) on ∙ rest .0, ap (λ (o : Out). o .buffer) on ∙ rest .1)
+    let on = ap (λ (o : Out State). after o (run ss)) (k .goes) in
+    (ap (λ (o : Out State). o .answer) on ∙ rest .0, ap (λ (o : Out State). o .buffer) on ∙ rest .1)

@@ -16,17 +16,19 @@ use Rattle.write.specs.declared.State.{State as Code}
 use Rattle.write.specs.declared.Answer.{Answer}
 use Rattle.write.specs.declared.Answer.the-variants.{Reached, No}
 use Rattle.write.specs.declared.Step.{Step as Came}
-use Rattle.write.specs.Steps.{Plan, Out, Step, answerAt, answerOf, outOf, carry, plan, step, fillAll}
+use Rattle.steps.specs.State.{State}
+use Rattle.steps.specs.Plans.{Plan, Out, answerWithin, answerOf, outOf, carry, fillAll}
+use Rattle.steps.specs.Steps.{Step, plan, step}
 use Rattle.write.specs.Shown.{seen, shown, shownAnswer, came, Stepped}
-use Rattle.write.proofs.Accepted.{Accepted, answer-ok}
+use Rattle.steps.proofs.Accepted.{Accepted, answer-ok}
 
 -- what the tests of the code gave is what the plan asks; limits and length are asked only of a step that nothing else refuses
-pub answered : (p : Plan) (size : ℕ) {permitted limits : Bool} {v : Verdict} {n : ℕ} {a : Answer} → a ≡ shownAnswer (answerAt permitted v limits (p .at) n size)
+pub answered : {S : Type 0} (p : Plan S) (size : ℕ) {permitted limits : Bool} {v : Verdict} {n : ℕ} {a : Answer} → a ≡ shownAnswer (answerWithin (p .most) permitted v limits (p .at) n size)
     → permitted ≡ p .permitted → v ≡ p .faults → (p .permitted ≡ true → p .faults ≡ fine → (limits ≡ p .limits) × (n ≡ length (p .bytes))) → a ≡ shownAnswer (answerOf p size)
 answered p size {permitted} {limits} {v} {n} {a} e f g h = e ∙ rw (f, g) (go (p .permitted) (p .faults) h)
   where
     go : (u : Bool) (w : Verdict) → (u ≡ true → w ≡ fine → (limits ≡ p .limits) × (n ≡ length (p .bytes)))
-        → shownAnswer (answerAt u w limits (p .at) n size) ≡ shownAnswer (answerAt u w (p .limits) (p .at) (length (p .bytes)) size)
+        → shownAnswer (answerWithin (p .most) u w limits (p .at) n size) ≡ shownAnswer (answerWithin (p .most) u w (p .limits) (p .at) (length (p .bytes)) size)
     go true fine h = let w = h refl refl in rw (w .0, w .1)
     go true (bad x q) h = refl
     go false w h = refl
@@ -39,7 +41,7 @@ shown-no : (r : Res ℕ) {a : Answer} {x : Refusal} → a ≡ shownAnswer r → 
 shown-no (ok m) e f = let z : No _ ≡ Reached _ = sym f ∙ e in cc
 shown-no (no g p) e f = let z : No _ ≡ No _ = sym f ∙ e in cc
 
-module _ (p : Plan) (st : Code) (b : List ℕ) (types : List ℕ) where
+module _ (p : Plan State) (st : Code) (b : List ℕ) (types : List ℕ) where
   -- what comes of a plan that is refused
   pub refused : {a : Answer} {x : Refusal} → a ≡ shownAnswer (answerOf p (length b)) → a ≡ No x
       → (record { answer = a; state = st } ≡ came st (carry p (seen st types) b)) × (b ≡ carry p (seen st types) b .buffer)
@@ -77,9 +79,9 @@ module _ (s : Step) (st : Code) (b : List ℕ) (types : List ℕ) where
       (rw g (sym (t .came-is)), h ∙ sym (t .wrote))
 
 -- what an accepted plan writes fits
-pub room : {p : Plan} {size n k : ℕ} → Accepted p size n → length (p .bytes) ≡ k → p .at + k ≤ size
+pub room : {S : Type 0} {p : Plan S} {size n k : ℕ} → Accepted p size n → length (p .bytes) ≡ k → p .at + k ≤ size
 room {p} {size} {n} a l = let e : n ≡ p .at + length (p .bytes) = a .reached in let f : n ≤ size = a .fits in omega arith
 
 -- one more is within its limit, and so fits a number of the code
-pub counts : {p : Plan} {size n : ℕ} (k most : ℕ) → Accepted p size n → p .limits ≡ leb (k + 1) most → k + 1 ≤ most
+pub counts : {S : Type 0} {p : Plan S} {size n : ℕ} (k most : ℕ) → Accepted p size n → p .limits ≡ leb (k + 1) most → k + 1 ≤ most
 counts k most a e = leb-true (k + 1) most (sym e ∙ a .fine .limits)

@@ -14,8 +14,8 @@ use Rattle.format.specs.Result.{ok, no, pick}
 use Rattle.format.specs.Format.{fine}
 use Rattle.format.specs.Value.{isColumn}
 use Rattle.format.specs.Message.{mostMessage}
-use Rattle.write.specs.State.{allColumns}
-use Rattle.write.specs.Steps.{answerAt}
+use Rattle.steps.specs.State.{allColumns}
+use Rattle.steps.specs.Steps.{answerAt}
 
 pub same-leb : (a b x y : ℕ) → (a ≤ b → x ≤ y) → (b < a → y < x) → leb a b ≡ leb x y
 same-leb a b x y f g = go (leb a b) refl

@@ -4,8 +4,9 @@ use native.Mathlib.Omega.{arith}
 use mathlib.Core.Path.{refl, sym, ap, ap₂, _∙_}
 use mathlib.Core.Bool.{false}
 use Rattle.put.proofs.Laws.{sized-most}
-use Rattle.write.specs.State.{closed}
-use Rattle.write.specs.Steps.{plan, also, beginCall}
+use Rattle.steps.specs.State.{closed}
+use Rattle.steps.specs.Plans.{also}
+use Rattle.steps.specs.Steps.{plan, beginCall}
 use Rattle.write.proofs.Taken.{answered}
 use Rattle.call.proofs.Written.{begun-size}
 use borrow.Author.Needs.{needs}

@@ -1,7 +1,7 @@
 -- `call::begin` meets its contract: a refusal opens nothing; else what stands before the parameters is written. Assumes nothing.
 use native.Mathlib.Omega.{arith}
-use Rattle.write.specs.State.{closed}
-use Rattle.write.specs.Steps.{beginCall}
+use Rattle.steps.specs.State.{closed}
+use Rattle.steps.specs.Steps.{beginCall}
 use Rattle.write.specs.Shown.{zero}
 use Rattle.write.proofs.Taken.{step-refused, step-accepted, step-taken, room}
 use Rattle.call.proofs.Written.{begun-size}

@@ -11,15 +11,17 @@ use Rattle.format.specs.Message.{mostItems, unlimited}
 use Rattle.format.proofs.Numbers.{length-numBytes}
 use Rattle.put.specs.Put.{put, optional, sized}
 use Rattle.put.proofs.Laws.{put-nothing, puts, puts-number, puts-both}
-use Rattle.write.specs.declared.Stage.the-variants.{Call, Array, Reply, Table, Row}
-use Rattle.write.specs.State.{isElement}
+use Rattle.steps.specs.declared.Stage.the-variants.{Call, Array, Reply, Table, Row}
+use Rattle.steps.specs.State.{isElement}
 use Rattle.write.specs.Shown.{seen}
 use Rattle.write.proofs.Taken.{step-refused, step-accepted, step-taken, room, counts}
-use Rattle.write.proofs.Sound.{at-stage, between-call, between-reply, within, around, along, outer-places}
+use Rattle.steps.proofs.Sound.{at-stage, between-call, between-reply, within, around, along, outer-places}
 use Rattle.format.specs.Value.{fixed, body, widthOf, tArray, tTinyint}
 use Rattle.put.proofs.Laws.{width-most, sized-most}
-use Rattle.write.specs.Steps.{also, test, valueFault, oneParam, bytesParam, element}
-use Rattle.write.proofs.Back.{also-fine}
+use Rattle.steps.specs.Plans.{also, test}
+use Rattle.steps.specs.Arguments.{valueFault}
+use Rattle.steps.specs.Steps.{oneParam, bytesParam, element}
+use Rattle.steps.proofs.Back.{also-fine}
 use Rattle.write.proofs.Bytes.{one-bytes, fixed-bytes, body-bytes, array-bytes}
 use Rattle.call.proofs.Answers.{fixed-size, body-size, array-size, fixed-answer, body-answer, bytes-answer, element-fixed, element-body}
 use mathlib.Core.Bool.{false}

@@ -11,14 +11,15 @@ use Rattle.format.specs.Message.{mostItems, unlimited}
 use Rattle.format.proofs.Numbers.{length-numBytes}
 use Rattle.put.specs.Put.{put, optional, sized}
 use Rattle.put.proofs.Laws.{put-nothing, puts, puts-number, puts-both}
-use Rattle.write.specs.declared.Stage.the-variants.{Call, Array, Reply, Table, Row}
-use Rattle.write.specs.State.{isElement}
+use Rattle.steps.specs.declared.Stage.the-variants.{Call, Array, Reply, Table, Row}
+use Rattle.steps.specs.State.{isElement}
 use Rattle.write.specs.Shown.{seen}
 use Rattle.write.proofs.Taken.{step-refused, step-accepted, step-taken, room, counts}
-use Rattle.write.proofs.Sound.{at-stage, between-call, between-reply, within, around, along, outer-places}
-use Rattle.write.specs.Steps.{test, openArray}
-use Rattle.write.proofs.Params.{open-bytes}
-use Rattle.write.proofs.Back.{test-fine}
+use Rattle.steps.proofs.Sound.{at-stage, between-call, between-reply, within, around, along, outer-places}
+use Rattle.steps.specs.Plans.{test}
+use Rattle.steps.specs.Steps.{openArray}
+use Rattle.steps.proofs.Params.{open-bytes}
+use Rattle.steps.proofs.Back.{test-fine}
 use Rattle.call.proofs.Answers.{open-answer, open-size, not-tiny}
 use borrow.Author.Needs.{needs}
 use Rattle.call.proofs.open_array.Statement.{statement}

@@ -7,7 +7,7 @@ use mathlib.Core.Option.{some}
 use lib.ListN.{length}
 use Rattle.put.specs.Put.{put, sized}
 use Rattle.put.proofs.Laws.{puts, puts-number, puts-both}
-use Rattle.write.specs.State.{closed}
+use Rattle.steps.specs.State.{closed}
 use Rattle.call.proofs.Written.{begun-bytes}
 use borrow.Author.Needs.{needs}
 use Rattle.call.proofs.put_head.Statement.{statement}

@@ -6,7 +6,7 @@ use native.Mathlib.Omega.{arith}
 use borrow.Author.Needs.{needs}
 use Rattle.format.specs.Value.{asciiFrom}
 use Rattle.scan.proofs.Counted.{ascii-turn, ascii-stop, ascii-done}
-use Rattle.write.specs.Steps.{placed}
+use Rattle.steps.specs.Plans.{placed}
 use Rattle.columns.proofs.Names.{placed-from}
 use Rattle.columns.proofs.ascii_fault.Statement.{statement}
 use Rattle.columns.proofs.ascii_fault.Tie as tie

@@ -3,7 +3,7 @@ use mathlib.Core.Path.{sym, ap, _∙_}
 use Prim.Native.Nat.{_+_, _≤_}
 use lib.ListN.{length}
 use borrow.Author.Tests.{leb-true, not-true, not-false}
-use Rattle.write.specs.Steps.{nameFault}
+use Rattle.steps.specs.Arguments.{nameFault}
 use Rattle.columns.proofs.Metadata.{name-past, name-judged}
 use borrow.Author.Needs.{needs}
 use Rattle.columns.proofs.name_fault.Statement.{statement}

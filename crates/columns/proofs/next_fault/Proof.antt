@@ -1,7 +1,7 @@
 -- `columns::next_fault` meets its contract: by cases. Assumes nothing.
 use mathlib.Core.Path.{_≡_, sym, ap, _∙_}
 use Rattle.write.specs.declared.Check.{Check}
-use Rattle.write.specs.Steps.{nameFault}
+use Rattle.steps.specs.Arguments.{nameFault}
 use Rattle.columns.specs.Entries.{nameOf}
 use Rattle.columns.specs.Walks.{nextFault}
 use Rattle.columns.proofs.Surveys.{check-is}

@@ -1,6 +1,6 @@
 -- `columns::survey_fault` meets its contract: its tests are the definition's, in its order. Assumes nothing.
 use mathlib.Core.Path.{_≡_, ap₂, _∙_}
-use Rattle.write.specs.Steps.{also}
+use Rattle.steps.specs.Plans.{also}
 use Rattle.write.specs.Shown.{verdictOf}
 use mathlib.Core.Path.{refl}
 use borrow.Author.Needs.{needs}

@@ -1,6 +1,6 @@
 -- `exports::chaloenpik_begin_call` meets its contract: what the step leaves is kept in the numbers. Assumes nothing.
 use mathlib.Core.List.{[]}
-use Rattle.write.specs.Steps.{beginCall}
+use Rattle.steps.specs.Steps.{beginCall}
 use Rattle.write.specs.Shown.{zero}
 use Rattle.numbers.proofs.Kept.{wrote-from}
 use borrow.Author.Needs.{needs}

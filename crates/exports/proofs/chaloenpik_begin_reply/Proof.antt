@@ -1,6 +1,6 @@
 -- `exports::chaloenpik_begin_reply` meets its contract: what the step leaves is kept in the numbers. Assumes nothing.
 use mathlib.Core.List.{[]}
-use Rattle.write.specs.Steps.{beginReply}
+use Rattle.steps.specs.Steps.{beginReply}
 use Rattle.write.specs.Shown.{zero}
 use Rattle.numbers.proofs.Kept.{wrote-from}
 use Rattle.exports.specs.Given.{opening}

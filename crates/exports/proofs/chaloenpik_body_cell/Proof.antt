@@ -1,7 +1,7 @@
 -- `exports::chaloenpik_body_cell` meets its contract: the state is read from the numbers, and what the step leaves is kept in them. Assumes nothing.
 use Rattle.format.specs.Value.{body}
 use Rattle.put.specs.Put.{optional}
-use Rattle.write.specs.Steps.{cell}
+use Rattle.steps.specs.Steps.{cell}
 use Rattle.numbers.proofs.Kept.{wrote}
 use borrow.Author.Needs.{needs}
 use Rattle.exports.proofs.chaloenpik_body_cell.Statement.{statement}

@@ -1,7 +1,7 @@
 -- `exports::chaloenpik_body_element` meets its contract: the state is read from the numbers, and what the step leaves is kept in them. Assumes nothing.
 use Rattle.format.specs.Value.{body}
 use Rattle.put.specs.Put.{optional}
-use Rattle.write.specs.Steps.{element}
+use Rattle.steps.specs.Steps.{element}
 use Rattle.numbers.proofs.Kept.{wrote}
 use mathlib.Core.List.{[]}
 use borrow.Author.Needs.{needs}

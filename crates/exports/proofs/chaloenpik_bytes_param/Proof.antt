@@ -1,5 +1,5 @@
 -- `exports::chaloenpik_bytes_param` meets its contract: the state is read from the numbers, and what the step leaves is kept in them. Assumes nothing.
-use Rattle.write.specs.Steps.{bytesParam}
+use Rattle.steps.specs.Steps.{bytesParam}
 use Rattle.numbers.proofs.Kept.{wrote}
 use mathlib.Core.List.{[]}
 use borrow.Author.Needs.{needs}

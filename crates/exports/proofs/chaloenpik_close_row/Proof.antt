@@ -1,5 +1,5 @@
 -- `exports::chaloenpik_close_row` meets its contract: the state is read from the numbers, and what the step leaves is kept in them. Assumes nothing.
-use Rattle.write.specs.Steps.{closeRow}
+use Rattle.steps.specs.Steps.{closeRow}
 use Rattle.numbers.proofs.Kept.{wrote}
 use borrow.Author.Needs.{needs}
 use Rattle.exports.proofs.chaloenpik_close_row.Statement.{statement}

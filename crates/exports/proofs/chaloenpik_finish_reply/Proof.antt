@@ -1,5 +1,5 @@
 -- `exports::chaloenpik_finish_reply` meets its contract: the state is read from the numbers, and what the step leaves is kept in them. Assumes nothing.
-use Rattle.write.specs.Steps.{finishReply}
+use Rattle.steps.specs.Steps.{finishReply}
 use Rattle.numbers.proofs.Kept.{wrote}
 use mathlib.Core.List.{[]}
 use borrow.Author.Needs.{needs}

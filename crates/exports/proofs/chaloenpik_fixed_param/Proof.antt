@@ -1,7 +1,7 @@
 -- `exports::chaloenpik_fixed_param` meets its contract: the state is read from the numbers, and what the step leaves is kept in them. Assumes nothing.
 use Prim.Native.Nat.{_+_, _*_, _^_}
 use Rattle.format.specs.Value.{fixed}
-use Rattle.write.specs.Steps.{oneParam}
+use Rattle.steps.specs.Steps.{oneParam}
 use Rattle.numbers.proofs.Kept.{wrote}
 use mathlib.Core.List.{[]}
 use borrow.Author.Needs.{needs}

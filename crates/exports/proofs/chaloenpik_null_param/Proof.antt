@@ -1,5 +1,5 @@
 -- `exports::chaloenpik_null_param` meets its contract: the state is read from the numbers, and what the step leaves is kept in them. Assumes nothing.
-use Rattle.write.specs.Steps.{nullParam}
+use Rattle.steps.specs.Steps.{nullParam}
 use Rattle.numbers.proofs.Kept.{wrote}
 use mathlib.Core.List.{[]}
 use borrow.Author.Needs.{needs}

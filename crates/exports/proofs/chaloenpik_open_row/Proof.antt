@@ -1,5 +1,5 @@
 -- `exports::chaloenpik_open_row` meets its contract: the state is read from the numbers, and what the step leaves is kept in them. Assumes nothing.
-use Rattle.write.specs.Steps.{openRow}
+use Rattle.steps.specs.Steps.{openRow}
 use Rattle.numbers.proofs.Kept.{wrote}
 use borrow.Author.Needs.{needs}
 use Rattle.exports.proofs.chaloenpik_open_row.Statement.{statement}

@@ -1,5 +1,5 @@
 -- `exports::chaloenpik_open_table` meets its contract: the state is read from the numbers, and what the step leaves is kept in them. Assumes nothing.
-use Rattle.write.specs.Steps.{openTable}
+use Rattle.steps.specs.Steps.{openTable}
 use Rattle.columns.specs.Entries.{columnsOf}
 use Rattle.numbers.specs.Entries.{entriesOf}
 use Rattle.numbers.proofs.Kept.{wrote-all}

@@ -52,7 +52,7 @@ use Rattle.columns.specs.declared.Survey.{Survey}
 use Rattle.columns.specs.declared.Head.{Head}
 use Rattle.write.specs.declared.State.{State}
 use Rattle.write.specs.declared.Step.{Step as Came}
-use Rattle.write.specs.Steps.{openTable}
+use Rattle.steps.specs.Steps.{openTable}
 use Rattle.write.specs.Shown.{Opened}
 use Rattle.columns.proofs.Column as T
 use Rattle.columns.proofs.Survey as S

@@ -2,7 +2,8 @@
 use mathlib.Core.Path.{refl, sym, _∙_}
 use mathlib.Core.Bool.{true}
 use Rattle.format.specs.Message.{aLoginRequest, messageBytes}
-use Rattle.write.specs.Steps.{loginPlan, says, requestFault, writtenRequest}
+use Rattle.steps.specs.Arguments.{requestFault, writtenRequest}
+use Rattle.steps.specs.Steps.{loginPlan, says}
 use Rattle.write.proofs.Taken.{answered}
 use Rattle.login.proofs.Parts.{is-fine, not-fine, request-limits, request-length-by}
 use borrow.Author.Needs.{needs}

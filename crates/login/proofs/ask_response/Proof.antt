@@ -1,7 +1,9 @@
 -- `login::ask_response` meets its contract: its tests are those of the plan, by the result. Assumes nothing.
 use mathlib.Core.Path.{refl, sym, ap₂, _∙_}
 use Rattle.format.specs.Message.{aLoginResponse, messageBytes}
-use Rattle.write.specs.Steps.{also, loginPlan, says, responseFault, writtenResponse}
+use Rattle.steps.specs.Plans.{also}
+use Rattle.steps.specs.Arguments.{responseFault, writtenResponse}
+use Rattle.steps.specs.Steps.{loginPlan, says}
 use Rattle.write.proofs.Taken.{answered}
 use Rattle.login.specs.Told.{welcome}
 use Rattle.login.proofs.Parts.{response-length-none, response-length-some, response-fault-none, response-fault-some}

@@ -1,6 +1,6 @@
 -- `login::hash_fault` meets its contract: both its tests are the definition's. Assumes nothing.
 use mathlib.Core.Path.{ap₂, _∙_}
-use Rattle.write.specs.Steps.{also}
+use Rattle.steps.specs.Plans.{also}
 use borrow.Author.Needs.{needs}
 use Rattle.login.proofs.hash_fault.Statement.{statement}
 use Rattle.login.proofs.hash_fault.Tie as tie

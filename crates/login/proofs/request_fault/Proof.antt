@@ -1,7 +1,8 @@
 -- `login::request_fault` meets its contract: its tests are the definition's, in its order. Assumes nothing.
 use Prim.Native.Nat.{ℕ}
 use mathlib.Core.Path.{ap, ap₂, _∙_}
-use Rattle.write.specs.Steps.{also, hashFault, requestFault}
+use Rattle.steps.specs.Plans.{also}
+use Rattle.steps.specs.Arguments.{hashFault, requestFault}
 use borrow.Author.Needs.{needs}
 use Rattle.login.proofs.request_fault.Statement.{statement}
 use Rattle.login.proofs.request_fault.Tie as tie

@@ -4,7 +4,7 @@ use native.Mathlib.Omega.{arith}
 use mathlib.Core.Path.{sym, ap, ap₂, _∙_}
 use mathlib.Core.Bool.{true}
 use Rattle.format.specs.Format.{Verdict}
-use Rattle.write.specs.Steps.{answerAt}
+use Rattle.steps.specs.Steps.{answerAt}
 use Rattle.write.specs.Shown.{shownAnswer, verdictOf}
 use Rattle.reply.specs.Opening.{beginSize}
 use Rattle.reply.proofs.Openings.{sizes-few, refuses}

@@ -1,6 +1,6 @@
 -- `reply::ask_finish_reply` meets its contract: its tests are those of the plan. Assumes nothing.
 use mathlib.Core.Path.{refl}
-use Rattle.write.specs.Steps.{plan, finishReply}
+use Rattle.steps.specs.Steps.{plan, finishReply}
 use Rattle.write.specs.Shown.{seen}
 use Rattle.write.proofs.Taken.{answered}
 use mathlib.Core.List.{[]}

@@ -5,7 +5,7 @@ use mathlib.Core.List.{List, []}
 use Prim.Native.Nat.{ℕ}
 use lib.ListN.{length}
 use Rattle.put.specs.Put.{put}
-use Rattle.write.specs.Steps.{beginReply}
+use Rattle.steps.specs.Steps.{beginReply}
 use Rattle.write.specs.Shown.{zero}
 use Rattle.write.proofs.Taken.{step-taken}
 use Rattle.reply.specs.Opening.{openingOf}

@@ -3,7 +3,7 @@
 use Prim.Native.Nat.{_+_, _-_, _≤_}
 use native.Mathlib.Omega.{arith}
 use lib.ListN.{length}
-use Rattle.write.specs.Steps.{finishReply}
+use Rattle.steps.specs.Steps.{finishReply}
 use Rattle.write.specs.Shown.{seen}
 use Rattle.write.proofs.Taken.{step-refused, step-accepted, step-taken}
 use Rattle.write.proofs.Filled.{filled-length, fill-two}

@@ -5,7 +5,8 @@ use Rattle.format.specs.Result.{pick}
 use Rattle.format.specs.Format.{fine}
 use Rattle.format.specs.Value.{anything}
 use Rattle.put.specs.Put.{optional}
-use Rattle.write.specs.Steps.{also, nullTextFault, openingFault}
+use Rattle.steps.specs.Plans.{also}
+use Rattle.steps.specs.Arguments.{nullTextFault, openingFault}
 use borrow.Author.Needs.{needs}
 use Rattle.reply.proofs.opening_fault.Statement.{statement}
 use Rattle.reply.proofs.opening_fault.Tie as tie

@@ -5,7 +5,7 @@ use mathlib.Core.Bool.{_&&_}
 use lib.Dec.{ltb, eqb}
 use Rattle.format.specs.declared.Fault.the-variants.{WireType}
 use Rattle.format.specs.Format.{Verdict}
-use Rattle.write.specs.Steps.{also, test}
+use Rattle.steps.specs.Plans.{also, test}
 use Rattle.write.specs.Shown.{verdictOf}
 use Rattle.write.proofs.Seen.{counted}
 use Rattle.format.specs.Message.{mostColumns}

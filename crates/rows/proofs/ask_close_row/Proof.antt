@@ -5,7 +5,7 @@ use mathlib.Core.Path.{refl, ap, ap₂, _∙_, _≡_, sym}
 use mathlib.Core.Bool.{_&&_}
 use lib.Dec.{leb, eqb}
 use Rattle.format.specs.Message.{mostRow, mostColumns}
-use Rattle.write.specs.Steps.{plan, closeRow}
+use Rattle.steps.specs.Steps.{plan, closeRow}
 use Rattle.write.specs.Shown.{seen}
 use Rattle.write.proofs.Taken.{answered}
 use Rattle.write.proofs.Seen.{counted}

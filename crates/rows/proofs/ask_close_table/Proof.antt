@@ -1,6 +1,6 @@
 -- `rows::ask_close_table` meets its contract: its tests are those of the plan. Assumes nothing.
 use mathlib.Core.Path.{refl}
-use Rattle.write.specs.Steps.{plan, closeTable}
+use Rattle.steps.specs.Steps.{plan, closeTable}
 use Rattle.write.specs.Shown.{seen}
 use Rattle.write.proofs.Taken.{answered}
 use borrow.Author.Needs.{needs}

@@ -1,7 +1,7 @@
 -- `rows::ask_open_row` meets its contract: its tests are those of the plan. Assumes nothing.
 use mathlib.Core.Path.{refl, sym}
 use Rattle.format.proofs.Numbers.{length-numBytes}
-use Rattle.write.specs.Steps.{plan, openRow}
+use Rattle.steps.specs.Steps.{plan, openRow}
 use Rattle.write.specs.Shown.{seen}
 use Rattle.write.proofs.Taken.{answered}
 use borrow.Author.Needs.{needs}

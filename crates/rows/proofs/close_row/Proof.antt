@@ -3,7 +3,7 @@ use Prim.Native.Nat.{_+_, _-_, _≤_}
 use native.Mathlib.Omega.{arith}
 use lib.ListN.{length}
 use Rattle.format.specs.Message.{mostMessage, mostColumns}
-use Rattle.write.specs.Steps.{closeRow}
+use Rattle.steps.specs.Steps.{closeRow}
 use Rattle.write.specs.Shown.{seen}
 use Rattle.write.proofs.Taken.{step-refused, step-accepted, step-taken}
 use Rattle.write.proofs.Filled.{fill-one}

@@ -5,7 +5,7 @@ use native.Mathlib.Omega.{arith}
 use mathlib.Core.Path.{_≡_}
 use lib.ListN.{length}
 use Rattle.format.specs.Message.{mostMessage}
-use Rattle.write.specs.Steps.{closeTable}
+use Rattle.steps.specs.Steps.{closeTable}
 use Rattle.write.specs.Shown.{seen}
 use Rattle.write.proofs.Taken.{step-refused, step-accepted, step-taken}
 use Rattle.write.proofs.Filled.{filled-length, fill-two}

@@ -6,7 +6,7 @@ use mathlib.Core.List.{List}
 use lib.ListN.{length}
 use Rattle.format.specs.Value.{fixed}
 use Rattle.put.specs.Put.{put}
-use Rattle.write.specs.Steps.{cell}
+use Rattle.steps.specs.Steps.{cell}
 use Rattle.write.specs.Shown.{seen}
 use Rattle.write.proofs.Bytes.{fixed-bytes}
 use Rattle.write.proofs.Taken.{step-refused, step-accepted, step-taken, room}

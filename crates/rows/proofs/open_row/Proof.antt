@@ -4,7 +4,7 @@ use native.Mathlib.Omega.{arith}
 use mathlib.Core.Path.{refl, _≡_, _∙_}
 use Rattle.format.specs.Message.{unlimited, mostColumns}
 use Rattle.format.proofs.Numbers.{length-numBytes}
-use Rattle.write.specs.Steps.{openRow}
+use Rattle.steps.specs.Steps.{openRow}
 use Rattle.write.proofs.Taken.{step-refused, step-accepted, step-taken, room, counts}
 use Rattle.write.proofs.Seen.{tabled-shown}
 use lib.ListN.{length}

@@ -1,7 +1,7 @@
 -- `values::value_cell` meets its contract: the value taken apart is the value shown. Assumes nothing.
 use Prim.Native.Nat.{ℕ}
 use Rattle.format.specs.Value.{Value}
-use Rattle.write.specs.Steps.{cell}
+use Rattle.steps.specs.Steps.{cell}
 use Rattle.write.specs.Shown.{Stepped}
 use Rattle.values.proofs.Written.{written}
 use borrow.Author.Needs.{needs}

@@ -2,7 +2,7 @@
 use Prim.Native.Nat.{ℕ}
 use mathlib.Core.List.{[]}
 use Rattle.format.specs.Value.{Value}
-use Rattle.write.specs.Steps.{oneParam}
+use Rattle.steps.specs.Steps.{oneParam}
 use Rattle.write.specs.Shown.{Stepped}
 use Rattle.values.proofs.Written.{written}
 use borrow.Author.Needs.{needs}

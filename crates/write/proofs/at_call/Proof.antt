@@ -1,6 +1,6 @@
 -- `write::at_call` meets its contract: part by part. Assumes nothing.
 use mathlib.Core.Path.{_≡_}
-use Rattle.write.specs.State.{sound}
+use Rattle.steps.specs.State.{sound}
 use borrow.Author.Needs.{needs}
 use Rattle.write.proofs.at_call.Statement.{statement}
 use Rattle.write.proofs.at_call.Tie as tie

@@ -6,7 +6,7 @@ use mathlib.Core.Bool.{_&&_}
 use lib.ListN.{length}
 use lib.Dec.{leb}
 use Rattle.format.specs.Message.{mostColumns}
-use Rattle.write.specs.State.{messageSound, sound}
+use Rattle.steps.specs.State.{messageSound, sound}
 use Rattle.write.proofs.Seen.{counted}
 use borrow.Author.Needs.{needs}
 use Rattle.write.proofs.at_row.Statement.{statement}

@@ -1,7 +1,7 @@
 -- `write::at_table` meets its contract: part by part. Assumes nothing.
 use mathlib.Core.Path.{ap₂, _∙_}
 use mathlib.Core.Bool.{_&&_}
-use Rattle.write.specs.State.{messageSound, sound}
+use Rattle.steps.specs.State.{messageSound, sound}
 use borrow.Author.Needs.{needs}
 use Rattle.write.proofs.at_table.Statement.{statement}
 use Rattle.write.proofs.at_table.Tie as tie

@@ -8,7 +8,7 @@ use lib.ListN.{length, take}
 use lib.Seq.{length-take-le}
 use borrow.Author.Tests.{le-leb, lt-leb}
 use Rattle.format.specs.Message.{mostColumns}
-use Rattle.write.specs.State.{allColumns}
+use Rattle.steps.specs.State.{allColumns}
 use Rattle.write.proofs.Tested.{all-next}
 use borrow.Author.Needs.{needs}
 use Rattle.write.proofs.columns_sound.Statement.{statement}

@@ -3,7 +3,7 @@ use mathlib.Core.Path.{_≡_, refl, sym, ap, _∙_}
 use mathlib.Core.Bool.{Bool, true, false, not, _&&_}
 use borrow.Author.Tests.{ne-eqb}
 use Rattle.format.specs.Value.{isColumn}
-use Rattle.write.specs.State.{isElement}
+use Rattle.steps.specs.State.{isElement}
 use borrow.Author.Needs.{needs}
 use Rattle.write.proofs.is_element.Statement.{statement}
 use Rattle.write.proofs.is_element.Tie as tie

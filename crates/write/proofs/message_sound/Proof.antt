@@ -1,6 +1,6 @@
 -- `write::message_sound` meets its contract: part by part. Assumes nothing.
 use mathlib.Core.Path.{_≡_}
-use Rattle.write.specs.State.{messageSound}
+use Rattle.steps.specs.State.{messageSound}
 use borrow.Author.Needs.{needs}
 use Rattle.write.proofs.message_sound.Statement.{statement}
 use Rattle.write.proofs.message_sound.Tie as tie

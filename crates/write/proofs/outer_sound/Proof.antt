@@ -1,6 +1,6 @@
 -- `write::outer_sound` meets its contract: part by part. Assumes nothing.
 use mathlib.Core.Path.{_≡_}
-use Rattle.write.specs.State.{outerSound}
+use Rattle.steps.specs.State.{outerSound}
 use borrow.Author.Needs.{needs}
 use Rattle.write.proofs.outer_sound.Statement.{statement}
 use Rattle.write.proofs.outer_sound.Tie as tie

@@ -10,7 +10,8 @@ use Rattle.format.specs.declared.Fault.the-variants.{Limit, WireType, Decimal, 
 use Rattle.format.specs.Result.{pick}
 use Rattle.format.specs.Format.{Verdict, fine}
 use Rattle.format.specs.Value.{isCounted, widthOf, fixedFine, decimalFine, pointFine, mostBytes, tDecimal}
-use Rattle.write.specs.Steps.{test, also, valueFault}
+use Rattle.steps.specs.Plans.{test, also}
+use Rattle.steps.specs.Arguments.{valueFault}
 use Rattle.write.specs.Shown.{emptyFault}
 use Rattle.write.proofs.Bytes.{text-limit, body-fault, empty-is}
 use borrow.Author.Needs.{needs}

@@ -14,16 +14,17 @@ use Rattle.format.specs.Number.{Bytes}
 use Rattle.format.specs.Message.{Server, Message, readMessage, messageBytes, isKind, GoodMessage}
 use Rattle.format.proofs.Results.{ok-same}
 use Rattle.format.proofs.Demands.{accepted→encodes, encodes→accepted, encodes-once}
-use Rattle.write.specs.State.{State, closed}
-use Rattle.write.specs.Steps.{Out, Welcome, opened}
-use Rattle.write.specs.Spells.{openingOf}
-use Rattle.write.specs.Writings.{Writing, requestCall, responseCall, callSteps, replySteps, kindOf, written, inFront, HeldWriting, welcomeOf, writingOf, noWelcome, trimmed}
-use Rattle.write.proofs.Buffers.{over}
-use Rattle.write.proofs.Back.{Ends}
-use Rattle.write.proofs.CallBack.{call-wrote}
-use Rattle.write.proofs.ReplyBack.{reply-wrote}
-use Rattle.write.proofs.LoginsBack.{request-wrote, response-wrote}
-use Rattle.write.proofs.Writes.{good-writes}
+use Rattle.steps.specs.State.{State, closed}
+use Rattle.steps.specs.Plans.{Out}
+use Rattle.steps.specs.Arguments.{Welcome, opened}
+use Rattle.steps.specs.Spells.{openingOf}
+use Rattle.steps.specs.Writings.{Writing, requestCall, responseCall, callSteps, replySteps, kindOf, written, inFront, HeldWriting, welcomeOf, writingOf, noWelcome, trimmed}
+use Rattle.steps.proofs.Buffers.{over}
+use Rattle.steps.proofs.Back.{Ends}
+use Rattle.steps.proofs.CallBack.{call-wrote}
+use Rattle.steps.proofs.ReplyBack.{reply-wrote}
+use Rattle.steps.proofs.LoginsBack.{request-wrote, response-wrote}
+use Rattle.steps.proofs.Writes.{good-writes}
 
 -- a writing that was accepted up to n: what stands before n reads as a message, which spells this writing, and what stands behind n is as it was
 pub record ReadBack (w : Writing) (st : State) (b : List ℕ) (n : ℕ) : Type 0 where
@@ -36,8 +37,8 @@ read-back : (w : Writing) (st : State) (b : List ℕ) (n : ℕ) (r : Message) �
     written w st b .answer ≡ ok n → GoodMessage (kindOf w) r × (written w st b ≡ inFront b m) → trimmed w ≡ writingOf r → ReadBack w st b n
 read-back w st b n r e g s =
     let m = messageBytes (kindOf w) r in
-    let same : n ≡ length m = ok-same (sym e ∙ ap (λ (o : Out). o .answer) (g .1)) in
-    let buffer = ap (λ (o : Out). o .buffer) (g .1) in
+    let same : n ≡ length m = ok-same (sym e ∙ ap (λ (o : Out State). o .answer) (g .1)) in
+    let buffer = ap (λ (o : Out State). o .buffer) (g .1) in
     record {
       message = r;
       read = rw (buffer, same) (rw take-append-seam (encodes→accepted (kindOf w) r (g .0)));
@@ -79,8 +80,8 @@ spells-once kind r q known g h e =
     let l = length-append x y in
     let same : inFront b x ≡ inFront b y
     = sym (good-writes kind r known g (closed 0) b (omega arith)) ∙ (ap (λ (w : Writing). written w (closed 0) b) e ∙ good-writes kind q known h (closed 0) b (omega arith)) in
-    let n : length x ≡ length y = ok-same (ap (λ (o : Out). o .answer) same) in
-    let bytes : take (length x) (over b x) ≡ take (length x) (over b y) = ap (λ (o : Out). take (length x) (o .buffer)) same in
+    let n : length x ≡ length y = ok-same (ap (λ (o : Out State). o .answer) same) in
+    let bytes : take (length x) (over b x) ≡ take (length x) (over b y) = ap (λ (o : Out State). take (length x) (o .buffer)) same in
     encodes-once kind r q g h (sym (take-append-seam x _) ∙ (bytes ∙ rw n (take-append-seam y _)))
 
 -- the writing that the record of an accepted message spells puts the message in front of any buffer that is long enough, and changes no other byte

@@ -7,9 +7,11 @@ use lib.Dec.{eqb}
 use Rattle.format.specs.Result.{ok, pick}
 use Rattle.format.specs.Number.{Bytes}
 use Rattle.format.specs.Message.{Server, noServer, Content, aLoginRequest, aLoginResponse, anInvocation, aResponse, Message}
-use Rattle.write.specs.State.{State, closed}
-use Rattle.write.specs.Steps.{Out, Step, beginCall, beginReply, Opening, opened, Welcome, run, loginRequest, loginResponse}
-use Rattle.write.specs.Spells.{textOf, callRest, replyRest, openingOf, AllHeld, HeldClient, HeldOpening, HeldWelcome}
+use Rattle.steps.specs.State.{State, closed}
+use Rattle.steps.specs.Plans.{Out}
+use Rattle.steps.specs.Arguments.{Opening, opened, Welcome}
+use Rattle.steps.specs.Steps.{Step, beginCall, beginReply, run, loginRequest, loginResponse}
+use Rattle.steps.specs.Spells.{textOf, callRest, replyRest, openingOf, AllHeld, HeldClient, HeldOpening, HeldWelcome}
 
 pub data Writing : Type 0 where
   requestCall : ℕ → ℕ → List ℕ → List ℕ → List ℕ → Writing  -- version, hash version, service, user, hash
@@ -24,14 +26,14 @@ kindOf (callSteps version procedure client ss) = 3
 kindOf (replySteps version o ss) = 4
 
 -- what comes of it; a login has no state
-abbrev pub written : Writing → State → List ℕ → Out
+abbrev pub written : Writing → State → List ℕ → Out State
 written (requestCall version hashVersion service user hash) st b = loginRequest version hashVersion service user hash b
 written (responseCall version result w) st b = loginResponse version result w b
 written (callSteps version procedure client ss) st b = run (beginCall version procedure client ∷ ss) st b
 written (replySteps version o ss) st b = run (beginReply version o ∷ ss) st b
 
 -- accepted, with the message m in front of the buffer b, and every other byte as it was
-abbrev pub inFront : List ℕ → List ℕ → Out
+abbrev pub inFront : List ℕ → List ℕ → Out State
 inFront b m = record { answer = ok (length m); state = closed (length m); buffer = m ++ drop (length m) b }
 
 -- the code's types hold its arguments

@@ -1,7 +1,7 @@
 -- The states that steps leave.
 use Prim.Native.Nat.{ℕ, _-_}
-use Rattle.write.specs.declared.Stage.{Stage}
-use Rattle.write.specs.State.{State, noInner, noOuter}
+use Rattle.steps.specs.declared.Stage.{Stage}
+use Rattle.steps.specs.State.{State, noInner, noOuter}
 
 -- a message that was begun: its count is its last field
 abbrev pub begunAt : Stage → ℕ → State
