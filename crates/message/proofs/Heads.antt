@@ -6,7 +6,7 @@ use mathlib.Core.List.{List}
 use mathlib.Core.Option.{Option, none}
 use Rattle.format.specs.Format.{Format, number, block, ruled, nothing, present, into, both, counted}
 use Rattle.format.specs.Value.{string, anything}
-use Rattle.format.specs.Message.{Table, Note, response, head, noted, trip, appStated, tripped, afterFlags, flagByte, list, first, table, mostItems, text}
+use Rattle.format.specs.Message.{Table, Note, response, head, noted, trip, appStated, tripped, afterFlags, flagByte, list, first, table, mostItems, binary}
 use Rattle.scan.specs.declared.Next.{Next}
 use Rattle.scan.specs.Shown.{shownNext}
 use Rattle.scan.proofs.Steps.{into-ends, both-ends, goes-on, halts}
@@ -40,14 +40,14 @@ module _ {A B C : Type 0} (f : Format A) (g : Format B) (h : Format C) (s : List
 
 -- a round trip that is there, and one that is not, with the exception after it
 module _ (s : List ℕ) (at : ℕ) (there : Bool) where
-  pub timed-ends : (timed : Bool) → timed ≡ true → shownNext (noted (trip timed) there none (text 38 39) .read s at) ≡ shownNext (noted (number 4 0) there none (string false anything 0 0) .read s at)
+  pub timed-ends : (timed : Bool) → timed ≡ true → shownNext (noted (trip timed) there none (binary 38 39) .read s at) ≡ shownNext (noted (number 4 0) there none (string false anything 0 0) .read s at)
   timed-ends timed is =
-      both-alike (trip timed) (number 4 37) (present there none (text 38 39)) s at (present-ends 0 (number 4 37) s at timed is)
+      both-alike (trip timed) (number 4 37) (present there none (binary 38 39)) s at (present-ends 0 (number 4 37) s at timed is)
       ∙ ap shownNext (noted-fields 38 39 false s 4 37 there at)
 
-  pub untimed-ends : (timed : Bool) → timed ≡ false → shownNext (noted (trip timed) there none (text 38 39) .read s at) ≡ shownNext (present there none (string false anything 0 0) .read s at)
+  pub untimed-ends : (timed : Bool) → timed ≡ false → shownNext (noted (trip timed) there none (binary 38 39) .read s at) ≡ shownNext (present there none (string false anything 0 0) .read s at)
   unfolding present nothing
-  untimed-ends timed is = rw is (both-ends (nothing none) (λ v. present there none (text 38 39)) s at refl) ∙ ap shownNext (note-fields 38 39 false s there at)
+  untimed-ends timed is = rw is (both-ends (nothing none) (λ v. present there none (binary 38 39)) s at refl) ∙ ap shownNext (note-fields 38 39 false s there at)
 
 -- a head, after its client data, and after its status
 abbrev pub head-1 : Bool → Format (ℕ × ((ℕ × Note) × ((ℕ × Note) × (Option ℕ × Note))))
@@ -62,8 +62,8 @@ module _ (timed : Bool) (s : List ℕ) (at : ℕ) where
   head-ends = into-ends _ _ (both (block 8 22) (λ c. head-1 timed)) s at
 
   -- the last of it, by a test that is the flag's
-  pub trip-shows : {t there : Bool} → t ≡ there → {a : Next} → a ≡ shownNext (noted (trip timed) t none (text 38 39) .read s at)
-      → a ≡ shownNext (noted (trip timed) there none (text 38 39) .read s at)
+  pub trip-shows : {t there : Bool} → t ≡ there → {a : Next} → a ≡ shownNext (noted (trip timed) t none (binary 38 39) .read s at)
+      → a ≡ shownNext (noted (trip timed) there none (binary 38 39) .read s at)
   trip-shows same e = rw same at e
 
   pub flag-fields : flagByte 30 .read s at ≡ flagByte 0 .read s at

@@ -7,8 +7,6 @@ ghost use Rattle.format.specs.Number.{numBytes};
 ghost use Rattle.format.specs.Value.{widthOf};
 ghost use Rattle.put.specs.Put.{put, optional, sized};
 
-const NULL: u64 = 0xffff_ffff;
-
 // Writes the 4 lowest bytes of a number.
 fn put_four(out: &mut [u8], n: u64)
     requires { ⌜ 4 ≤ length (now out) ⌝ }
@@ -91,7 +89,7 @@ pub fn put_text(out: &mut [u8], null: bool, s: &[u8])
     ensures { λ _. ⌜ now (out .exit) ≡ sized (optional null (now (s .entry))) ++ drop (length (sized (optional null (now (s .entry))))) (now (out .entry)) ⌝ }
 {
     if null {
-        put_number(out, NULL, 4);
+        put_number(out, format::NULL_LENGTH, 4);
         return;
     }
     put_number(out, s.len() as u64, 4);

@@ -38,7 +38,7 @@ fn four(s: &[u8], at: usize) -> u64
 fn body_size(n: u64) -> u64
     ensures { λ r. ⌜ r ≡ sizeOf n ⌝ }
 {
-    if n == 0xffff_ffff { 0 } else { n }
+    if n == format::NULL_LENGTH { 0 } else { n }
 }
 
 // Past a counted body or a null.

@@ -18,6 +18,7 @@ use Rattle.format.specs.Format.{number, block, present, nothing, into}
 use Rattle.format.specs.Value.{string, anything, mostBytes}
 use Rattle.scan.proofs.Counted.{Here}
 use Rattle.scan.specs.Signed.{signed}
+use Rattle.scan.specs.Shown.{shownByte, byteIn}
 use Rattle.record.specs.declared.Span.{Span}
 use Rattle.record.specs.declared.Edition.{Edition}
 use Rattle.record.specs.declared.Num.{Num}
@@ -42,6 +43,15 @@ module _ (s : List ℕ) (at : ℕ) where
   pub number-none : (k : ℕ) {f : Fault} {p : ℕ} → number k 0 .read s at ≡ no f p → _≡_ {A = Num} (record { n = 0; next = at }) (numberAt s at k)
   unfolding numberAt
   number-none k e = sym (ap (numIn at) e)
+
+  -- one byte, by itself
+  pub byte-is : byteIn (shownByte (number 1 0 .read s at)) ≡ numberAt s at 1 .n
+  unfolding numberAt
+  byte-is = same (number 1 0 .read s at)
+    where
+      same : (r : Res (ℕ × ℕ)) → byteIn (shownByte r) ≡ numIn at r .n
+      same (ok p) = refl
+      same (no f p) = refl
 
   pub text-is : (nullable : Bool) {start end : ℕ} → Here nullable mostBytes s at start end → spot (Span.At start (end - start)) end ≡ textAt s at nullable
   unfolding textAt

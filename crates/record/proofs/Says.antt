@@ -14,7 +14,7 @@ use Rattle.format.specs.Result.{Res, ok, no, pick}
 use Rattle.format.specs.Number.{numAt, half, null4}
 use Rattle.format.specs.Format.{Format, Index, number, block, ruled, into, both, present, nothing, each, counted}
 use Rattle.format.specs.Value.{string, anything, mostBytes}
-use Rattle.format.specs.Message.{Message, message, contentOf, readMessage, list, text, noted, trip}
+use Rattle.format.specs.Message.{Message, message, contentOf, readMessage, list, binary, noted, trip}
 use Rattle.format.proofs.Results.{bound, passed, spared, ok-same}
 use Rattle.format.proofs.Demands.{accepted→passed}
 use Rattle.scan.proofs.Answers.{took}
@@ -185,13 +185,13 @@ module _ (s : List ℕ) (at : ℕ) where
       (no-number ∙ ap maybe gone, sym (ap (λ (w : Option ℕ × ℕ). w .1) same) ∙ ap (afterNumber 4 at) gone)
 
   -- with the exception after it
-  pub trip-says : (timed there : Bool) (v : Option ℕ × Option (Option (List ℕ))) (next : ℕ) → noted (trip timed) there none (text 38 39) .read s at ≡ ok (v, next)
+  pub trip-says : (timed there : Bool) (v : Option ℕ × Option (Option (List ℕ))) (next : ℕ) → noted (trip timed) there none (binary 38 39) .read s at ≡ ok (v, next)
       → (notedAt s at (tripSize timed) there false ≡ notice (Option·getD (v .0) 0) (afterNumber 4 at (v .0)) (v .1)) × (next ≡ afterNote (afterNumber 4 at (v .0)) (v .1))
       × HoldsNote s (noteOf (afterNumber 4 at (v .0)) (v .1)) (v .1)
   trip-says timed there v next e =
-      let q = both-parts s (trip timed) (λ n. present there none (text 38 39)) at v next e in
+      let q = both-parts s (trip timed) (λ n. present there none (binary 38 39)) at v next e in
       let n = maybe-says timed (v .0) (q .0) (q .1) in
-      let rest = ap (λ (p : ℕ). present there none (text 38 39) .read s p) (sym (n .1)) ∙ q .2 in
+      let rest = ap (λ (p : ℕ). present there none (binary 38 39) .read s p) (sym (n .1)) ∙ q .2 in
       let t = note-says s (afterNumber 4 at (v .0)) there false 38 39 (v .1) next rest in
       (rw (n .0, t .0), t .1, note-held s (afterNumber 4 at (v .0)) there false 38 39 (v .1) next rest)
 

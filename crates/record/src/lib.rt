@@ -1,7 +1,6 @@
 // The record of a message of each kind, shown: numbers with their signs, blocks as arrays, strings by their places.
 use message::Verdict;
 use scan::Body;
-use scan::Byte;
 use scan::Number;
 ghost use mathlib.Core.Path.{_≡_};
 ghost use mathlib.Core.Option.{none};
@@ -9,7 +8,7 @@ ghost use Prim.Native.Nat.{ℕ, _+_, _<_, _≤_, min};
 ghost use lib.ListN.{length, take, drop};
 ghost use Rattle.format.specs.Number.{numBytes};
 ghost use Rattle.format.specs.Result.{ok};
-ghost use Rattle.format.specs.Message.{Message, Response, readMessage, responseLayout, response-of, response as responseFormat, flagged};
+ghost use Rattle.format.specs.Message.{Message, Response, readMessage, responseLayout, response-of, response as responseFormat};
 ghost use Rattle.message.specs.Verdict.{toldVerdict, verdictOf};
 ghost use Rattle.record.specs.Peeks.{numberAt, textAt, noteAt, notedAt, blockAt, hashSize, loginAt, loginRequestAt, serverAt, loginResponseAt, invocationAt};
 ghost use Rattle.record.specs.Places.{tripSize};
@@ -210,7 +209,11 @@ fn block_at(s: &[u8], at: usize) -> Block
 fn hash_size(h: u64) -> usize
     ensures { λ r. ⌜ r ≡ hashSize h ⌝ }
 {
-    if h == 1 { 32 } else { 20 }
+    if h == 1 {
+        format::LONG_HASH
+    } else {
+        format::SHORT_HASH
+    }
 }
 
 // Service, user and hash of a login request, from a place on.
@@ -244,7 +247,7 @@ fn read_login_request(m: &[u8]) -> LoginRequestRecord
     let first = number_at(m, 4, 1);
     let version = first.n;
     if version != 1 {
-        return read_login(m, 5, version, Edition::Absent, 20);
+        return read_login(m, 5, version, Edition::Absent, format::SHORT_HASH);
     }
     let second = number_at(m, 5, 1);
     let h = second.n;
@@ -331,13 +334,6 @@ fn read_invocation(m: &[u8]) -> InvocationRecord
     }
 }
 
-fn has_flag(flags: u8, bit: u8) -> bool
-    requires { ⌜ 0 < bit ⌝ }
-    ensures { λ r. ⌜ r ≡ flagged bit flags ⌝ }
-{
-    flags / bit % 2 == 1
-}
-
 // How many bytes a response's round trip has.
 fn trip_size(timed: bool) -> usize
     ensures { λ r. ⌜ r ≡ tripSize timed ⌝ }
@@ -350,9 +346,21 @@ fn read_flagged(m: &[u8], timed: bool, version: u64, flags: u8, client: [u8; 8])
     ensures { λ r. ⌜ ((l : Response) (next : ℕ) → responseFormat timed .read (now (m .entry)) 5 ≡ ok (l, next) → flags ≡ l .head .flags → client ≡ l .head .client
         → r ≡ responseOf version l) ⌝ }
 {
-    let status = noted_at(m, 14, 1, has_flag(flags, 32), true);
-    let app = noted_at(m, status.next, 1, has_flag(flags, 128), true);
-    let trip = noted_at(m, app.next, trip_size(timed), has_flag(flags, 64), false);
+    let status = noted_at(m, 14, 1, scan::has_flag(flags, format::STATUS_STRING), true);
+    let app = noted_at(
+        m,
+        status.next,
+        1,
+        scan::has_flag(flags, format::APP_STRING),
+        true,
+    );
+    let trip = noted_at(
+        m,
+        app.next,
+        trip_size(timed),
+        scan::has_flag(flags, format::EXCEPTION),
+        false,
+    );
     let count = number_at(m, trip.next, 2);
     let status_string = status.span;
     let app_string = app.span;
@@ -372,23 +380,13 @@ fn read_flagged(m: &[u8], timed: bool, version: u64, flags: u8, client: [u8; 8])
     }
 }
 
-fn byte_at(s: &[u8], at: usize) -> u8
-    ensures { λ r. ⌜ r ≡ numberAt (now (s .entry)) at 1 .n ⌝ }
-{
-    let byte = scan::read_byte(s, at);
-    match byte {
-        Byte::Is(b, _) => b,
-        Byte::No(_) => 0,
-    }
-}
-
 fn read_response(m: &[u8], timed: bool) -> ResponseRecord
     ensures { λ r. ⌜ ((p : Message) → readMessage (responseLayout timed) (now (m .entry)) ≡ ok p → r ≡ responseOf (p .version) (response-of (p .content))) ⌝ }
 {
     let version = number_at(m, 4, 1);
     let data = block_at(m, 5);
     let client = data.bytes;
-    read_flagged(m, timed, version.n, byte_at(m, 13), client)
+    read_flagged(m, timed, version.n, scan::byte_at(m, 13), client)
 }
 
 fn no_response() -> ResponseRecord

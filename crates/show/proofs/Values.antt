@@ -12,13 +12,13 @@ use borrow.Author.Tests.{leb-true}
 use Rattle.format.specs.declared.Fault.the-variants.{Decimal, Point}
 use Rattle.format.specs.Result.{Res, ok, no, bind, pick}
 use Rattle.format.specs.Format.{Format, number, ruled, into}
-use Rattle.format.specs.Value.{fixed, body, number-of, body-of, value, string, isCounted, widthOf, fixedFine, decimalFine, pointFine, within}
+use Rattle.format.specs.Value.{fixed, body, number-of, body-of, value, string, ruleOf, isCounted, widthOf, fixedFine, decimalFine, pointFine, within}
 use Rattle.format.proofs.Results.{and-true-both}
 use Rattle.scan.proofs.Steps.{ruled-any}
 use Rattle.show.specs.declared.Cell.{Cell}
 use Rattle.show.specs.declared.Shown.{Shown}
 use Rattle.scan.specs.Signed.{signed}
-use Rattle.show.specs.Cells.{plainCell, decimalCell, pointCell, fixedCell, bodyCell, cellOf, ruleOf, shownAs}
+use Rattle.show.specs.Cells.{plainCell, decimalCell, pointCell, fixedCell, bodyCell, cellOf, shownAs}
 use Rattle.show.proofs.Floats.{no-nan}
 
 -- a reading put into a value is shown as the value is

@@ -6,8 +6,7 @@ use lib.ListN.{length, take, drop}
 use lib.Dec.{eqb}
 use lib.Ieee.{Float, binary64, ofBits, toBits, nanBits}
 use Rattle.format.specs.Result.{Res, ok, no, pick}
-use Rattle.format.specs.Format.{Verdict}
-use Rattle.format.specs.Value.{Value, notEmpty, anything, fixed, body, tTinyint, tSmallint, tInteger, tBigint, tFloat, tString, tTimestamp, tDecimal, tVarbinary, tPoint, tGeography}
+use Rattle.format.specs.Value.{Value, fixed, body, tTinyint, tSmallint, tInteger, tBigint, tFloat, tString, tTimestamp, tDecimal, tVarbinary, tPoint, tGeography}
 use Rattle.scan.specs.Shown.{refusal}
 use Rattle.scan.specs.Signed.{signed, unsigned}
 use Rattle.show.specs.declared.Cell.{Cell}
@@ -54,10 +53,6 @@ bodyCell t at (some bs) = partCell t (at + 4) (length bs)
 abbrev pub cellOf : ℕ → ℕ → Value → Cell
 cellOf t at (fixed n) = fixedCell t n
 cellOf t at (body b) = bodyCell t at b
-
--- the rule of a counted type
-abbrev pub ruleOf : ℕ → List ℕ → Verdict
-ruleOf t = pick (eqb t tGeography) notEmpty anything
 
 module _ {A : Type 0} where
   -- the answer for what a reading gives

@@ -9,9 +9,9 @@ ghost use mathlib.Core.Bool.{true};
 ghost use Prim.Native.Nat.{_+_, _*_, _^_, min};
 ghost use Rattle.format.specs.declared.Fault.the-variants.{Decimal, Point};
 ghost use Rattle.format.specs.Format.{number, ruled};
-ghost use Rattle.format.specs.Value.{value, string, decimalFine, pointFine};
+ghost use Rattle.format.specs.Value.{value, string, ruleOf, decimalFine, pointFine};
 ghost use Rattle.scan.specs.Shown.{shownBody};
-ghost use Rattle.show.specs.Cells.{floatCell, plainCell, decimalCell, pointCell, partCell, nullCell, ruleOf, bodyCell, cellOf, shownAs};
+ghost use Rattle.show.specs.Cells.{floatCell, plainCell, decimalCell, pointCell, partCell, nullCell, bodyCell, cellOf, shownAs};
 
 // A value of a wire type. Text, varbinary and geography are where their bytes start and how many they are, or null.
 pub enum Cell {

@@ -9,8 +9,8 @@ use borrow.Author.Tests.{eq-eqb, ne-eqb}
 use Rattle.format.specs.declared.Fault.the-variants.{Version}
 use Rattle.format.specs.Result.{ok, no}
 use Rattle.format.specs.Number.{Bytes}
-use Rattle.format.specs.Format.{Format, Index, number, block, nothing, into, both, present}
-use Rattle.format.specs.Value.{anything, string}
+use Rattle.format.specs.Format.{Format, Index, number, block, nothing, into, both, present, Verdict}
+use Rattle.format.specs.Value.{string}
 use Rattle.format.specs.Message.{text, list, mostItems, first, param, invocation, Server, server, noServer, loginResponse, loginRequest, edition, hashSize, noted, trip}
 use Rattle.format.proofs.Results.{ok-same, bound}
 use Rattle.format.proofs.Laws.{Lawful, lawful-number, lawful-block, lawful-nothing, lawful-ruled, lawful-into, lawful-both, lawful-present}
@@ -108,13 +108,9 @@ hash-long h is = rw (eq-eqb h 1 is)
 pub hash-short : (h : ℕ) → (h ≡ 1 → ⊥) → hashSize (some h) ≡ 20
 hash-short h other = rw (ne-eqb h 1 other)
 
--- a body that a flag says is there
-pub lawful-optional : (t nullable : Bool) (l b : ℕ) → Lawful (present t none (string nullable anything l b))
-lawful-optional t nullable l b = search laws
-
--- a number with such a body, and a round trip
-pub lawful-noted : (k field : ℕ) (t nullable : Bool) (l b : ℕ) → Lawful (noted (number k field) t none (string nullable anything l b))
-lawful-noted k field t nullable l b = search laws
+-- a number with a body that a flag says is there, and a round trip
+pub lawful-noted : (k field : ℕ) (t nullable : Bool) (rule : List ℕ → Verdict) (l b : ℕ) → Lawful (noted (number k field) t none (string nullable rule l b))
+lawful-noted k field t nullable rule l b = search laws
 
 pub lawful-trip : (timed : Bool) → Lawful (trip timed)
 lawful-trip timed = search laws

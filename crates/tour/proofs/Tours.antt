@@ -18,10 +18,6 @@ use Rattle.format.specs.Number.{numAt, Bytes, half, null4}
 use Rattle.format.specs.Format.{Format, Index, number, block, nothing, ruled, into, both, counted, Verdict, fine, bad, judged}
 use Rattle.format.proofs.Results.{ok-same, no-ok, passed, spared, bound, and-true-both}
 use Rattle.format.proofs.Laws.{Lawful}
-use Rattle.format.specs.declared.Refusal.{Refusal}
-use Rattle.scan.specs.declared.Number.{Number}
-use Rattle.scan.specs.declared.Byte.{Byte}
-use Rattle.scan.specs.Shown.{shownNumber, shownByte}
 use Rattle.scan.proofs.Answers.{took}
 use Rattle.tour.specs.declared.Tour.{Tour}
 use Rattle.tour.specs.declared.Indices.{Indices}
@@ -181,22 +177,7 @@ module _ (s : List ℕ) {ix : Index} {tour : Tour} {out : List ℕ} {mid : Tour}
         (omega (arith, y .0, w .end), rw (w .there, visited-both, size, ← place, ← x .1) (y .1));
   }
 
--- an answer that is a refusal shows no reading that gave a number
-pub number-none : (r : Res (ℕ × ℕ)) {a : Number} {x : Refusal} → a ≡ shownNumber r → a ≡ Number.No x → {n next : ℕ} → r ≡ ok (n, next) → ⊥
-number-none r {a} {x} e told i = let z : _≡_ {A = ℕ} 0 1 = ap kind (sym told ∙ e ∙ ap shownNumber i) in omega arith
-  where
-    kind : Number → ℕ
-    kind (Number.Is n next) = 1
-    kind (Number.No y) = 0
-
 -- a slice's bytes
 pub bytes-all : (s : List ℕ) → ((k : ℕ) → Fits w8 (getD s k 0)) → Bytes s
 bytes-all [] every = tt
 bytes-all (b ∷ s) every = (every 0 .fits, bytes-all s (λ k. every (suc k)))
-
-pub byte-none : (r : Res (ℕ × ℕ)) {a : Byte} {x : Refusal} → a ≡ shownByte r → a ≡ Byte.No x → {n next : ℕ} → r ≡ ok (n, next) → ⊥
-byte-none r {a} {x} e told i = let z : _≡_ {A = ℕ} 0 1 = ap kind (sym told ∙ e ∙ ap shownByte i) in omega arith
-  where
-    kind : Byte → ℕ
-    kind (Byte.Is n next) = 1
-    kind (Byte.No y) = 0

@@ -12,8 +12,8 @@ use Rattle.format.specs.declared.Fault.the-variants.{Limit, Negative, WireType,
 use Rattle.format.specs.Result.{ok, pick}
 use Rattle.format.specs.Number.{Bytes, half}
 use Rattle.format.specs.Format.{Format, Index, Verdict, number, ruled, both, each}
-use Rattle.format.specs.Value.{fixed, body, number-of, body-of, value, string, anything, notEmpty, isCounted, isColumn, widthOf, fixedFine, mostBytes, tNull, tArray}
-use Rattle.format.specs.Message.{count, list, items, bytes, bytes-of, values, values-of, text, mostItems, second, columnType, argument, null, one, one-of, array, array-of, param}
+use Rattle.format.specs.Value.{fixed, body, number-of, body-of, value, string, anything, ruleOf, isCounted, isColumn, widthOf, fixedFine, mostBytes, tNull, tArray}
+use Rattle.format.specs.Message.{count, list, items, bytes, bytes-of, values, values-of, binary, mostItems, second, columnType, argument, null, one, one-of, array, array-of, param}
 use Rattle.format.proofs.Results.{passed, bound}
 use Rattle.format.proofs.Laws.{Lawful, lawful-number, lawful-ruled, lawful-both, lawful-each, all-replicate, length-each}
 use Rattle.format.proofs.Lengths.{lawful-counted}
@@ -53,7 +53,7 @@ module _ (s : List ℕ) (by : Bytes s) {tour : Tour} {out : List ℕ} {after : T
         → Walked (value l b t) s ix tour out after written
     unfolding value
     walked-body l b t is w =
-        let rule = pick (eqb t 27) notEmpty anything in
+        let rule = ruleOf t in
         rw is (walked-into s body body-of by (lawful-string true rule l b) (λ a g. refl) (w true rule))
 
     -- a value of one size, whose rule changes nothing of its field
@@ -86,7 +86,7 @@ module _ {A : Type 0} (k most field : ℕ) (at-index : ℕ → Index → Index) 
 
 module _ (s : List ℕ) (by : Bytes s) {ix : Index} {tour : Tour} {out : List ℕ} {after : Tour} {written : List ℕ} (t : ℕ) where
   -- an array's elements
-  pub walked-bytes : t ≡ 3 → Walked (text 26 28) s ix tour out after written → Walked (items t) s ix tour out after written
+  pub walked-bytes : t ≡ 3 → Walked (binary 26 28) s ix tour out after written → Walked (items t) s ix tour out after written
   unfolding items
   walked-bytes is w = rw is (walked-into s bytes bytes-of by (lawful-string false anything 26 28) (λ a g. refl) w)
 

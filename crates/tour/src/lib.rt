@@ -1,19 +1,17 @@
 // One descent over an accepted message, which meets its fields in wire order.
 use format::Fault;
 use format::Refusal;
-use scan::Byte;
-use scan::Number;
 ghost use mathlib.Core.Path.{_≡_};
 ghost use mathlib.Core.Bool.{Bool, false};
 ghost use mathlib.Core.List.{List, map};
 ghost use mathlib.Core.Option.{none};
-ghost use Prim.Native.Nat.{ℕ, _+_, _*_, _/_, _≤_, _<_, min};
+ghost use Prim.Native.Nat.{ℕ, _+_, _*_, _/_, _≤_, _<_};
 ghost use lib.ListN.{length, replicate};
 ghost use lib.Seq.{sets};
 ghost use Rattle.format.specs.Format.{number, each, present, Verdict};
 ghost use Rattle.format.specs.Result.{ok};
-ghost use Rattle.format.specs.Value.{string, anything, ascii, value};
-ghost use Rattle.format.specs.Message.{first, second, third, items, argument, param, invocation, loginRequest, server, loginResponse, columnType, Metadata, metadata, row, table, flagged, trip, afterFlags, head, response, contentOf};
+ghost use Rattle.format.specs.Value.{string, ascii, value};
+ghost use Rattle.format.specs.Message.{first, second, third, items, argument, param, invocation, loginRequest, server, loginResponse, columnType, Metadata, metadata, row, table, trip, afterFlags, head, response, contentOf};
 ghost use Rattle.message.specs.Login.{login};
 ghost use Rattle.tour.specs.Tour.{stateOf, indexOf, wanted, six, begun, fieldsOf, tourOf, outOf, Listed, Walked, Whole};
 ghost use Rattle.tour.specs.Told.{toldToured, touredNo};
@@ -143,28 +141,6 @@ fn past(s: &[u8], at: usize, n: usize) -> usize
     at + n
 }
 
-// The number of k bytes that stands at a place, where one does.
-fn number_at(s: &[u8], at: usize, k: usize) -> u64
-    ensures { λ r. ⌜ ((n next : ℕ) → number (min k 8) 0 .read (now (s .entry)) at ≡ ok (n, next) → r ≡ n) ⌝ }
-{
-    let read = scan::read_number(s, at, k);
-    match read {
-        Number::Is(n, _) => n,
-        Number::No(_) => 0,
-    }
-}
-
-// The byte at a place, where one stands.
-fn byte_at(s: &[u8], at: usize) -> u8
-    ensures { λ r. ⌜ ((n next : ℕ) → number 1 0 .read (now (s .entry)) at ≡ ok (n, next) → r ≡ n) ⌝ }
-{
-    let read = scan::read_byte(s, at);
-    match read {
-        Byte::Is(b, _) => b,
-        Byte::No(_) => 0,
-    }
-}
-
 // A field of so many bytes.
 fn walk_fixed(s: &[u8], out: &mut [u64], tour: Tour, width: usize, field: u64, ix: Indices) -> Tour
     ensures { λ r. ⌜ Walked (number width field) (now (s .entry)) (indexOf ix) tour (now (out .entry)) r (now (out .exit)) ⌝ }
@@ -173,15 +149,13 @@ fn walk_fixed(s: &[u8], out: &mut [u64], tour: Tour, width: usize, field: u64, i
     visit(out, tour, end, field, ix)
 }
 
-const NULL: u64 = 0xffff_ffff;
-
 // A length, and as many bytes as it says.
 fn walk_body(s: &[u8], out: &mut [u64], tour: Tour, prefix: u64, body: u64, ix: Indices) -> Tour
     ensures { λ r. ⌜ ((nullable : Bool) (rule : List ℕ → Verdict) → Walked (string nullable rule prefix body) (now (s .entry)) (indexOf ix) tour (now (out .entry)) r (now (out .exit))) ⌝ }
 {
-    let n = number_at(s, tour.at, 4);
+    let n = scan::number_at(s, tour.at, 4);
     let start = walk_fixed(s, out, tour, 4, prefix, ix);
-    if n == NULL {
+    if n == format::NULL_LENGTH {
         return start;
     }
     walk_fixed(s, out, start, n as usize, body, ix)
@@ -237,7 +211,7 @@ fn walk_items(s: &[u8], out: &mut [u64], tour: Tour, t: u8, ix: Indices) -> Tour
     if t == format::TINYINT {
         return walk_body(s, out, tour, 26, 28, ix);
     }
-    let n = number_at(s, tour.at, 2);
+    let n = scan::number_at(s, tour.at, 2);
     let elements = walk_fixed(s, out, tour, 2, 26, ix);
     walk_values(s, out, elements, t, n as usize, ix)
 }
@@ -250,7 +224,7 @@ fn walk_argument(s: &[u8], out: &mut [u64], tour: Tour, t: u8, ix: Indices) -> T
         return tour;
     }
     if t == format::ARRAY {
-        let element = byte_at(s, tour.at);
+        let element = scan::byte_at(s, tour.at);
         let array = walk_fixed(s, out, tour, 1, 25, ix);
         return walk_items(s, out, array, element, ix);
     }
@@ -261,7 +235,7 @@ fn walk_argument(s: &[u8], out: &mut [u64], tour: Tour, t: u8, ix: Indices) -> T
 fn walk_param(s: &[u8], out: &mut [u64], tour: Tour, ix: Indices) -> Tour
     ensures { λ r. ⌜ Walked param (now (s .entry)) (indexOf ix) tour (now (out .entry)) r (now (out .exit)) ⌝ }
 {
-    let t = byte_at(s, tour.at);
+    let t = scan::byte_at(s, tour.at);
     let value = walk_fixed(s, out, tour, 1, 24, ix);
     walk_argument(s, out, value, t, ix)
 }
@@ -290,7 +264,7 @@ fn walk_invocation(s: &[u8], out: &mut [u64], tour: Tour, ix: Indices) -> Tour
 {
     let client = walk_body(s, out, tour, 20, 21, ix);
     let count = walk_fixed(s, out, client, 8, 22, ix);
-    let n = number_at(s, count.at, 2);
+    let n = scan::number_at(s, count.at, 2);
     let params = walk_fixed(s, out, count, 2, 23, ix);
     walk_params(s, out, params, n as usize, ix)
 }
@@ -309,14 +283,14 @@ fn walk_login_request(s: &[u8], out: &mut [u64], tour: Tour, version: u8, ix: In
     ensures { λ r. ⌜ Walked (loginRequest version) (now (s .entry)) (indexOf ix) tour (now (out .entry)) r (now (out .exit)) ⌝ }
 {
     if version != 1 {
-        return walk_login(s, out, tour, 20, ix);
+        return walk_login(s, out, tour, format::SHORT_HASH, ix);
     }
-    let h = byte_at(s, tour.at);
+    let h = scan::byte_at(s, tour.at);
     let login = walk_fixed(s, out, tour, 1, 3, ix);
     if h == 1 {
-        return walk_login(s, out, login, 32, ix);
+        return walk_login(s, out, login, format::LONG_HASH, ix);
     }
-    walk_login(s, out, login, 20, ix)
+    walk_login(s, out, login, format::SHORT_HASH, ix)
 }
 
 // What follows a login's result of 0.
@@ -334,7 +308,7 @@ fn walk_server(s: &[u8], out: &mut [u64], tour: Tour, ix: Indices) -> Tour
 fn walk_login_response(s: &[u8], out: &mut [u64], tour: Tour, ix: Indices) -> Tour
     ensures { λ r. ⌜ Walked loginResponse (now (s .entry)) (indexOf ix) tour (now (out .entry)) r (now (out .exit)) ⌝ }
 {
-    let result = byte_at(s, tour.at);
+    let result = scan::byte_at(s, tour.at);
     let server = walk_fixed(s, out, tour, 1, 10, ix);
     if result != 0 {
         return server;
@@ -384,7 +358,7 @@ fn walk_metadata(s: &[u8], out: &mut [u64], tour: Tour, ix: Indices) -> Tour
 {
     let status = walk_fixed(s, out, tour, 4, 42, ix);
     let count = walk_fixed(s, out, status, 1, 43, ix);
-    let n = number_at(s, count.at, 2) as usize;
+    let n = scan::number_at(s, count.at, 2) as usize;
     let types = walk_fixed(s, out, count, 2, 44, ix);
     let names = walk_types(s, out, types, n, ix);
     walk_names(s, out, names, n, ix)
@@ -396,7 +370,7 @@ fn types_of(s: &[u8], at: usize) -> &[u8]
 {
     let count = past(s, at, 5);
     let first = past(s, at, 7);
-    let n = number_at(s, count, 2) as usize;
+    let n = scan::number_at(s, count, 2) as usize;
     if !scan::fits(s, first, n) {
         return &s[0..0];
     }
@@ -455,7 +429,7 @@ fn walk_table(s: &[u8], out: &mut [u64], tour: Tour, ix: Indices) -> Tour
     let metadata = walk_fixed(s, out, tour, 4, 41, ix);
     let types = types_of(s, metadata.at);
     let count = walk_metadata(s, out, metadata, ix);
-    let n = number_at(s, count.at, 4) as usize;
+    let n = scan::number_at(s, count.at, 4) as usize;
     let rows = walk_fixed(s, out, count, 4, 48, ix);
     walk_rows(s, out, rows, types, n, ix)
 }
@@ -488,19 +462,12 @@ fn walk_optional(
     body: u64,
     ix: Indices,
 ) -> Tour
-    ensures { λ r. ⌜ ((nullable : Bool) → Walked (present there none (string nullable anything prefix body)) (now (s .entry)) (indexOf ix) tour (now (out .entry)) r (now (out .exit))) ⌝ }
+    ensures { λ r. ⌜ ((nullable : Bool) (rule : List ℕ → Verdict) → Walked (present there none (string nullable rule prefix body)) (now (s .entry)) (indexOf ix) tour (now (out .entry)) r (now (out .exit))) ⌝ }
 {
     if !there {
         return tour;
     }
     walk_body(s, out, tour, prefix, body, ix)
-}
-
-fn is_flagged(flags: u8, bit: u8) -> bool
-    requires { ⌜ 0 < bit ⌝ }
-    ensures { λ r. ⌜ r ≡ flagged bit flags ⌝ }
-{
-    flags / bit % 2 == 1
 }
 
 // A response's round trip, if it has one.
@@ -518,11 +485,35 @@ fn walk_flagged(s: &[u8], out: &mut [u64], tour: Tour, timed: bool, flags: u8, i
     ensures { λ r. ⌜ Walked (afterFlags timed flags) (now (s .entry)) (indexOf ix) tour (now (out .entry)) r (now (out .exit)) ⌝ }
 {
     let string = walk_fixed(s, out, tour, 1, 31, ix);
-    let application = walk_optional(s, out, string, is_flagged(flags, 32), 32, 33, ix);
+    let application = walk_optional(
+        s,
+        out,
+        string,
+        scan::has_flag(flags, format::STATUS_STRING),
+        32,
+        33,
+        ix,
+    );
     let words = walk_fixed(s, out, application, 1, 34, ix);
-    let trip = walk_optional(s, out, words, is_flagged(flags, 128), 35, 36, ix);
+    let trip = walk_optional(
+        s,
+        out,
+        words,
+        scan::has_flag(flags, format::APP_STRING),
+        35,
+        36,
+        ix,
+    );
     let exception = walk_trip(s, out, trip, timed, ix);
-    walk_optional(s, out, exception, is_flagged(flags, 64), 38, 39, ix)
+    walk_optional(
+        s,
+        out,
+        exception,
+        scan::has_flag(flags, format::EXCEPTION),
+        38,
+        39,
+        ix,
+    )
 }
 
 // All that stands in a response before the count of its tables.
@@ -530,7 +521,7 @@ fn walk_head(s: &[u8], out: &mut [u64], tour: Tour, timed: bool, ix: Indices) ->
     ensures { λ r. ⌜ Walked (head timed) (now (s .entry)) (indexOf ix) tour (now (out .entry)) r (now (out .exit)) ⌝ }
 {
     let client = walk_fixed(s, out, tour, 8, 22, ix);
-    let flags = byte_at(s, client.at);
+    let flags = scan::byte_at(s, client.at);
     let status = walk_fixed(s, out, client, 1, 30, ix);
     walk_flagged(s, out, status, timed, flags, ix)
 }
@@ -540,7 +531,7 @@ fn walk_response(s: &[u8], out: &mut [u64], tour: Tour, timed: bool, ix: Indices
     ensures { λ r. ⌜ Walked (response timed) (now (s .entry)) (indexOf ix) tour (now (out .entry)) r (now (out .exit)) ⌝ }
 {
     let count = walk_head(s, out, tour, timed, ix);
-    let n = number_at(s, count.at, 2) as usize;
+    let n = scan::number_at(s, count.at, 2) as usize;
     let tables = walk_fixed(s, out, count, 2, 40, ix);
     walk_tables(s, out, tables, n, ix)
 }
@@ -571,7 +562,7 @@ fn walk_message(layout: u8, m: &[u8], out: &mut [u64], first: usize, offset: usi
         last: 0,
     };
     let length = walk_fixed(m, out, start, 4, 1, ix);
-    let version = byte_at(m, length.at);
+    let version = scan::byte_at(m, length.at);
     let content = walk_fixed(m, out, length, 1, 2, ix);
     walk_content(layout, m, out, content, version, ix)
 }

@@ -6,6 +6,7 @@ use Rattle.format.specs.Message.{Response}
 use Rattle.record.specs.declared.Num.{Num}
 use Rattle.record.specs.declared.Block.{Block}
 use Rattle.record.specs.Records.{responseOf}
+use Rattle.record.proofs.Fields.{byte-is}
 use Rattle.record.proofs.Records.{replied, response-read}
 use borrow.Author.Needs.{needs}
 use Rattle.record.proofs.read_response.Statement.{statement}
@@ -30,7 +31,7 @@ returns c =
     let m = a .m .now in
     let p = response-read (a .timed) m r e in
     let t = replied (a .timed) m (p .0) (length m) (p .1) in
-    let flags = c .before .byte-at .ensures ∙ ap (λ (x : Num). x .n) (t .flags) in
+    let flags = c .before .byte-at .ensures ∙ byte-is m 13 ∙ ap (λ (x : Num). x .n) (t .flags) in
     let client = ap (λ (x : Block). x .bytes) (c .before .before .before .block-at .ensures ∙ t .client .0) in
     let version = ap (λ (x : Num). x .n) (c .before .before .before .before .number-at .ensures) ∙ p .3 in
     c .read-flagged .ensures (p .0) (length m) (p .1) flags client ∙ ap₂ (λ (v : ℕ) (l : Response). responseOf v l) version (p .2)

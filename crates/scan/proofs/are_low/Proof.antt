@@ -1,9 +1,9 @@
 -- `scan::are_low` meets its contract: each of the bytes is no more than the last answer. Assumes nothing.
 use mathlib.Core.Path.{_≡_, ap}
-use Prim.Native.Nat.{ℕ, zero, suc, _+_, _<_}
+use Prim.Native.Nat.{ℕ, zero, suc, _+_, _<_, _≤_}
 use lib.ListN.{getD}
 use native.Mathlib.Omega.{arith}
-use borrow.Author.Tests.{ltb-true}
+use borrow.Author.Tests.{leb-true}
 use Rattle.scan.proofs.Counted.{ascii-run}
 use borrow.Author.Needs.{needs}
 use Rattle.scan.proofs.are_low.Statement.{statement}
@@ -21,86 +21,86 @@ each-of-8 P a b c d e f g h (suc (suc (suc (suc (suc (suc zero)))))) l = g
 each-of-8 P a b c d e f g h (suc (suc (suc (suc (suc (suc (suc zero))))))) l = h
 each-of-8 P a b c d e f g h (suc (suc (suc (suc (suc (suc (suc (suc k)))))))) l = absurd (omega arith)
 
-shared-slice-read-either : tie.Need-shared-slice-read-either
-shared-slice-read-either c = search needs
+shared-slice-read-joined : tie.Need-shared-slice-read-joined
+shared-slice-read-joined c = search needs
 
-add-either : tie.Need-add-either
-add-either c = search needs
+add-joined : tie.Need-add-joined
+add-joined c = search needs
 
-shared-slice-read-either-2 : tie.Need-shared-slice-read-either-2
-shared-slice-read-either-2 c = search needs
+shared-slice-read-joined-2 : tie.Need-shared-slice-read-joined-2
+shared-slice-read-joined-2 c = search needs
 
-either-requires : tie.Need-either-requires
-either-requires c κs = search needs
+joined-requires : tie.Need-joined-requires
+joined-requires c κs = search needs
 
-add-either-2 : tie.Need-add-either-2
-add-either-2 c = search needs
+add-joined-2 : tie.Need-add-joined-2
+add-joined-2 c = search needs
 
-shared-slice-read-either-3 : tie.Need-shared-slice-read-either-3
-shared-slice-read-either-3 c = search needs
+shared-slice-read-joined-3 : tie.Need-shared-slice-read-joined-3
+shared-slice-read-joined-3 c = search needs
 
-add-either-3 : tie.Need-add-either-3
-add-either-3 c = search needs
+add-joined-3 : tie.Need-add-joined-3
+add-joined-3 c = search needs
 
-shared-slice-read-either-4 : tie.Need-shared-slice-read-either-4
-shared-slice-read-either-4 c = search needs
+shared-slice-read-joined-4 : tie.Need-shared-slice-read-joined-4
+shared-slice-read-joined-4 c = search needs
 
-either-requires-2 : tie.Need-either-requires-2
-either-requires-2 c κs = search needs
+joined-requires-2 : tie.Need-joined-requires-2
+joined-requires-2 c κs = search needs
 
-either-requires-3 : tie.Need-either-requires-3
-either-requires-3 c κs = search needs
+joined-requires-3 : tie.Need-joined-requires-3
+joined-requires-3 c κs = search needs
 
-add-either-4 : tie.Need-add-either-4
-add-either-4 c = search needs
+add-joined-4 : tie.Need-add-joined-4
+add-joined-4 c = search needs
 
-shared-slice-read-either-5 : tie.Need-shared-slice-read-either-5
-shared-slice-read-either-5 c = search needs
+shared-slice-read-joined-5 : tie.Need-shared-slice-read-joined-5
+shared-slice-read-joined-5 c = search needs
 
-add-either-5 : tie.Need-add-either-5
-add-either-5 c = search needs
+add-joined-5 : tie.Need-add-joined-5
+add-joined-5 c = search needs
 
-shared-slice-read-either-6 : tie.Need-shared-slice-read-either-6
-shared-slice-read-either-6 c = search needs
+shared-slice-read-joined-6 : tie.Need-shared-slice-read-joined-6
+shared-slice-read-joined-6 c = search needs
 
-either-requires-4 : tie.Need-either-requires-4
-either-requires-4 c κs = search needs
+joined-requires-4 : tie.Need-joined-requires-4
+joined-requires-4 c κs = search needs
 
-add-either-6 : tie.Need-add-either-6
-add-either-6 c = search needs
+add-joined-6 : tie.Need-add-joined-6
+add-joined-6 c = search needs
 
-shared-slice-read-either-7 : tie.Need-shared-slice-read-either-7
-shared-slice-read-either-7 c = search needs
+shared-slice-read-joined-7 : tie.Need-shared-slice-read-joined-7
+shared-slice-read-joined-7 c = search needs
 
-add-either-7 : tie.Need-add-either-7
-add-either-7 c = search needs
+add-joined-7 : tie.Need-add-joined-7
+add-joined-7 c = search needs
 
-shared-slice-read-either-8 : tie.Need-shared-slice-read-either-8
-shared-slice-read-either-8 c = search needs
+shared-slice-read-joined-8 : tie.Need-shared-slice-read-joined-8
+shared-slice-read-joined-8 c = search needs
 
-either-requires-5 : tie.Need-either-requires-5
-either-requires-5 c κs = search needs
+joined-requires-5 : tie.Need-joined-requires-5
+joined-requires-5 c κs = search needs
 
-either-requires-6 : tie.Need-either-requires-6
-either-requires-6 c κs = search needs
+joined-requires-6 : tie.Need-joined-requires-6
+joined-requires-6 c κs = search needs
 
-either-requires-7 : tie.Need-either-requires-7
-either-requires-7 c κs = search needs
+joined-requires-7 : tie.Need-joined-requires-7
+joined-requires-7 c κs = search needs
 
 returns : tie.Need-returns
 returns c =
     let b = c .before .before .before .before .before .before .before .before .before .before .before .before .before .before .before .before .args .b .now in
     let i = c .before .before .before .before .before .before .before .before .before .before .before .before .before .before .before .before .args .i in
     λ e.
-    let top : c .either7 .result < 128 = ltb-true _ _ e in
-    let all = c .either7 .ensures in
-    let first = c .before .before .before .before .before .before .before .before .either3 .ensures in
-    let last = c .before .either6 .ensures in
+    let top : c .joined7 .result ≤ 127 = leb-true _ _ e in
+    let all = c .joined7 .ensures in
+    let first = c .before .before .before .before .before .before .before .before .joined3 .ensures in
+    let last = c .before .joined6 .ensures in
     let here : getD b (i + 0) 0 ≡ getD b i 0 = ap (λ (j : ℕ). getD b j 0) (omega arith) in
-    let ab = c .before .before .before .before .before .before .before .before .before .before .before .before .either .ensures in
-    let cd = c .before .before .before .before .before .before .before .before .before .either2 .ensures in
-    let ef = c .before .before .before .before .before .either4 .ensures in
-    let gh = c .before .before .either5 .ensures in
+    let ab = c .before .before .before .before .before .before .before .before .before .before .before .before .joined .ensures in
+    let cd = c .before .before .before .before .before .before .before .before .before .joined2 .ensures in
+    let ef = c .before .before .before .before .before .joined4 .ensures in
+    let gh = c .before .before .joined5 .ensures in
     ascii-run b i 8 (c .before .before .before .before .before .before .before .before .before .before .before .before .before .before .before .before .pre)
     (each-of-8 (λ k. getD b (i + k) 0 < 128)
     (omega (arith, top, all .0, first .0, ab .0, here))
@@ -116,26 +116,26 @@ pub are-low-spec : {M : Type 1} → statement M
 are-low-spec =
     tie.close
     (tie.spec
-    shared-slice-read-either
-    add-either
-    shared-slice-read-either-2
-    either-requires
-    add-either-2
-    shared-slice-read-either-3
-    add-either-3
-    shared-slice-read-either-4
-    either-requires-2
-    either-requires-3
-    add-either-4
-    shared-slice-read-either-5
-    add-either-5
-    shared-slice-read-either-6
-    either-requires-4
-    add-either-6
-    shared-slice-read-either-7
-    add-either-7
-    shared-slice-read-either-8
-    either-requires-5
-    either-requires-6
-    either-requires-7
+    shared-slice-read-joined
+    add-joined
+    shared-slice-read-joined-2
+    joined-requires
+    add-joined-2
+    shared-slice-read-joined-3
+    add-joined-3
+    shared-slice-read-joined-4
+    joined-requires-2
+    joined-requires-3
+    add-joined-4
+    shared-slice-read-joined-5
+    add-joined-5
+    shared-slice-read-joined-6
+    joined-requires-4
+    add-joined-6
+    shared-slice-read-joined-7
+    add-joined-7
+    shared-slice-read-joined-8
+    joined-requires-5
+    joined-requires-6
+    joined-requires-7
     returns)

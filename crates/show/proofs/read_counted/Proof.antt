@@ -4,10 +4,10 @@ use mathlib.Core.Bool.{true}
 use Prim.Native.Nat.{_-_}
 use lib.ListN.{length}
 use native.Mathlib.Omega.{arith}
-use Rattle.format.specs.Value.{string, mostBytes}
+use Rattle.format.specs.Value.{string, ruleOf, mostBytes}
 use Rattle.show.specs.declared.Cell.{Cell}
 use Rattle.show.specs.declared.Shown.{Shown}
-use Rattle.show.specs.Cells.{partCell, bodyCell, ruleOf, shownAs}
+use Rattle.show.specs.Cells.{partCell, bodyCell, shownAs}
 use Rattle.scan.proofs.Answers.{body-go}
 use Rattle.show.proofs.Bodies.{body-null, body-none, stood}
 use borrow.Author.Needs.{needs}

@@ -4,6 +4,7 @@ use mathlib.Core.Path.{_≡_, sym, _∙_}
 use lib.ListN.{length}
 use native.Mathlib.Omega.{arith}
 use borrow.Author.Tests.{leb-true, leb-false, not-true, not-false}
+use Rattle.scan.proofs.Answers.{number-stands}
 use Rattle.tour.proofs.Tours.{bytes-all}
 use Rattle.tour.proofs.Tables.{found-columns}
 use borrow.Author.Needs.{needs}
@@ -35,7 +36,7 @@ returns : tie.Need-returns
 returns c =
     λ m next e.
     let a = c .before .before .before .before .before .before .before .args in
-    let w = found-columns (a .s .now) (bytes-all (a .s .now) (c .before .before .before .before .before .before .shared-slice-known .given)) (a .at) m next e (c .before .before .before .before .before .past .ensures) (c .before .before .before .before .past2 .ensures) (c .before .before .before .number-at .ensures) in
+    let w = found-columns (a .s .now) (bytes-all (a .s .now) (c .before .before .before .before .before .before .shared-slice-known .given)) (a .at) m next e (c .before .before .before .before .before .past .ensures) (c .before .before .before .before .past2 .ensures) (number-stands (c .before .before .before .number-at .ensures)) in
     let fit = w .0 in
     let over : length (a .s .now) < (c .before .before .before .before .past2 .result) + (c .before .before .before .number-at .result) = leb-false _ _ (sym (c .before .before .fits2 .ensures) ∙ not-true _ (c .before .if1 .taken)) in
     absurd (omega arith)
@@ -62,7 +63,7 @@ returns-2 : tie.Need-returns-2
 returns-2 c =
     λ m next e.
     let a = c .before .before .before .before .before .before .before .args in
-    let w = found-columns (a .s .now) (bytes-all (a .s .now) (c .before .before .before .before .before .before .shared-slice-known .given)) (a .at) m next e (c .before .before .before .before .before .past .ensures) (c .before .before .before .before .past2 .ensures) (c .before .before .before .number-at .ensures) in
+    let w = found-columns (a .s .now) (bytes-all (a .s .now) (c .before .before .before .before .before .before .shared-slice-known .given)) (a .at) m next e (c .before .before .before .before .before .past .ensures) (c .before .before .before .before .past2 .ensures) (number-stands (c .before .before .before .number-at .ensures)) in
     let size : (c .before .before .before .before .past2 .result) + (c .before .before .before .number-at .result) - (c .before .before .before .before .past2 .result) ≡ (c .before .before .before .number-at .result) = omega arith in
     rw size (sym (w .1))
 

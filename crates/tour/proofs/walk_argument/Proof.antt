@@ -2,6 +2,7 @@
 use Rattle.format.specs.declared.Fault.the-variants.{WireType}
 use Rattle.format.specs.Value.{isColumn}
 use Rattle.format.specs.Message.{items}
+use Rattle.scan.proofs.Answers.{byte-stands}
 use Rattle.tour.proofs.Tours.{bytes-all}
 use Rattle.tour.proofs.Values.{walked-null-argument, walked-array, walked-one, walked-typed}
 use borrow.Author.Needs.{needs}
@@ -27,7 +28,7 @@ returns-2 : tie.Need-returns-2
 returns-2 c =
     let a = c .before .before .before .before .before .before .before .before .before .before .before .before .before .args in
     let b = bytes-all (a .s .now) (c .before .before .before .before .before .before .before .before .before .before .before .before .shared-slice-known .given) in
-    walked-array (a .s .now) b (a .t) (c .before .before .before .before .before .before .before .before .before .if2 .taken) (walked-typed isColumn WireType 25 items (a .s .now) b (c .before .before .before .before .before .before .before .before .byte-at .ensures) (c .before .before .before .before .before .before .walk-fixed .ensures) (c .before .before .walk-items .ensures))
+    walked-array (a .s .now) b (a .t) (c .before .before .before .before .before .before .before .before .before .if2 .taken) (walked-typed isColumn WireType 25 items (a .s .now) b (byte-stands (c .before .before .before .before .before .before .before .before .byte-at .ensures)) (c .before .before .before .before .before .before .walk-fixed .ensures) (c .before .before .walk-items .ensures))
 
 walk-value-requires : tie.Need-walk-value-requires
 walk-value-requires c κs = search needs

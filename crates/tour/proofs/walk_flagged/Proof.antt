@@ -2,7 +2,8 @@
 use mathlib.Core.Path.{_∙_}
 use mathlib.Core.Option.{none}
 use mathlib.Core.Bool.{true, false}
-use Rattle.format.specs.Message.{text, nullText}
+use Rattle.format.specs.Value.{anything, textRule}
+use Rattle.format.specs.Message.{binary, nullText}
 use Rattle.format.proofs.Laws.{lawful-number}
 use Rattle.tour.proofs.Tours.{bytes-all}
 use Rattle.tour.proofs.Contents.{walked-then, lawful-noted, lawful-trip, walked-if}
@@ -13,8 +14,8 @@ use Rattle.tour.proofs.walk_flagged.Tie as tie
 walk-fixed-requires : tie.Need-walk-fixed-requires
 walk-fixed-requires c κs = search needs
 
-is-flagged-requires : tie.Need-is-flagged-requires
-is-flagged-requires c κs = search needs
+has-flag-requires : tie.Need-has-flag-requires
+has-flag-requires c κs = search needs
 
 walk-optional-requires : tie.Need-walk-optional-requires
 walk-optional-requires c κs = search needs
@@ -22,8 +23,8 @@ walk-optional-requires c κs = search needs
 walk-fixed-requires-2 : tie.Need-walk-fixed-requires-2
 walk-fixed-requires-2 c κs = search needs
 
-is-flagged-requires-2 : tie.Need-is-flagged-requires-2
-is-flagged-requires-2 c κs = search needs
+has-flag-requires-2 : tie.Need-has-flag-requires-2
+has-flag-requires-2 c κs = search needs
 
 walk-optional-requires-2 : tie.Need-walk-optional-requires-2
 walk-optional-requires-2 c κs = search needs
@@ -31,8 +32,8 @@ walk-optional-requires-2 c κs = search needs
 walk-trip-requires : tie.Need-walk-trip-requires
 walk-trip-requires c κs = search needs
 
-is-flagged-requires-3 : tie.Need-is-flagged-requires-3
-is-flagged-requires-3 c κs = search needs
+has-flag-requires-3 : tie.Need-has-flag-requires-3
+has-flag-requires-3 c κs = search needs
 
 walk-optional-requires-3 : tie.Need-walk-optional-requires-3
 walk-optional-requires-3 c κs = search needs
@@ -45,22 +46,22 @@ returns c =
     let a = c .before .before .before .before .before .before .before .before .before .before .before .before .before .before .before .before .before .before .before .before .before .before .before .before .before .before .before .before .before .args in
     let s = a .s .now in
     let b = bytes-all s (c .before .before .before .before .before .before .before .before .before .before .before .before .before .before .before .before .before .before .before .before .before .before .before .before .before .before .before .before .shared-slice-known .given) in
-    walked-then s b (lawful-noted 1 31 _ true 32 33) (walked-then s b (lawful-number 1 31) (c .before .before .before .before .before .before .before .before .before .before .before .before .before .before .before .before .before .before .before .before .before .before .before .before .before .walk-fixed .ensures) (walked-if none (nullText 32 33) (c .before .before .before .before .before .before .before .before .before .before .before .before .before .before .before .before .before .before .before .before .before .is-flagged .ensures) ((c .before .before .before .before .before .before .before .before .before .before .before .before .before .before .before .before .before .before .before .before .walk-optional .ensures) true)))
-    (walked-then s b (lawful-noted 1 34 _ true 35 36) (walked-then s b (lawful-number 1 34) (c .before .before .before .before .before .before .before .before .before .before .before .before .before .before .before .before .walk-fixed2 .ensures) (walked-if none (nullText 35 36) (c .before .before .before .before .before .before .before .before .before .before .before .before .is-flagged2 .ensures) ((c .before .before .before .before .before .before .before .before .before .before .before .walk-optional2 .ensures) true)))
-    (walked-then s b (lawful-trip (a .timed)) (c .before .before .before .before .before .before .before .walk-trip .ensures) (walked-if none (text 38 39) (c .before .before .before .is-flagged3 .ensures) ((c .before .before .walk-optional3 .ensures) false))))
+    walked-then s b (lawful-noted 1 31 _ true textRule 32 33) (walked-then s b (lawful-number 1 31) (c .before .before .before .before .before .before .before .before .before .before .before .before .before .before .before .before .before .before .before .before .before .before .before .before .before .walk-fixed .ensures) (walked-if none (nullText 32 33) (c .before .before .before .before .before .before .before .before .before .before .before .before .before .before .before .before .before .before .before .before .before .has-flag .ensures) ((c .before .before .before .before .before .before .before .before .before .before .before .before .before .before .before .before .before .before .before .before .walk-optional .ensures) true textRule)))
+    (walked-then s b (lawful-noted 1 34 _ true textRule 35 36) (walked-then s b (lawful-number 1 34) (c .before .before .before .before .before .before .before .before .before .before .before .before .before .before .before .before .walk-fixed2 .ensures) (walked-if none (nullText 35 36) (c .before .before .before .before .before .before .before .before .before .before .before .before .has-flag2 .ensures) ((c .before .before .before .before .before .before .before .before .before .before .before .walk-optional2 .ensures) true textRule)))
+    (walked-then s b (lawful-trip (a .timed)) (c .before .before .before .before .before .before .before .walk-trip .ensures) (walked-if none (binary 38 39) (c .before .before .before .has-flag3 .ensures) ((c .before .before .walk-optional3 .ensures) false anything))))
 
 pub walk-flagged-spec : {M : Type 1} → statement M
 walk-flagged-spec =
     tie.close
     (tie.spec
     walk-fixed-requires
-    is-flagged-requires
+    has-flag-requires
     walk-optional-requires
     walk-fixed-requires-2
-    is-flagged-requires-2
+    has-flag-requires-2
     walk-optional-requires-2
     walk-trip-requires
-    is-flagged-requires-3
+    has-flag-requires-3
     walk-optional-requires-3
     same-length
     returns)

@@ -4,6 +4,7 @@ use lib.Dec.{eqb}
 use Rattle.format.specs.declared.Fault.the-variants.{Flags}
 use Rattle.format.specs.Message.{afterFlags}
 use Rattle.format.proofs.Laws.{lawful-block}
+use Rattle.scan.proofs.Answers.{byte-stands}
 use Rattle.tour.proofs.Tours.{bytes-all, walked-block}
 use Rattle.tour.proofs.Values.{walked-typed}
 use Rattle.tour.proofs.Contents.{walked-then}
@@ -33,7 +34,7 @@ returns c =
     let s = a .s .now in
     let b = bytes-all s (c .before .before .before .before .before .before .before .before .before .before .before .before .before .before .shared-slice-known .given) in
     walked-head s b (a .timed) (walked-then s b (lawful-block 8 22) (walked-block s 8 22 (c .before .before .before .before .before .before .before .before .before .before .before .walk-fixed .ensures))
-    (walked-typed (λ n. eqb (n % 32) 0) Flags 30 (afterFlags (a .timed)) s b (c .before .before .before .before .before .before .before .before .byte-at .ensures) (c .before .before .before .before .before .before .walk-fixed2 .ensures) (c .before .before .walk-flagged .ensures)))
+    (walked-typed (λ n. eqb (n % 32) 0) Flags 30 (afterFlags (a .timed)) s b (byte-stands (c .before .before .before .before .before .before .before .before .byte-at .ensures)) (c .before .before .before .before .before .before .walk-fixed2 .ensures) (c .before .before .walk-flagged .ensures)))
 
 pub walk-head-spec : {M : Type 1} → statement M
 walk-head-spec =

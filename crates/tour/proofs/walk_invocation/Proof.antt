@@ -1,9 +1,10 @@
 -- `tour::walk_invocation` meets its contract: field after field. Assumes nothing.
 use mathlib.Core.Bool.{false}
-use Rattle.format.specs.Value.{anything}
+use Rattle.format.specs.Value.{textRule}
 use Rattle.format.specs.Message.{mostItems, first}
 use Rattle.format.proofs.Laws.{lawful-block}
 use Rattle.format.proofs.Formats.{lawful-param}
+use Rattle.scan.proofs.Answers.{number-stands}
 use Rattle.tour.proofs.Tours.{bytes-all, walked-block}
 use Rattle.tour.proofs.Values.{lawful-string, walked-list}
 use Rattle.tour.proofs.Contents.{walked-then, walked-invocation}
@@ -34,8 +35,8 @@ returns c =
     let a = c .before .before .before .before .before .before .before .before .before .before .before .before .before .before .before .before .before .before .before .args in
     let s = a .s .now in
     let b = bytes-all (a .s .now) (c .before .before .before .before .before .before .before .before .before .before .before .before .before .before .before .before .before .before .shared-slice-known .given) in
-    walked-invocation s b (walked-then s b (lawful-string false anything 20 21) ((c .before .before .before .before .before .before .before .before .before .before .before .before .before .before .before .walk-body .ensures) false anything) (walked-then s b (lawful-block 8 22) (walked-block s 8 22 (c .before .before .before .before .before .before .before .before .before .before .before .walk-fixed .ensures))
-    (walked-list 2 mostItems 23 first lawful-param s b (c .before .before .before .before .before .before .before .before .number-at .ensures) (c .before .before .before .before .before .before .walk-fixed2 .ensures) (c .before .before .walk-params .ensures))))
+    walked-invocation s b (walked-then s b (lawful-string false textRule 20 21) ((c .before .before .before .before .before .before .before .before .before .before .before .before .before .before .before .walk-body .ensures) false textRule) (walked-then s b (lawful-block 8 22) (walked-block s 8 22 (c .before .before .before .before .before .before .before .before .before .before .before .walk-fixed .ensures))
+    (walked-list 2 mostItems 23 first lawful-param s b (number-stands (c .before .before .before .before .before .before .before .before .number-at .ensures)) (c .before .before .before .before .before .before .walk-fixed2 .ensures) (c .before .before .walk-params .ensures))))
 
 pub walk-invocation-spec : {M : Type 1} → statement M
 walk-invocation-spec =

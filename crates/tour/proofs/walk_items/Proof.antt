@@ -3,6 +3,7 @@ use mathlib.Core.Bool.{false}
 use Rattle.format.specs.Value.{anything}
 use Rattle.format.specs.Message.{mostItems, second}
 use Rattle.format.proofs.Formats.{lawful-value}
+use Rattle.scan.proofs.Answers.{number-stands}
 use Rattle.tour.proofs.Tours.{bytes-all}
 use Rattle.tour.proofs.Values.{walked-list, walked-bytes, walked-values}
 use borrow.Author.Needs.{needs}
@@ -34,7 +35,7 @@ returns-2 : tie.Need-returns-2
 returns-2 c =
     let a = c .before .before .before .before .before .before .before .before .before .before .before .before .args in
     let b = bytes-all (a .s .now) (c .before .before .before .before .before .before .before .before .before .before .before .shared-slice-known .given) in
-    walked-values (a .s .now) b (a .t) (c .before .before .before .before .before .before .before .before .before .if1 .left) (walked-list 2 mostItems 26 second (lawful-value 27 28 (a .t)) (a .s .now) b (c .before .before .before .before .before .before .before .before .number-at .ensures) (c .before .before .before .before .before .before .walk-fixed .ensures) (c .before .before .walk-values .ensures))
+    walked-values (a .s .now) b (a .t) (c .before .before .before .before .before .before .before .before .before .if1 .left) (walked-list 2 mostItems 26 second (lawful-value 27 28 (a .t)) (a .s .now) b (number-stands (c .before .before .before .before .before .before .before .before .number-at .ensures)) (c .before .before .before .before .before .before .walk-fixed .ensures) (c .before .before .walk-values .ensures))
 
 pub walk-items-spec : {M : Type 1} → statement M
 walk-items-spec =

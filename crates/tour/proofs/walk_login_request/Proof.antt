@@ -1,4 +1,5 @@
 -- `tour::walk_login_request` meets its contract: a hash version in version 1 alone, and the rest by it. Assumes nothing.
+use Rattle.scan.proofs.Answers.{byte-stands}
 use Rattle.tour.proofs.Tours.{bytes-all}
 use Rattle.tour.proofs.Contents.{walked-old, walked-new, hash-long, hash-short}
 use borrow.Author.Needs.{needs}
@@ -27,7 +28,7 @@ same-length-2 : tie.Need-same-length-2
 same-length-2 c = search needs
 
 returns-2 : tie.Need-returns-2
-returns-2 c = let a = c .before .before .before .before .before .before .before .before .before .before .before .before .before .args in walked-new (a .s .now) (bytes-all (a .s .now) (c .before .before .before .before .before .before .before .before .before .before .before .before .shared-slice-known .given)) (a .version) (c .before .before .before .before .before .before .before .before .before .before .if1 .left) (c .before .before .before .before .before .before .before .before .before .byte-at .ensures) (c .before .before .before .before .before .before .before .walk-fixed .ensures) (rw (hash-long _ (c .before .before .before .before .if2 .taken)) (c .before .before .walk-login2 .ensures))
+returns-2 c = let a = c .before .before .before .before .before .before .before .before .before .before .before .before .before .args in walked-new (a .s .now) (bytes-all (a .s .now) (c .before .before .before .before .before .before .before .before .before .before .before .before .shared-slice-known .given)) (a .version) (c .before .before .before .before .before .before .before .before .before .before .if1 .left) (byte-stands (c .before .before .before .before .before .before .before .before .before .byte-at .ensures)) (c .before .before .before .before .before .before .before .walk-fixed .ensures) (rw (hash-long _ (c .before .before .before .before .if2 .taken)) (c .before .before .walk-login2 .ensures))
 
 walk-login-requires-3 : tie.Need-walk-login-requires-3
 walk-login-requires-3 c κs = search needs
@@ -36,7 +37,7 @@ same-length-3 : tie.Need-same-length-3
 same-length-3 c = search needs
 
 returns-3 : tie.Need-returns-3
-returns-3 c = let a = c .before .before .before .before .before .before .before .before .before .before .before .before .before .args in walked-new (a .s .now) (bytes-all (a .s .now) (c .before .before .before .before .before .before .before .before .before .before .before .before .shared-slice-known .given)) (a .version) (c .before .before .before .before .before .before .before .before .before .before .if1 .left) (c .before .before .before .before .before .before .before .before .before .byte-at .ensures) (c .before .before .before .before .before .before .before .walk-fixed .ensures) (rw (hash-short _ (c .before .before .before .before .if2 .left)) (c .before .before .walk-login3 .ensures))
+returns-3 c = let a = c .before .before .before .before .before .before .before .before .before .before .before .before .before .args in walked-new (a .s .now) (bytes-all (a .s .now) (c .before .before .before .before .before .before .before .before .before .before .before .before .shared-slice-known .given)) (a .version) (c .before .before .before .before .before .before .before .before .before .before .if1 .left) (byte-stands (c .before .before .before .before .before .before .before .before .before .byte-at .ensures)) (c .before .before .before .before .before .before .before .walk-fixed .ensures) (rw (hash-short _ (c .before .before .before .before .if2 .left)) (c .before .before .walk-login3 .ensures))
 
 pub walk-login-request-spec : {M : Type 1} → statement M
 walk-login-request-spec =

@@ -3,6 +3,7 @@ use borrow.Author.Tests.{eq-eqb, ne-eqb}
 use Rattle.format.specs.Message.{server, noServer}
 use Rattle.format.proofs.Laws.{lawful-number}
 use Rattle.format.proofs.Formats.{lawful-server}
+use Rattle.scan.proofs.Answers.{byte-stands}
 use Rattle.tour.proofs.Tours.{bytes-all}
 use Rattle.tour.proofs.Contents.{served, walked-by, walked-present, walked-absent, walked-response, number-told}
 use borrow.Author.Needs.{needs}
@@ -23,7 +24,7 @@ returns c =
     let a = c .before .before .before .before .before .before .before .before .args in
     let s = a .s .now in
     let b = bytes-all (a .s .now) (c .before .before .before .before .before .before .before .shared-slice-known .given) in
-    walked-response s b (walked-by s b served (lawful-number 1 10) (number-told s 1 10 _ (c .before .before .before .before .before .byte-at .ensures)) (c .before .before .before .walk-fixed .ensures) (walked-absent noServer server s _ (ne-eqb _ 0 (c .if1 .taken)) _ _))
+    walked-response s b (walked-by s b served (lawful-number 1 10) (number-told s 1 10 _ (byte-stands (c .before .before .before .before .before .byte-at .ensures))) (c .before .before .before .walk-fixed .ensures) (walked-absent noServer server s _ (ne-eqb _ 0 (c .if1 .taken)) _ _))
 
 walk-server-requires : tie.Need-walk-server-requires
 walk-server-requires c κs = search needs
@@ -36,7 +37,7 @@ returns-2 c =
     let a = c .before .before .before .before .before .before .before .before .before .before .before .before .args in
     let s = a .s .now in
     let b = bytes-all (a .s .now) (c .before .before .before .before .before .before .before .before .before .before .before .shared-slice-known .given) in
-    walked-response s b (walked-by s b served (lawful-number 1 10) (number-told s 1 10 _ (c .before .before .before .before .before .before .before .before .before .byte-at .ensures)) (c .before .before .before .before .before .before .before .walk-fixed .ensures) (walked-present noServer server s _ (eq-eqb _ 0 (c .before .before .before .before .if1 .left)) b lawful-server (c .before .before .walk-server .ensures)))
+    walked-response s b (walked-by s b served (lawful-number 1 10) (number-told s 1 10 _ (byte-stands (c .before .before .before .before .before .before .before .before .before .byte-at .ensures))) (c .before .before .before .before .before .before .before .walk-fixed .ensures) (walked-present noServer server s _ (eq-eqb _ 0 (c .before .before .before .before .if1 .left)) b lawful-server (c .before .before .walk-server .ensures)))
 
 pub walk-login-response-spec : {M : Type 1} → statement M
 walk-login-response-spec =

@@ -3,6 +3,7 @@ use lib.Dec.{leb}
 use mathlib.Core.Path.{refl}
 use Rattle.format.specs.declared.Fault.the-variants.{Version}
 use Rattle.format.specs.Message.{contentOf, newest}
+use Rattle.scan.proofs.Answers.{byte-stands}
 use Rattle.tour.proofs.Tours.{bytes-all}
 use Rattle.tour.proofs.Values.{walked-typed}
 use Rattle.tour.proofs.Messages.{walked-whole}
@@ -30,7 +31,7 @@ returns c =
     let a = c .before .before .before .before .before .before .before .before .before .before .before .before .before .before .before .args in
     let m = a .m .now in
     let b = bytes-all m (c .before .before .before .before .before .before .before .before .before .before .before .before .before .before .shared-slice-known .given) in
-    record { goes = walked-whole (a .layout) m b refl (c .before .before .before .before .before .before .before .before .before .before .before .walk-fixed .ensures) (walked-typed (λ n. leb n (newest (a .layout))) Version 2 (contentOf (a .layout)) m b (c .before .before .before .before .before .before .before .before .byte-at .ensures) (c .before .before .before .before .before .before .walk-fixed2 .ensures) (c .before .before .walk-content .ensures)) }
+    record { goes = walked-whole (a .layout) m b refl (c .before .before .before .before .before .before .before .before .before .before .before .walk-fixed .ensures) (walked-typed (λ n. leb n (newest (a .layout))) Version 2 (contentOf (a .layout)) m b (byte-stands (c .before .before .before .before .before .before .before .before .byte-at .ensures)) (c .before .before .before .before .before .before .walk-fixed2 .ensures) (c .before .before .walk-content .ensures)) }
 
 pub walk-message-spec : {M : Type 1} → statement M
 walk-message-spec =

@@ -2,6 +2,7 @@
 use mathlib.Core.Path.{_∙_}
 use Rattle.format.specs.Message.{mostColumns}
 use Rattle.format.proofs.Laws.{lawful-number}
+use Rattle.scan.proofs.Answers.{number-stands}
 use Rattle.tour.proofs.Tours.{bytes-all}
 use Rattle.tour.proofs.Values.{lawful-count, count-told}
 use Rattle.tour.proofs.Contents.{walked-then, walked-by}
@@ -37,7 +38,7 @@ returns c =
     let s = a .s .now in
     let b = bytes-all (a .s .now) (c .before .before .before .before .before .before .before .before .before .before .before .before .before .before .before .before .before .before .before .before .before .before .shared-slice-known .given) in
     walked-metadata s b (c .before .before .before .before .before .before .before .before .before .before .before .before .before .before .before .before .before .before .before .walk-fixed .ensures) (walked-then s b (lawful-number 1 43) (c .before .before .before .before .before .before .before .before .before .before .before .before .before .before .before .walk-fixed2 .ensures)
-    (walked-by s b columns (lawful-count 2 mostColumns 44) (count-told s 2 mostColumns 44 _ (c .before .before .before .before .before .before .before .before .before .before .before .before .number-at .ensures)) (walked-count s b 2 mostColumns 44 (c .before .before .before .before .before .before .before .before .before .before .walk-fixed3 .ensures))
+    (walked-by s b columns (lawful-count 2 mostColumns 44) (count-told s 2 mostColumns 44 _ (number-stands (c .before .before .before .before .before .before .before .before .before .before .before .before .number-at .ensures))) (walked-count s b 2 mostColumns 44 (c .before .before .before .before .before .before .before .before .before .before .walk-fixed3 .ensures))
     (walked-then s b (lawful-types (c .before .before .before .before .before .before .before .before .before .before .before .before .number-at .result)) (c .before .before .before .before .before .before .walk-types .ensures) (c .before .before .walk-names .ensures))))
 
 pub walk-metadata-spec : {M : Type 1} → statement M

@@ -1,6 +1,7 @@
 -- `tour::walk_param` meets its contract: a type, and what it decides. Assumes nothing.
 use Rattle.format.specs.declared.Fault.the-variants.{WireType}
 use Rattle.format.specs.Message.{argument}
+use Rattle.scan.proofs.Answers.{byte-stands}
 use Rattle.tour.proofs.Tours.{bytes-all}
 use Rattle.tour.proofs.Values.{isParam, walked-param, walked-typed}
 use borrow.Author.Needs.{needs}
@@ -23,7 +24,7 @@ returns : tie.Need-returns
 returns c =
     let a = c .before .before .before .before .before .before .before .before .before .before .before .args in
     let b = bytes-all (a .s .now) (c .before .before .before .before .before .before .before .before .before .before .shared-slice-known .given) in
-    walked-param (a .s .now) b (walked-typed isParam WireType 24 argument (a .s .now) b (c .before .before .before .before .before .before .before .before .byte-at .ensures) (c .before .before .before .before .before .before .walk-fixed .ensures) (c .before .before .walk-argument .ensures))
+    walked-param (a .s .now) b (walked-typed isParam WireType 24 argument (a .s .now) b (byte-stands (c .before .before .before .before .before .before .before .before .byte-at .ensures)) (c .before .before .before .before .before .before .walk-fixed .ensures) (c .before .before .walk-argument .ensures))
 
 pub walk-param-spec : {M : Type 1} → statement M
 walk-param-spec =

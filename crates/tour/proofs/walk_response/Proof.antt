@@ -1,6 +1,7 @@
 -- `tour::walk_response` meets its contract: its head, and then its tables. Assumes nothing.
 use Rattle.format.specs.Message.{mostItems, first}
 use Rattle.format.proofs.Formats.{lawful-head, lawful-table}
+use Rattle.scan.proofs.Answers.{number-stands}
 use Rattle.tour.proofs.Tours.{bytes-all}
 use Rattle.tour.proofs.Values.{walked-list}
 use Rattle.tour.proofs.Contents.{walked-then}
@@ -30,7 +31,7 @@ returns c =
     let s = a .s .now in
     let b = bytes-all s (c .before .before .before .before .before .before .before .before .before .before .before .before .before .before .shared-slice-known .given) in
     walked-reply s b (a .timed) (walked-then s b (lawful-head (a .timed)) (c .before .before .before .before .before .before .before .before .before .before .before .walk-head .ensures)
-    (walked-list 2 mostItems 40 first lawful-table s b (c .before .before .before .before .before .before .before .before .number-at .ensures) (c .before .before .before .before .before .before .walk-fixed .ensures) (c .before .before .walk-tables .ensures)))
+    (walked-list 2 mostItems 40 first lawful-table s b (number-stands (c .before .before .before .before .before .before .before .before .number-at .ensures)) (c .before .before .before .before .before .before .walk-fixed .ensures) (c .before .before .walk-tables .ensures)))
 
 pub walk-response-spec : {M : Type 1} → statement M
 walk-response-spec =

@@ -2,6 +2,7 @@
 use mathlib.Core.Path.{_∙_}
 use Rattle.format.specs.Message.{second, unlimited}
 use Rattle.format.proofs.Formats.{lawful-metadata, lawful-row}
+use Rattle.scan.proofs.Answers.{number-stands}
 use Rattle.tour.proofs.Tours.{bytes-all, walked-both}
 use Rattle.tour.proofs.Values.{walked-list}
 use Rattle.tour.proofs.Tables.{rows, walked-table}
@@ -37,7 +38,7 @@ returns c =
     let b = bytes-all (a .s .now) (c .before .before .before .before .before .before .before .before .before .before .before .before .before .before .before .before .before .before .before .shared-slice-known .given) in
     walked-table s b (c .before .before .before .before .before .before .before .before .before .before .before .before .before .before .before .before .walk-fixed .ensures) (walked-both b {g = rows} lawful-metadata (c .before .before .before .before .before .before .before .before .before .before .before .walk-metadata .ensures) (λ m next e.
     let same = (c .before .before .before .before .before .before .before .before .before .before .before .before .before .types-of .ensures) m next e in
-    rw (← same) (walked-list 4 unlimited 48 second (lawful-row _) s b (c .before .before .before .before .before .before .before .before .number-at .ensures) (c .before .before .before .before .before .before .walk-fixed2 .ensures) (c .before .before .walk-rows .ensures))))
+    rw (← same) (walked-list 4 unlimited 48 second (lawful-row _) s b (number-stands (c .before .before .before .before .before .before .before .before .number-at .ensures)) (c .before .before .before .before .before .before .walk-fixed2 .ensures) (c .before .before .walk-rows .ensures))))
 
 pub walk-table-spec : {M : Type 1} → statement M
 walk-table-spec =
