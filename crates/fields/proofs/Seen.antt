@@ -15,13 +15,18 @@ use Rattle.format.specs.Result.{Res, ok, no as refused, pick}
 use Rattle.format.specs.Format.{Entry}
 use Rattle.format.proofs.Took.{Tiles}
 use Rattle.format.proofs.Results.{no-ok}
-use Rattle.tour.specs.Tour.{State, six, picks, listed, visited, begun}
+use Rattle.tour.specs.Task.{State, doing, listTask, six, wanted, acted}
+use Rattle.tour.specs.Tour.{visited}
 use Rattle.tour.proofs.Visits.{visited-both}
 use Rattle.fields.specs.Questions.{ownerFrom, windowOf, sixes, over}
-use Rattle.fields.proofs.Folds.{counted, Each, Asked, passes, early, before, full, step-take, step-past, fills, each-drop, length-sixes}
+use Rattle.fields.proofs.Listing.{counted, Each, Asked, passes, early, full, taken-one, step-take, step-past, fills, each-drop, length-sixes}
+
+-- the task that lists, before any field
+abbrev pub listing : ℕ → ℕ → List ℕ → State
+listing first offset out = doing (listTask first offset) out
 
 -- each of some entries side by side ends past 0, and there are at most as many as bytes
-pub tiles-asked : (o end : ℕ) (es : List Entry) → Tiles o es end → (st : State) → st .offset ≡ 0 → Each (Asked st) es
+pub tiles-asked : (o end : ℕ) (es : List Entry) → Tiles o es end → (st : State) → st .task .offset ≡ 0 → Each (Asked st) es
 unfolding Tiles Each Asked
 tiles-asked o end [] t st z = tt
 tiles-asked o end (e ∷ es) t st z = let first = t .0 in let some = t .1 in (omega arith, tiles-asked (o + e .size) end es (t .2) st z)
@@ -33,23 +38,23 @@ tiles-few o end (e ∷ es) t = let some = t .1 in let more = tiles-few (o + e .s
 
 -- a window that is written
 pub record Windowed (es : List Entry) (first : ℕ) (out : List ℕ) (after : State) : Type 0 where
-  pub seen : after .seen ≡ length es
-  pub taken : after .taken ≡ length (windowOf es first (length out))
+  pub seen : after .task .seen ≡ length es
+  pub taken : after .task .taken ≡ length (windowOf es first (length out))
   pub numbers : after .out ≡ over (sixes (windowOf es first (length out))) out
 
-module _ (es : List Entry) (first : ℕ) (out : List ℕ) (small : length es < 2 ^ 64) (asked : Each (Asked (begun first 0 out)) es) where
-  none-there : length es ≤ first → Windowed es first out (visited (begun first 0 out) es)
+module _ (es : List Entry) (first : ℕ) (out : List ℕ) (small : length es < 2 ^ 64) (asked : Each (Asked (listing first 0 out)) es) where
+  none-there : length es ≤ first → Windowed es first out (visited (listing first 0 out) es)
   unfolding sixes
   none-there past =
-      let st = begun first 0 out in
+      let st = listing first 0 out in
       let w : visited st es ≡ counted st (length es) = passes (length es) es st (omega arith) small (early st (length es) past es) ∙ ap (counted st) (omega arith) in
       let none : drop first es ≡ [] = drop-of-length-le es {i = first} past in
       record { seen = rw w; taken = rw (w, none) (simp take-nil); numbers = rw (w, none) (simp take-nil) }
 
-  some-there : first < length es → Windowed es first out (visited (begun first 0 out) es)
+  some-there : first < length es → Windowed es first out (visited (listing first 0 out) es)
   unfolding Asked
   some-there low =
-      let st = begun first 0 out in
+      let st = listing first 0 out in
       let a = take first es in
       let d = drop first es in
       let size : length a ≡ first = length-take-le first es (omega arith) in
@@ -61,8 +66,8 @@ module _ (es : List Entry) (first : ℕ) (out : List ℕ) (small : length es < 2
       let vs = sixes (take (length out / 6) d) in
       let long : length vs ≡ 6 * length (take (length out / 6) d) = length-sixes (take (length out / 6) d) in
       let few = length-take-few (length out / 6) d in
-      let f₁ : visited (counted st first) d .seen ≡ first + length d = f .seen in
-      let f₂ : visited (counted st first) d .taken ≡ 0 + length (take (length out / 6) d) = rw room at (f .taken) in
+      let f₁ : visited (counted st first) d .task .seen ≡ first + length d = f .seen in
+      let f₂ : visited (counted st first) d .task .taken ≡ 0 + length (take (length out / 6) d) = rw room at (f .taken) in
       let f₃ : visited (counted st first) d .out ≡ sets out (6 * 0) vs = rw room at (f .out) in
       record {
         seen = rw both (f₁ ∙ omega arith);
@@ -76,19 +81,19 @@ module _ (es : List Entry) (first : ℕ) (out : List ℕ) (small : length es < 2
       front : (l vs : List ℕ) → length vs ≤ length l → sets l 0 vs ≡ over vs l
       front l vs h = let z : 0 + length vs ≡ length vs = omega arith in rw z at (sets-eq vs l 0 (omega arith))
 
-  pub windowed : Windowed es first out (visited (begun first 0 out) es)
+  pub windowed : Windowed es first out (visited (listing first 0 out) es)
   windowed = by-test (decLt first (length es))
     where
-      by-test : Dec (first < length es) → Windowed es first out (visited (begun first 0 out) es)
+      by-test : Dec (first < length es) → Windowed es first out (visited (listing first 0 out) es)
       by-test (yes low) = some-there low
       by-test (no high) = none-there (omega arith)
 
 -- a tour that looks for the owner of the byte k, before it is found and after
 abbrev pub owning : ℕ → List ℕ → ℕ → State
-owning k out n = record { first = 0; offset = k; seen = n; taken = 0; last = 0; out = out }
+owning k out n = counted (listing 0 k out) n
 
 abbrev pub owned : ℕ → List ℕ → ℕ → Res (Entry × ℕ) → State
-owned k out n (ok w) = record { first = 0; offset = k; seen = n; taken = 1; last = w .1; out = sets out 0 (six (w .0)) }
+owned k out n (ok w) = doing (record { first = 0; offset = k; seen = n; taken = 1; last = w .1 }) (sets out 0 (six (w .0)))
 owned k out n (refused f p) = owning k out n
 
 module _ (k : ℕ) (out : List ℕ) (six-long : length out ≡ 6) where
@@ -97,9 +102,9 @@ module _ (k : ℕ) (out : List ℕ) (six-long : length out ≡ 6) where
   unfolding visited ownerFrom
   owns-first e es n low high small =
       let st = owning k out n in
-      let found : State = record { first = 0; offset = k; seen = n + 1; taken = 1; last = n; out = sets out 0 (six e) } in
-      let is : picks 0 k n 0 (e .at + e .size) (length out) ≡ true = rw (le-leb 0 n (omega arith), lt-ltb k (e .at + e .size) high, six-long) in
-      let same : listed st e ≡ found = step-take st e (omega arith) is in
+      let found : State = taken-one st e in
+      let is : wanted (owning k out n .task) (e .at + e .size) (length out) ≡ true = rw (le-leb 0 n (omega arith), lt-ltb k (e .at + e .size) high, six-long) in
+      let same : acted st e ≡ found = step-take st e (omega arith) is in
       let long : length (found .out) ≡ 6 = length-sets out 0 (six e) ∙ six-long in
       let over : length (found .out) / 6 ≤ 1 = rw long (omega arith) in
       let rest : visited found es ≡ counted found (n + 1 + length es) = passes (n + 1 + length es) es found (omega arith) (omega arith) (full found (n + 1 + length es) over es) in
@@ -112,9 +117,9 @@ module _ (k : ℕ) (out : List ℕ) (six-long : length out ≡ 6) where
   unfolding visited ownerFrom
   owns-later e es n low small w =
       let not-yet : ltb k (e .at + e .size) ≡ false = le-ltb k (e .at + e .size) low in
-      let skips : picks 0 k n 0 (e .at + e .size) (length out) ≡ false = rw not-yet (simp and-false) in
+      let skips : wanted (owning k out n .task) (e .at + e .size) (length out) ≡ false = rw not-yet (simp and-false) in
       let other : leb (e .at) k && ltb k (e .at + e .size) ≡ false = rw not-yet (simp and-false) in
-      let same : listed (owning k out n) e ≡ owning k out (n + 1) = step-past (owning k out n) e (omega arith) skips in
+      let same : acted (owning k out n) e ≡ owning k out (n + 1) = step-past (owning k out n) e (omega arith) skips in
       let sum : n + 1 + length es ≡ n + suc (length es) = omega arith in
       rw (other, same, ← sum) w
 

@@ -3,7 +3,7 @@ use Prim.Native.Nat.{ℕ, zero, suc, _+_, _-_, _/_, _≤_, _<_, _*_}
 use mathlib.Core.Path.{_≡_, refl, sym, _∙_, ap}
 use mathlib.Core.Bool.{Bool, true, false, _&&_, and-false}
 use mathlib.Core.List.{List, [], _∷_, _++_}
-use mathlib.Core.Option.{some, none}
+use mathlib.Core.Option.{some}
 use lib.ListN.{length, take, drop, getElem?, length-drop, length-take, drop-of-length-le}
 use lib.Seq.{drop-drop, take-append-seam, drop-append-seam}
 use lib.Dec.{leb, ltb}
@@ -20,14 +20,14 @@ use Rattle.format.proofs.Results.{ok-same, no-ok}
 use Rattle.format.proofs.Took.{Tiles}
 use Rattle.format.proofs.Owner.{Owns, Owner}
 use Rattle.format.proofs.Demands.{accepted→encodes, fields-tile, field-owner}
-use Rattle.tour.specs.Tour.{six}
+use Rattle.tour.specs.Task.{six}
 use Rattle.fields.specs.declared.Entry as fields
 use Rattle.fields.specs.declared.Counted.{Counted}
 use Rattle.fields.specs.declared.Listed.{Listed}
 use Rattle.fields.specs.declared.Owned.{Owned}
 use Rattle.fields.specs.declared.Written.{Written}
 use Rattle.fields.specs.Questions.{nth, ownerFrom, ownerOf, windowOf, windowOut, sixes, over, entryAt}
-use Rattle.fields.proofs.Folds.{length-sixes}
+use Rattle.fields.proofs.Listing.{length-sixes}
 use Rattle.fields.specs.Told.{toldCounted, toldListed, toldOwned, toldWritten}
 
 -- the entries got by n windows, each from where the one before ended; the i-th has room for so many numbers

@@ -51,11 +51,12 @@ pub fn count(kind: u8, m: &[u8]) -> Counted
 {
     let layout = format::kind_layout(kind);
     let mut six: [u64; 6] = [0; 6];
-    let toured = tour::over(layout, m, &mut six, 0, 0);
-    let Toured::Over(tour) = toured else {
+    let asked = tour::list_task(0, 0);
+    let toured = tour::visit_all(layout, m, &mut six, asked);
+    let Toured::Done(task) = toured else {
         return Counted::No(tour::toured_refusal(toured));
     };
-    Counted::Is(tour.seen)
+    Counted::Is(task.seen)
 }
 
 // The entry of a number in the list, from 0 on.
@@ -64,11 +65,12 @@ pub fn field(kind: u8, m: &[u8], n: usize) -> Listed
 {
     let layout = format::kind_layout(kind);
     let mut six: [u64; 6] = [0; 6];
-    let toured = tour::over(layout, m, &mut six, n, 0);
-    let Toured::Over(tour) = toured else {
+    let asked = tour::list_task(n, 0);
+    let toured = tour::visit_all(layout, m, &mut six, asked);
+    let Toured::Done(task) = toured else {
         return Listed::No(tour::toured_refusal(toured));
     };
-    if tour.seen <= n {
+    if task.seen <= n {
         return Listed::No(past_end());
     }
     Listed::Is(entry_of(&six))
@@ -80,14 +82,15 @@ pub fn owner(kind: u8, m: &[u8], offset: usize) -> Owned
 {
     let layout = format::kind_layout(kind);
     let mut six: [u64; 6] = [0; 6];
-    let toured = tour::over(layout, m, &mut six, 0, offset);
-    let Toured::Over(tour) = toured else {
+    let asked = tour::list_task(0, offset);
+    let toured = tour::visit_all(layout, m, &mut six, asked);
+    let Toured::Done(task) = toured else {
         return Owned::No(tour::toured_refusal(toured));
     };
-    if tour.taken == 0 {
+    if task.taken == 0 {
         return Owned::No(past_end());
     }
-    let number = tour.last;
+    let number = task.last;
     Owned::By(entry_of(&six), number)
 }
 
@@ -96,14 +99,15 @@ pub fn window(kind: u8, m: &[u8], first: usize, out: &mut [u64]) -> Written
     ensures { λ r. ⌜ (toldWritten r ≡ bind (fieldsOf (kindLayout kind) (now (m .entry))) (λ es. windowCount es first (length (now (out .entry))))) × (now (out .exit) ≡ windowOut (fieldsOf (kindLayout kind) (now (m .entry))) first (now (out .entry))) ⌝ }
 {
     let layout = format::kind_layout(kind);
-    let toured = tour::over(layout, m, out, first, 0);
-    let Toured::Over(tour) = toured else {
+    let asked = tour::list_task(first, 0);
+    let toured = tour::visit_all(layout, m, out, asked);
+    let Toured::Done(task) = toured else {
         return Written::No(tour::toured_refusal(toured));
     };
-    if tour.seen <= first {
+    if task.seen <= first {
         return Written::No(past_end());
     }
-    Written::Is(tour.taken)
+    Written::Is(task.taken)
 }
 
 fn past_end() -> Refusal

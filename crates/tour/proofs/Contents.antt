@@ -16,7 +16,7 @@ use Rattle.format.proofs.Results.{ok-same, bound}
 use Rattle.format.proofs.Laws.{Lawful, lawful-number, lawful-block, lawful-nothing, lawful-ruled, lawful-into, lawful-both, lawful-present}
 use Rattle.format.proofs.Formats.{lawful-list, lawful-param, lawful-server}
 use Rattle.tour.specs.declared.Tour.{Tour}
-use Rattle.tour.specs.Tour.{Walked}
+use Rattle.tour.specs.Walks.{Walked}
 use Rattle.message.specs.Login.{login}
 use Rattle.tour.proofs.Tours.{walked-ruled, walked-into, walked-both, walked-nothing}
 use Rattle.tour.proofs.Values.{lawful-string, ruled-read}

@@ -1,5 +1,6 @@
--- The proofs. From the bottom: what a tour has seen after some fields, the walk over each way to make a format, loops, values and
--- parameters, the kinds 1 to 3, tables and responses, whole messages; and that no two answers tell the same.
+-- The proofs. From the bottom: what a task does with one field, what it has met after some, the walk over each way to make a format,
+-- loops, values and parameters, the kinds 1 to 3, tables and responses, whole messages; and that no two answers tell the same.
+pub mod Acts
 pub mod Visits
 pub mod Tours
 pub mod Rounds

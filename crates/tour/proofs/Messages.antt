@@ -19,8 +19,11 @@ use Rattle.message.specs.declared.Verdict.{Verdict}
 use Rattle.message.specs.Verdict.{toldVerdict, verdictOf, verdictNo}
 use Rattle.message.proofs.Accepted.{verdict-go, verdict-stop}
 use Rattle.message.proofs.Whole.{versioned}
+use Rattle.tour.specs.declared.Task.{Task}
 use Rattle.tour.specs.declared.Tour.{Tour}
-use Rattle.tour.specs.Tour.{State, stateOf, visited, begun, fieldsOf, tourOf, outOf, Walked, Whole}
+use Rattle.tour.specs.Task.{State, doing}
+use Rattle.tour.specs.Tour.{visited, fieldsOf, taskAfter, outAfter}
+use Rattle.tour.specs.Walks.{stateOf, Walked, Whole}
 use Rattle.tour.proofs.Visits.{visited-both}
 use Rattle.tour.proofs.Tours.{walked-into}
 
@@ -63,19 +66,18 @@ module _ (layout : ℕ) (m : List ℕ) (by : Bytes m) {start : Tour} {out : List
       (y .0, rw (visited-both, ← first) second)
 
 -- the answer of a tour over a message that is refused, and over one that is accepted
-pub tour-refused : (layout : ℕ) (m : List ℕ) (n : ℕ) (st : State) {v : Verdict} {given x : Refusal} → toldVerdict v ≡ verdictOf (readMessage layout m) → v ≡ Verdict.No given → x ≡ verdictNo v
-    → (no (x .fault) (x .place) ≡ tourOf (fieldsOf layout m) n st) × (st .out ≡ outOf (fieldsOf layout m) st)
-tour-refused layout m n st told none out = rw (verdict-stop (readMessage layout m) told none out) (refl, refl)
+pub tour-refused : (layout : ℕ) (m : List ℕ) (st : State) {v : Verdict} {given x : Refusal} → toldVerdict v ≡ verdictOf (readMessage layout m) → v ≡ Verdict.No given → x ≡ verdictNo v
+    → (no (x .fault) (x .place) ≡ taskAfter (fieldsOf layout m) st) × (st .out ≡ outAfter (fieldsOf layout m) st)
+tour-refused layout m st told none out = rw (verdict-stop (readMessage layout m) told none out) (refl, refl)
 
-pub tour-accepted : (layout : ℕ) (m : List ℕ) (first offset : ℕ) (out : List ℕ) {after : Tour} {written : List ℕ} {v : Verdict} → toldVerdict v ≡ verdictOf (readMessage layout m) → v ≡ Verdict.Fine
-    → Whole layout m first offset out after written → (ok after ≡ tourOf (fieldsOf layout m) (length m) (begun first offset out)) × (written ≡ outOf (fieldsOf layout m) (begun first offset out))
-tour-accepted layout m first offset out {after} {written} told fine w =
+pub tour-accepted : (layout : ℕ) (m : List ℕ) (task : Task) (out : List ℕ) {after : Tour} {written : List ℕ} {v : Verdict} → toldVerdict v ≡ verdictOf (readMessage layout m) → v ≡ Verdict.Fine
+    → Whole layout m task out after written → (ok (after .task) ≡ taskAfter (fieldsOf layout m) (doing task out)) × (written ≡ outAfter (fieldsOf layout m) (doing task out))
+tour-accepted layout m task out {after} {written} told fine w =
     let go = verdict-go (readMessage layout m) told fine in
     let es = messageFields layout (go .0) in
     let are : fieldsOf layout m ≡ ok es = ap (λ (x : Res Message). bind x (λ q. ok (messageFields layout q))) (go .1) in
-    let end = w .goes (go .0) (go .1) in
-    answers (fieldsOf layout m) es are (end .0) (end .1)
+    answers (fieldsOf layout m) es are (w .goes (go .0) (go .1) .1)
   where
-    answers : (x : Res (List Entry)) (es : List Entry) → x ≡ ok es → after .at ≡ length m → stateOf after written ≡ visited (begun first offset out) es
-        → (ok after ≡ tourOf x (length m) (begun first offset out)) × (written ≡ outOf x (begun first offset out))
-    answers x es are place state = (rw (are, ← place, ← state), rw are (ap (λ (st : State). st .out) state))
+    answers : (x : Res (List Entry)) (es : List Entry) → x ≡ ok es → stateOf after written ≡ visited (doing task out) es
+        → (ok (after .task) ≡ taskAfter x (doing task out)) × (written ≡ outAfter x (doing task out))
+    answers x es are state = (rw are (ap (λ (st : State). ok (st .task)) state), rw are (ap (λ (st : State). st .out) state))

@@ -1,7 +1,7 @@
--- What a loop over some values keeps: what is left to read ends where all of them do, and its fields, after those listed, are all the fields.
+-- What a loop over some values keeps: what is left to read ends where all of them do, and its fields, after those met, are all the fields.
 use Prim.Native.Nat.{ℕ, suc, _+_, _-_, _≤_, _<_}
 use mathlib.Core.Path.{_≡_, refl, _∙_, ap, subst}
-use mathlib.Core.List.{List, [], _∷_, map}
+use mathlib.Core.List.{List, _∷_, map}
 use lib.ListN.{length, replicate, getD}
 use native.Mathlib.Omega.{arith}
 use Rattle.format.specs.Result.{ok}
@@ -11,7 +11,9 @@ use Rattle.format.proofs.Results.{ok-same, bound}
 use Rattle.format.proofs.Laws.{Lawful}
 use Rattle.scan.proofs.Loops.{formats, replicate-formats, map-formats}
 use Rattle.tour.specs.declared.Tour.{Tour}
-use Rattle.tour.specs.Tour.{State, stateOf, visited, Walked}
+use Rattle.tour.specs.Task.{State}
+use Rattle.tour.specs.Tour.{visited}
+use Rattle.tour.specs.Walks.{stateOf, Walked}
 use Rattle.tour.proofs.Visits.{visited-both}
 
 module _ {A : Type 0} (at-index : ℕ → Index → Index) (r : ℕ → Format A) (n : ℕ) where

@@ -23,7 +23,7 @@ use Rattle.format.proofs.Formats.{lawful-list, lawful-value, lawful-metadata, l
 use Rattle.scan.proofs.Answers.{took}
 use Rattle.scan.proofs.Params.{byte-is}
 use Rattle.tour.specs.declared.Tour.{Tour}
-use Rattle.tour.specs.Tour.{Walked}
+use Rattle.tour.specs.Walks.{Walked}
 use Rattle.tour.proofs.Visits.{visited-both}
 use Rattle.tour.proofs.Tours.{walked-ruled, walked-into}
 use Rattle.tour.proofs.Values.{lawful-string, lawful-count, ruled-read, count-read}

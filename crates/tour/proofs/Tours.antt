@@ -1,4 +1,4 @@
--- What a walk over a value lists, by how its format is made: each law here makes the walk over a format from walks over its parts.
+-- What a walk over a value meets, by how its format is made: each law here makes the walk over a format from walks over its parts.
 use Prim.Native.Nat.{ℕ, suc, _+_, _-_, _≤_}
 use mathlib.Core.Path.{_≡_, refl, sym, _∙_, ap, subst}
 use mathlib.Core.Bool.{Bool, true, false, _&&_}
@@ -21,7 +21,8 @@ use Rattle.format.proofs.Laws.{Lawful}
 use Rattle.scan.proofs.Answers.{took}
 use Rattle.tour.specs.declared.Tour.{Tour}
 use Rattle.tour.specs.declared.Indices.{Indices}
-use Rattle.tour.specs.Tour.{stateOf, indexOf, visited, Listed, Walked}
+use Rattle.tour.specs.Tour.{visited}
+use Rattle.tour.specs.Walks.{stateOf, indexOf, Stepped, Walked}
 use Rattle.tour.proofs.Visits.{visited-both}
 
 module _ {A : Type 0} (f : Format A) (s : List ℕ) (ix : Index) (tour : Tour) (out : List ℕ) (after : Tour) (written : List ℕ) where
@@ -66,7 +67,7 @@ module _ (s : List ℕ) {ix : Index} {tour : Tour} {out : List ℕ} {after : Tou
 
 -- a number, to the place past its bytes
 module _ (s : List ℕ) {tour : Tour} {out : List ℕ} {after : Tour} {written : List ℕ} where
-  pub walked-number : (k field : ℕ) {ix : Indices} {end : ℕ} → (tour .at + k ≤ length s → end ≡ tour .at + k) → Listed field ix tour out end after written
+  pub walked-number : (k field : ℕ) {ix : Indices} {end : ℕ} → (tour .at + k ≤ length s → end ≡ tour .at + k) → Stepped field ix tour out end after written
       → Walked (number k field) s (indexOf ix) tour out after written
   unfolding number
   walked-number k field {ix} {end} far l = record {

@@ -19,7 +19,7 @@ use Rattle.format.proofs.Laws.{Lawful, lawful-number, lawful-ruled, lawful-both
 use Rattle.format.proofs.Lengths.{lawful-counted}
 use Rattle.format.proofs.Formats.{lawful-value, lawful-list, lawful-items, lawful-argument}
 use Rattle.tour.specs.declared.Tour.{Tour}
-use Rattle.tour.specs.Tour.{Walked}
+use Rattle.tour.specs.Walks.{Walked}
 use Rattle.tour.proofs.Tours.{walked-ruled, walked-into, walked-both, walked-nothing}
 
 pub lawful-string : (nullable : Bool) (rule : List ℕ → Verdict) (l b : ℕ) → Lawful (string nullable rule l b)

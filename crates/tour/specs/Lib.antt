@@ -1,3 +1,6 @@
--- What the contracts cite beside the wire's definition: what a tour over fields sees, and what the answer tells.
+-- What the contracts cite beside the wire's definition: what is done with a field, what a tour over all of them comes to, and what the
+-- answer tells; and what the walks inside are held to.
+pub mod Task
 pub mod Tour
 pub mod Told
+pub mod Walks

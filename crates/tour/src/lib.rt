@@ -1,11 +1,11 @@
-// One descent over an accepted message, which meets its fields in wire order.
+// One descent over an accepted message, which meets its fields in wire order and hands each to a task.
 use format::Fault;
 use format::Refusal;
 ghost use mathlib.Core.Path.{_≡_};
 ghost use mathlib.Core.Bool.{Bool, false};
 ghost use mathlib.Core.List.{List, map};
 ghost use mathlib.Core.Option.{none};
-ghost use Prim.Native.Nat.{ℕ, _+_, _*_, _/_, _≤_, _<_};
+ghost use Prim.Native.Nat.{ℕ, _+_, _-_, _*_, _/_, _≤_, _<_};
 ghost use lib.ListN.{length, replicate};
 ghost use lib.Seq.{sets};
 ghost use Rattle.format.specs.Format.{number, each, present, Verdict};
@@ -13,13 +13,14 @@ ghost use Rattle.format.specs.Result.{ok};
 ghost use Rattle.format.specs.Value.{string, ascii, value};
 ghost use Rattle.format.specs.Message.{first, second, third, items, argument, param, invocation, loginRequest, server, loginResponse, columnType, Metadata, metadata, row, table, trip, afterFlags, head, response, contentOf};
 ghost use Rattle.message.specs.Login.{login};
-ghost use Rattle.tour.specs.Tour.{stateOf, indexOf, wanted, six, begun, fieldsOf, tourOf, outOf, Listed, Walked, Whole};
+ghost use Rattle.tour.specs.Task.{listTask, doing, acted, wanted, six};
+ghost use Rattle.tour.specs.Tour.{fieldsOf, taskAfter, outAfter};
+ghost use Rattle.tour.specs.Walks.{indexOf, Stepped, Walked, Whole};
 ghost use Rattle.tour.specs.Told.{toldToured, touredNo};
 
-// Where the descent is, which fields it writes down (those from the first-th on that end past an offset, while they fit),
-// and what it has seen: how many fields, how many of them were written, and the number of the last of these.
-pub struct Tour {
-    pub at: usize,
+// What is to be done with the fields, and what came of it so far. Those from the first-th on that end past an offset are listed, while
+// they fit: how many fields were seen, how many of them were listed, and the number of the last of these. No walk looks inside.
+pub struct Task {
     pub first: usize,
     pub offset: usize,
     pub seen: usize,
@@ -27,21 +28,23 @@ pub struct Tour {
     pub last: usize,
 }
 
-// The descent at its end.
+// The task after the last field.
 pub enum Toured {
-    Over(Tour),
+    Done(Task),
     No(Refusal),
 }
 
-// The tour over the fields of a message of a layout. It writes six numbers for each field from the first-th on that ends past an offset, while they fit.
-pub fn over(layout: u8, m: &[u8], out: &mut [u64], first: usize, offset: usize) -> Toured
-    ensures { λ r. ⌜ (toldToured r ≡ tourOf (fieldsOf layout (now (m .entry))) (length (now (m .entry))) (begun first offset (now (out .entry)))) × (now (out .exit) ≡ outOf (fieldsOf layout (now (m .entry))) (begun first offset (now (out .entry)))) ⌝ }
+// The task over all fields of a message of a layout, in wire order.
+pub fn visit_all(layout: u8, m: &[u8], out: &mut [u64], task: Task) -> Toured
+    ensures { λ r. ⌜ (toldToured r ≡ taskAfter (fieldsOf layout (now (m .entry))) (doing task (now (out .entry)))) × (now (out .exit) ≡ outAfter (fieldsOf layout (now (m .entry))) (doing task (now (out .entry)))) ⌝ }
 {
     let verdict = message::accept_layout(layout, m);
     let message::Verdict::Fine = verdict else {
         return Toured::No(message::verdict_refusal(verdict));
     };
-    Toured::Over(walk_message(layout, m, out, first, offset))
+    let tour = walk_message(layout, m, out, task);
+    let done = tour.task;
+    Toured::Done(done)
 }
 
 // The refusal of an answer that is one.
@@ -49,11 +52,24 @@ pub fn toured_refusal(a: Toured) -> Refusal
     ensures { λ r. ⌜ r ≡ touredNo a ⌝ }
 {
     match a {
-        Toured::Over(_) => Refusal {
+        Toured::Done(_) => Refusal {
             fault: Fault::Short,
             place: 0,
         },
         Toured::No(r) => r,
+    }
+}
+
+// The task that lists the fields from the first-th on that end past an offset.
+pub fn list_task(first: usize, offset: usize) -> Task
+    ensures { λ r. ⌜ r ≡ listTask first offset ⌝ }
+{
+    Task {
+        first,
+        offset,
+        seen: 0,
+        taken: 0,
+        last: 0,
     }
 }
 
@@ -64,8 +80,50 @@ pub struct Indices {
     pub k: usize,
 }
 
-// Six numbers, after those of so many fields.
-fn put(out: &mut [u64], taken: usize, at: usize, size: usize, field: u64, ix: Indices)
+// What is done with a field, from at to end: the one place that knows it. Another action is another case here and in `acted`
+// (specs/Task), by a number of the task that says which is asked, and a law about what it comes to; no walk changes.
+fn act(out: &mut [u64], task: Task, at: usize, end: usize, field: u64, ix: Indices) -> Task
+    requires { ⌜ at < end ⌝ }
+    ensures { λ r. ⌜ doing r (now (out .exit)) ≡ acted (doing task (now (out .entry))) (record { at = at; size = end - at; field = field; index = indexOf ix }) ⌝ }
+{
+    let first = task.first;
+    let offset = task.offset;
+    let taken = task.taken;
+    let number = task.seen;
+    let seen = std::num::wrapping_add_usize(number, 1);
+    if !is_wanted(task, end, out.len()) {
+        return Task {
+            first,
+            offset,
+            seen,
+            taken,
+            last: task.last,
+        };
+    }
+    write_six(out, taken, at, end - at, field, ix);
+    Task {
+        first,
+        offset,
+        seen,
+        taken: taken + 1,
+        last: number,
+    }
+}
+
+fn is_wanted(task: Task, end: usize, room: usize) -> bool
+    ensures { λ r. ⌜ r ≡ wanted task end room ⌝ }
+{
+    if task.seen < task.first {
+        return false;
+    }
+    if end <= task.offset {
+        return false;
+    }
+    task.taken < room / 6
+}
+
+// A field's six numbers, after those of so many fields.
+fn write_six(out: &mut [u64], taken: usize, at: usize, size: usize, field: u64, ix: Indices)
     requires { ⌜ taken < length (now out) / 6 ⌝ }
     ensures { λ _. ⌜ now (out .exit) ≡ sets (now (out .entry)) (6 * taken) (six (record { at = at; size = size; field = field; index = indexOf ix })) ⌝ }
 {
@@ -78,61 +136,30 @@ fn put(out: &mut [u64], taken: usize, at: usize, size: usize, field: u64, ix: In
     out[p + 5] = ix.k as u64;
 }
 
-fn is_wanted(tour: Tour, end: usize, room: usize) -> bool
-    ensures { λ r. ⌜ r ≡ wanted tour end room ⌝ }
-{
-    if tour.seen < tour.first {
-        return false;
-    }
-    if end <= tour.offset {
-        return false;
-    }
-    tour.taken < room / 6
+// Where the descent is, and the task that it hands on from field to field.
+pub struct Tour {
+    pub at: usize,
+    pub task: Task,
 }
 
 // The field from the tour's place to end, if it has a byte.
 fn visit(out: &mut [u64], tour: Tour, end: usize, field: u64, ix: Indices) -> Tour
-    ensures { λ r. ⌜ Listed field ix tour (now (out .entry)) end r (now (out .exit)) ⌝ }
+    ensures { λ r. ⌜ Stepped field ix tour (now (out .entry)) end r (now (out .exit)) ⌝ }
 {
     let at = tour.at;
-    let first = tour.first;
-    let offset = tour.offset;
-    let taken = tour.taken;
-    let number = tour.seen;
+    let task = tour.task;
     if end <= at {
-        return Tour {
-            at: end,
-            first,
-            offset,
-            seen: number,
-            taken,
-            last: tour.last,
-        };
+        return Tour { at: end, task };
     }
-    let seen = std::num::wrapping_add_usize(number, 1);
-    if !is_wanted(tour, end, out.len()) {
-        return Tour {
-            at: end,
-            first,
-            offset,
-            seen,
-            taken,
-            last: tour.last,
-        };
-    }
-    put(out, taken, at, end - at, field, ix);
+    let done = act(out, task, at, end, field, ix);
     Tour {
         at: end,
-        first,
-        offset,
-        seen,
-        taken: taken + 1,
-        last: number,
+        task: done,
     }
 }
 
 // The place n bytes on, where so many bytes stand.
-fn past(s: &[u8], at: usize, n: usize) -> usize
+fn bytes_on(s: &[u8], at: usize, n: usize) -> usize
     ensures { λ r. ⌜ (at + n ≤ length (now (s .entry)) → r ≡ at + n) ⌝ }
 {
     if !scan::fits(s, at, n) {
@@ -145,7 +172,7 @@ fn past(s: &[u8], at: usize, n: usize) -> usize
 fn walk_fixed(s: &[u8], out: &mut [u64], tour: Tour, width: usize, field: u64, ix: Indices) -> Tour
     ensures { λ r. ⌜ Walked (number width field) (now (s .entry)) (indexOf ix) tour (now (out .entry)) r (now (out .exit)) ⌝ }
 {
-    let end = past(s, tour.at, width);
+    let end = bytes_on(s, tour.at, width);
     visit(out, tour, end, field, ix)
 }
 
@@ -368,8 +395,8 @@ fn walk_metadata(s: &[u8], out: &mut [u64], tour: Tour, ix: Indices) -> Tour
 fn types_of(s: &[u8], at: usize) -> &[u8]
     ensures { λ r. ⌜ ((m : Metadata) (next : ℕ) → metadata .read (now (s .entry)) at ≡ ok (m, next) → now r ≡ m .types) ⌝ }
 {
-    let count = past(s, at, 5);
-    let first = past(s, at, 7);
+    let count = bytes_on(s, at, 5);
+    let first = bytes_on(s, at, 7);
     let n = scan::number_at(s, count, 2) as usize;
     if !scan::fits(s, first, n) {
         return &s[0..0];
@@ -549,18 +576,11 @@ fn walk_content(layout: u8, s: &[u8], out: &mut [u64], tour: Tour, version: u8, 
 }
 
 // A message that is accepted.
-fn walk_message(layout: u8, m: &[u8], out: &mut [u64], first: usize, offset: usize) -> Tour
-    ensures { λ r. ⌜ Whole layout (now (m .entry)) first offset (now (out .entry)) r (now (out .exit)) ⌝ }
+fn walk_message(layout: u8, m: &[u8], out: &mut [u64], task: Task) -> Tour
+    ensures { λ r. ⌜ Whole layout (now (m .entry)) task (now (out .entry)) r (now (out .exit)) ⌝ }
 {
     let ix = Indices { i: 0, j: 0, k: 0 };
-    let start = Tour {
-        at: 0,
-        first,
-        offset,
-        seen: 0,
-        taken: 0,
-        last: 0,
-    };
+    let start = Tour { at: 0, task };
     let length = walk_fixed(m, out, start, 4, 1, ix);
     let version = scan::byte_at(m, length.at);
     let content = walk_fixed(m, out, length, 1, 2, ix);

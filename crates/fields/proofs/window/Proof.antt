@@ -4,7 +4,8 @@ use native.Mathlib.Omega.{arith}
 use Prim.Native.Nat.{_^_, _<_}
 use lib.ListN.{length}
 use Rattle.format.specs.Result.{ok}
-use Rattle.tour.specs.Tour.{begun, fieldsOf}
+use Rattle.tour.specs.Task.{doing}
+use Rattle.tour.specs.Tour.{fieldsOf}
 use Rattle.tour.proofs.Tours.{bytes-all}
 use Rattle.fields.proofs.Calls.{refuses, stays, past-told, seen, seen-window, window-past, window-there}
 use borrow.Author.Needs.{needs}
@@ -14,8 +15,11 @@ use Rattle.fields.proofs.window.Tie as tie
 kind-layout-requires : tie.Need-kind-layout-requires
 kind-layout-requires c κs = search needs
 
-over-requires : tie.Need-over-requires
-over-requires c κs = search needs
+list-task-requires : tie.Need-list-task-requires
+list-task-requires c κs = search needs
+
+visit-all-requires : tie.Need-visit-all-requires
+visit-all-requires c κs = search needs
 
 enum-known-toured : tie.Need-enum-known-toured
 enum-known-toured c = search needs
@@ -31,11 +35,11 @@ same-length c = search needs
 
 returns : tie.Need-returns
 returns c =
-    let a = c .before .before .before .before .before .before .before .before .before .before .args in
-    let layout = c .before .before .before .before .before .before .before .kind-layout in
-    let s = begun (a .first) 0 (a .out .now) in
-    let e = refuses (fieldsOf (layout .result) (a .m .now)) (length (a .m .now)) s (c .before .before .before .before .before .over .ensures .0) (c .before .enum-told .given .1) (c .toured-refusal .ensures) in
-    (rw (← layout .ensures, e), rw (← layout .ensures, e) (stays s e (c .before .before .before .before .before .over .ensures .1)))
+    let a = c .before .before .before .before .before .before .before .before .before .before .before .args in
+    let layout = c .before .before .before .before .before .before .before .before .kind-layout in
+    let s = doing (c .before .before .before .before .before .before .before .list-task .result) (a .out .now) in
+    let e = refuses (fieldsOf (layout .result) (a .m .now)) s (c .before .before .before .before .before .visit-all .ensures .0) (c .before .enum-told .given .1) (c .toured-refusal .ensures) in
+    (rw (← layout .ensures, e), rw (← layout .ensures, e) (stays s e (c .before .before .before .before .before .visit-all .ensures .1)))
 
 past-end-requires : tie.Need-past-end-requires
 past-end-requires c κs = search needs
@@ -45,11 +49,10 @@ same-length-2 c = search needs
 
 returns-2 : tie.Need-returns-2
 returns-2 c =
-    let a = c .before .before .before .before .before .before .before .before .before .before .before .before .before .args in
-    let layout = c .before .before .before .before .before .before .before .before .before .before .kind-layout in
-    let s = begun (a .first) 0 (a .out .now) in
+    let a = c .before .before .before .before .before .before .before .before .before .before .before .before .before .before .args in
+    let layout = c .before .before .before .before .before .before .before .before .before .before .before .kind-layout in
     let small : length (a .m .now) < 2 ^ 64 = omega arith in
-    let f = seen (layout .result) (a .m .now) (bytes-all (a .m .now) (c .before .before .before .before .before .before .before .before .before .before .before .before .shared-slice-known .given)) small (length (a .m .now)) s (c .before .before .before .before .before .before .before .before .over .ensures) (c .before .before .before .before .toured .given .1) in
+    let f = seen (layout .result) (a .m .now) (bytes-all (a .m .now) (c .before .before .before .before .before .before .before .before .before .before .before .before .before .shared-slice-known .given)) small (a .first) 0 (a .out .now) (c .before .before .before .before .before .before .before .before .before .before .list-task .ensures) (c .before .before .before .before .before .before .before .before .visit-all .ensures) (c .before .before .before .before .toured .given .1) in
     let w = seen-window (a .first) (a .out .now) f in
     let all = w .seen in
     let past = c .before .if1 .taken in
@@ -60,11 +63,10 @@ same-length-3 c = search needs
 
 returns-3 : tie.Need-returns-3
 returns-3 c =
-    let a = c .before .before .before .before .before .before .before .before .before .before .before .before .args in
-    let layout = c .before .before .before .before .before .before .before .before .before .kind-layout in
-    let s = begun (a .first) 0 (a .out .now) in
+    let a = c .before .before .before .before .before .before .before .before .before .before .before .before .before .args in
+    let layout = c .before .before .before .before .before .before .before .before .before .before .kind-layout in
     let small : length (a .m .now) < 2 ^ 64 = omega arith in
-    let f = seen (layout .result) (a .m .now) (bytes-all (a .m .now) (c .before .before .before .before .before .before .before .before .before .before .before .shared-slice-known .given)) small (length (a .m .now)) s (c .before .before .before .before .before .before .before .over .ensures) (c .before .before .before .toured .given .1) in
+    let f = seen (layout .result) (a .m .now) (bytes-all (a .m .now) (c .before .before .before .before .before .before .before .before .before .before .before .before .shared-slice-known .given)) small (a .first) 0 (a .out .now) (c .before .before .before .before .before .before .before .before .before .list-task .ensures) (c .before .before .before .before .before .before .before .visit-all .ensures) (c .before .before .before .toured .given .1) in
     let w = seen-window (a .first) (a .out .now) f in
     let all = w .seen in
     let there = c .if1 .left in
@@ -75,7 +77,8 @@ window-spec =
     tie.close
     (tie.spec
     kind-layout-requires
-    over-requires
+    list-task-requires
+    visit-all-requires
     enum-known-toured
     enum-told
     toured-refusal-requires

@@ -1,11 +1,11 @@
--- `tour::walk_names` meets its contract: what is left, after what was listed, is the whole. Assumes nothing.
+-- `tour::walk_names` meets its contract: what is left, after what was met, is the whole. Assumes nothing.
 use Prim.Native.Nat.{_-_}
 use native.Mathlib.Omega.{arith}
 use mathlib.Core.Bool.{false}
 use Rattle.format.specs.Value.{string, ascii}
 use Rattle.format.specs.Message.{third}
 use Rattle.tour.proofs.Values.{lawful-string}
-use Rattle.tour.specs.Tour.{indexOf}
+use Rattle.tour.specs.Walks.{indexOf}
 use Rattle.tour.proofs.Tours.{bytes-all}
 use Rattle.tour.proofs.Rounds.{Round, round-first, round-next, round-last, all-same}
 use borrow.Author.Needs.{needs}

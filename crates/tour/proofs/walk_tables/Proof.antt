@@ -1,9 +1,9 @@
--- `tour::walk_tables` meets its contract: what is left, after what was listed, is the whole. Assumes nothing.
+-- `tour::walk_tables` meets its contract: what is left, after what was met, is the whole. Assumes nothing.
 use Prim.Native.Nat.{_-_}
 use native.Mathlib.Omega.{arith}
 use Rattle.format.specs.Message.{first, table}
 use Rattle.format.proofs.Formats.{lawful-table}
-use Rattle.tour.specs.Tour.{indexOf}
+use Rattle.tour.specs.Walks.{indexOf}
 use Rattle.tour.proofs.Tours.{bytes-all}
 use Rattle.tour.proofs.Rounds.{Round, round-first, round-next, round-last, all-same}
 use borrow.Author.Needs.{needs}

@@ -1,4 +1,4 @@
--- `tour::walk_types` meets its contract: what is left, after what was listed, is the whole. Assumes nothing.
+-- `tour::walk_types` meets its contract: what is left, after what was met, is the whole. Assumes nothing.
 use Prim.Native.Nat.{_-_}
 use native.Mathlib.Omega.{arith}
 use Rattle.format.specs.declared.Fault.the-variants.{WireType}
@@ -6,7 +6,7 @@ use Rattle.format.specs.Value.{isColumn}
 use Rattle.format.specs.Message.{third, columnType}
 use Rattle.format.proofs.Laws.{lawful-number, lawful-ruled}
 use Rattle.tour.proofs.Tours.{walked-ruled}
-use Rattle.tour.specs.Tour.{indexOf}
+use Rattle.tour.specs.Walks.{indexOf}
 use Rattle.tour.proofs.Tours.{bytes-all}
 use Rattle.tour.proofs.Rounds.{Round, round-first, round-next, round-last, all-same}
 use borrow.Author.Needs.{needs}

@@ -1,12 +1,12 @@
--- `tour::past` meets its contract. Assumes nothing.
+-- `tour::bytes_on` meets its contract. Assumes nothing.
 use Prim.Native.Nat.{_+_, _≤_, _<_}
 use lib.ListN.{length}
 use native.Mathlib.Omega.{arith}
 use borrow.Author.Tests.{leb-true, leb-false, not-true, not-false}
 use mathlib.Core.Path.{sym, _∙_}
 use borrow.Author.Needs.{needs}
-use Rattle.tour.proofs.past.Statement.{statement}
-use Rattle.tour.proofs.past.Tie as tie
+use Rattle.tour.proofs.bytes_on.Statement.{statement}
+use Rattle.tour.proofs.bytes_on.Tie as tie
 
 fits-requires : tie.Need-fits-requires
 fits-requires c κs = search needs
@@ -20,5 +20,5 @@ add-result c = let a = c .before .before .before .args in let fit : a .at + a .n
 returns-2 : tie.Need-returns-2
 returns-2 c = search needs
 
-pub past-spec : {M : Type 1} → statement M
-past-spec = tie.close (tie.spec fits-requires returns add-result returns-2)
+pub bytes-on-spec : {M : Type 1} → statement M
+bytes-on-spec = tie.close (tie.spec fits-requires returns add-result returns-2)

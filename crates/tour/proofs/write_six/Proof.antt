@@ -1,11 +1,11 @@
--- `tour::put` meets its contract: six stores in a row. Assumes nothing.
+-- `tour::write_six` meets its contract: six stores in a row. Assumes nothing.
 use Prim.Native.Nat.{_*_}
 use lib.ListN.{length-set}
 use native.Mathlib.Omega.{arith}
-use Rattle.tour.proofs.Visits.{stores}
+use Rattle.tour.proofs.Acts.{stores}
 use borrow.Author.Needs.{needs}
-use Rattle.tour.proofs.put.Statement.{statement}
-use Rattle.tour.proofs.put.Tie as tie
+use Rattle.tour.proofs.write_six.Statement.{statement}
+use Rattle.tour.proofs.write_six.Tie as tie
 
 mul-p : tie.Need-mul-p
 mul-p c = search needs
@@ -67,8 +67,8 @@ same-length c = search needs
 returns : tie.Need-returns
 returns c = let a = c .args in stores (a .out .now) (6 * a .taken) (a .at) (a .size) (a .field) (a .ix .i) (a .ix .j) (a .ix .k)
 
-pub put-spec : {M : Type 1} → statement M
-put-spec =
+pub write-six-spec : {M : Type 1} → statement M
+write-six-spec =
     tie.close
     (tie.spec
     mul-p
