@@ -19,15 +19,17 @@ use Rattle.format.specs.Value.{isColumn, asciiFrom}
 use Rattle.format.specs.Message.{third, columnType, mostColumns, Metadata, metadata, Table, table, Message, responseLayout, readMessage}
 use Rattle.format.proofs.Results.{ok-same, no-ok, bound}
 use Rattle.format.proofs.Numbers.{length-numBytes}
+use Rattle.places.specs.Stands.{Stands}
+use Rattle.places.specs.Places.{nameBytes, tablesOf, tableAt, nameAt}
+use Rattle.places.specs.Entries.{entry}
+use Rattle.places.proofs.Stands.{stands-at}
+use Rattle.places.proofs.Lists.{entry-below, stands-entry}
+use Rattle.places.proofs.Layouts.{name, metadata-stands, types-stand, names-stand, names-all, name-place}
+use Rattle.places.proofs.Replies.{table-stands}
 use Rattle.query.specs.declared.ColumnLayout.{ColumnLayout}
 use Rattle.query.specs.declared.Position.{Position}
-use Rattle.query.specs.Answers.{entry, perhaps, ofTable, same, nameBytes, columnOf, firstNamed, namedOf, askNamed}
-use Rattle.query.specs.Places.{tablesOf, tableAt, nameAt}
-use Rattle.query.specs.Stands.{Stands}
-use Rattle.query.proofs.Stands.{stands-at}
-use Rattle.query.proofs.Lists.{entry-below, stands-entry}
-use Rattle.query.proofs.Layouts.{name, metadata-stands, types-stand, names-stand, names-all, name-place}
-use Rattle.query.proofs.Opened.{table-stands, found, found-asked, retold, some-ok}
+use Rattle.query.specs.Answers.{perhaps, ofTable, same, columnOf, firstNamed, namedOf, askNamed}
+use Rattle.query.proofs.Opened.{found, found-asked, retold, some-ok}
 use Rattle.query.proofs.Theorems.{finds-first}
 use Rattle.cards.specs.Card.{Card, aCard, cardSize, mostPosition, mostName, Low}
 use Rattle.cards.specs.Answers.{fitting, fits, opened, shortNamed, roomFor, cardOf, askCard, Made}

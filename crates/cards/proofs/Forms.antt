@@ -18,8 +18,9 @@ use Rattle.format.specs.Value.{isColumn}
 use Rattle.format.specs.Message.{readMessage}
 use Rattle.format.proofs.Results.{ok-same, no-ok, passed}
 use Rattle.scan.specs.Shown.{refusal}
-use Rattle.query.specs.Answers.{entry, ofTable}
-use Rattle.query.specs.Places.{tablesOf}
+use Rattle.places.specs.Places.{tablesOf}
+use Rattle.places.specs.Entries.{entry}
+use Rattle.query.specs.Answers.{ofTable}
 use Rattle.cards.specs.declared.Form.{Form}
 use Rattle.cards.specs.Card.{Card, aCard, cardForm, cardBody, cardBytes, cardKind, cardSize, positionPlace, typePlace, lengthPlace, namePlace, mostPosition, mostName, mostByte, wrongFrom, unless, Low, GoodCard}
 use Rattle.cards.specs.Answers.{opened, askOpen}

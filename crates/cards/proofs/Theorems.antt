@@ -15,13 +15,14 @@ use Rattle.format.specs.Result.{Res, ok, no, bind, pick}
 use Rattle.format.specs.Number.{Bytes}
 use Rattle.format.specs.Message.{Table, Message, readMessage}
 use Rattle.format.proofs.Results.{ok-same, bound, passed, and-true-both}
+use Rattle.places.specs.Places.{tablesOf, tableAt, nameAt}
+use Rattle.places.specs.Entries.{entry}
+use Rattle.places.proofs.Lists.{entry-below, entry-past}
+use Rattle.places.proofs.Layouts.{metadata-stands}
+use Rattle.places.proofs.Replies.{table-stands}
 use Rattle.query.specs.declared.Position.{Position}
-use Rattle.query.specs.Answers.{entry, same, isNamed, firstNamed, toldPosition}
-use Rattle.query.specs.Places.{tablesOf, tableAt, nameAt}
-use Rattle.query.proofs.Lists.{entry-below, entry-past}
-use Rattle.query.proofs.Layouts.{metadata-stands}
+use Rattle.query.specs.Answers.{same, isNamed, firstNamed, toldPosition}
 use Rattle.query.proofs.Names.{same-yes, same-true}
-use Rattle.query.proofs.Opened.{table-stands}
 use Rattle.query.proofs.Theorems.{position-once, First, finds-first}
 use Rattle.cards.specs.Card.{Card, aCard, cardForm, cardBytes, cardSize, mostName, GoodCard}
 use Rattle.cards.specs.Answers.{fitting, fits, opened, askOpen, askCard, askMade, written, Made}

@@ -9,9 +9,10 @@ use lib.Dec.{leb, eqb}
 use Rattle.format.specs.declared.Fault.the-variants.{Limit, Output, Stale}
 use Rattle.format.specs.Result.{Res, ok, no, bind, pick}
 use Rattle.format.specs.Message.{Table, readMessage}
+use Rattle.places.specs.Places.{tablesOf, nameAt}
+use Rattle.places.specs.Entries.{entry}
 use Rattle.query.specs.declared.Position.{Position}
-use Rattle.query.specs.Answers.{entry, ofTable, isNamed, firstNamed, toldPosition}
-use Rattle.query.specs.Places.{tablesOf, nameAt}
+use Rattle.query.specs.Answers.{ofTable, isNamed, firstNamed, toldPosition}
 use Rattle.cards.specs.Card.{Card, aCard, cardForm, cardBytes, cardSize, mostName}
 
 -- whether a column's type and name are the card's

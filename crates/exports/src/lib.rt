@@ -16,7 +16,7 @@ ghost use Rattle.tour.specs.Tour.{fieldsOf};
 ghost use Rattle.fields.specs.Questions.{ownerOf, windowCount, windowOut};
 ghost use Rattle.fields.specs.Told.{toldCounted, toldOwned, toldWritten};
 ghost use Rattle.query.specs.Answers.{ofTable, layoutOf, columnOf, firstNamed, toldCount, toldTable, toldColumn, toldPosition};
-ghost use Rattle.query.specs.Places.{tablesOf};
+ghost use Rattle.places.specs.Places.{tablesOf};
 ghost use Rattle.steps.specs.Steps.{openTable, beginCall, beginReply, cell, nullParam, oneParam, bytesParam, openArray, element, closeArray, finishCall, openRow, closeRow, closeTable, finishReply, loginRequest, loginResponse};
 ghost use Rattle.write.specs.Shown.{zero};
 ghost use Rattle.columns.specs.Entries.{columnsOf as entriesWith};

@@ -1,12 +1,7 @@
--- The proofs: values that stand at places, lists of them, layouts, names, and what each question finds.
-pub mod Stands
-pub mod Lists
-pub mod Layouts
-pub mod Replies
+-- The proofs: what each step over a message finds, the names, the parts, and what each question is answered with.
 pub mod Walks
 pub mod Names
 pub mod Parts
 pub mod Opened
 pub mod Calls
-pub mod Listed
 pub mod Theorems

@@ -1,11 +1,10 @@
 -- One turn of the search for a name.
-use Prim.Native.Nat.{ℕ, zero, suc, _+_, _-_, _≤_, _<_}
-use mathlib.Core.Path.{_≡_, refl, sym, _∙_, ap, subst}
+use Prim.Native.Nat.{ℕ, suc, _+_, _-_, _≤_, _<_}
+use mathlib.Core.Path.{_≡_, refl, sym, _∙_, ap}
 use mathlib.Core.Bool.{Bool, true, false, _&&_, false≢true}
-use mathlib.Core.List.{List, [], _∷_, _++_}
-use mathlib.Core.Logic.{_⊎_, inl, inr, ⊎-elim}
+use mathlib.Core.List.{List, [], _∷_}
 use mathlib.Core.Option.{Option, some, none}
-use lib.ListN.{length, getD, take, drop, replicate, length-append}
+use lib.ListN.{length, getD, drop, replicate, length-append}
 use lib.Seq.{getD-take, getD-drop, ext-getD}
 use lib.Dec.{T, eqb, eqb→eq, eqb-refl, lit<}
 use lib.Ieee.Bits.{is-true}
@@ -13,21 +12,19 @@ use lib.Ieee.Fits.{and-l, and-r}
 use native.Mathlib.Omega.{arith}
 use Rattle.format.specs.declared.Fault.{Fault}
 use Rattle.format.specs.declared.Fault.the-variants.{NoColumn}
-use Rattle.format.specs.Result.{Res, ok, no, pick}
+use Rattle.format.specs.Result.{Res, ok, no}
 use Rattle.format.specs.Format.{each, counted, nothing}
 use Rattle.format.specs.Value.{anything}
 use Rattle.format.specs.Message.{third, unlimited}
 use Rattle.format.proofs.Results.{ok-same, no-ok}
 use Rattle.format.proofs.Numbers.{length-numBytes}
 use Rattle.format.proofs.Lengths.{lawful-counted}
-use Rattle.scan.specs.declared.Body.{Body}
-use Rattle.scan.specs.Shown.{shownBody}
 use Rattle.scan.proofs.Counted.{Here}
-use Rattle.query.specs.Stands.{Stands}
-use Rattle.query.specs.Answers.{same, isNamed, firstNamed}
-use Rattle.query.proofs.Stands.{stands-read, stands-head, stands-tail, stands-at}
-use Rattle.query.proofs.Lists.{sized}
-use Rattle.query.proofs.Layouts.{name}
+use Rattle.places.specs.Stands.{Stands}
+use Rattle.places.proofs.Stands.{stands-read, stands-head, stands-tail, stands-at}
+use Rattle.places.proofs.Lists.{sized}
+use Rattle.places.proofs.Layouts.{name}
+use Rattle.query.specs.Answers.{same, firstNamed}
 
 -- `same` is equality
 pub same-yes : (xs : List ℕ) → same xs xs ≡ true

@@ -1,10 +1,10 @@
 -- What an acceptance says, and what is known of a table that was found.
-use Prim.Native.Nat.{ℕ, zero, suc, _+_, _≤_, _<_}
+use Prim.Native.Nat.{ℕ, suc, _+_, _≤_, _<_}
 use mathlib.Core.Path.{_≡_, refl, sym, _∙_, ap}
 use mathlib.Core.Bool.{Bool}
 use mathlib.Core.List.{List, [], _∷_}
 use mathlib.Core.Option.{Option, some, none}
-use lib.ListN.{length, take, replicate, getD}
+use lib.ListN.{length, replicate, getD}
 use native.Mathlib.Omega.{arith}
 use Rattle.format.specs.declared.Fault.{Fault}
 use Rattle.format.specs.declared.Fault.the-variants.{PastEnd}
@@ -18,19 +18,21 @@ use Rattle.format.proofs.Formats.{lawful-head}
 use Rattle.scan.specs.Shown.{shownNext, shownNumber}
 use Rattle.message.specs.declared.Verdict.{Verdict}
 use Rattle.message.specs.Verdict.{toldVerdict, verdictOf}
-use Rattle.query.specs.Stands.{Stands}
+use Rattle.places.specs.Stands.{Stands}
+use Rattle.places.specs.Places.{nameBytes, tablesOf, tableAt, typeAt, nameAt, rowAt}
+use Rattle.places.specs.Entries.{entry, Here, cellHere}
+use Rattle.places.proofs.Stands.{stands-read, stands-fits}
+use Rattle.places.proofs.Lists.{entry-in, entry-past, entry-missing, sized}
+use Rattle.places.proofs.Layouts.{length-number, sized-table, name, names-from, names-stand, metadata-stands, type-place}
+use Rattle.places.proofs.Replies.{headSize, head-stands, table-place, response-stands, table-count-stands, tables-stand, table-stands}
+use Rattle.places.proofs.Values.{Shows, there}
 use Rattle.query.specs.Shown.{pastOf, numberIn, shownOf}
 use Rattle.query.specs.declared.ColumnLayout.{ColumnLayout}
-use Rattle.query.specs.Answers.{entry, perhaps, ofPart, ofTable, layoutOf, nameBytes, columnOf, Here, cellHere, shownHere, partOf, toldPart}
+use Rattle.query.specs.Answers.{perhaps, ofPart, ofTable, layoutOf, columnOf, shownHere, partOf, toldPart}
 use Rattle.query.specs.declared.Part.{Part}
 use Rattle.format.specs.Value.{value}
-use Rattle.query.specs.Places.{tablesOf, tableAt, typeAt, nameAt, rowAt}
 use Rattle.query.specs.declared.TableLayout.{TableLayout}
-use Rattle.query.proofs.Stands.{stands-read, stands-fits, stands-at}
-use Rattle.query.proofs.Lists.{total, entry-in, entry-past, entry-below, stands-entry, sized}
-use Rattle.query.proofs.Layouts.{length-number, sized-table, name, names-stand, metadata-stands, type-place, name-place}
-use Rattle.query.proofs.Replies.{headSize, head-stands, table-place, response-stands, table-count-stands, tables-stand}
-use Rattle.query.proofs.Walks.{after-is, over-is, count-is, there}
+use Rattle.query.proofs.Walks.{after-is, over-is, count-is}
 use Rattle.query.proofs.Parts.{part-stands}
 
 pub bytes-all : (s : List ℕ) → ((k : ℕ) → getD s k 0 < 256) → Bytes s
@@ -67,10 +69,6 @@ module _ (timed : Bool) (m : List ℕ) (b : Bytes m) (p : Message) (accepted : r
   pub tables-is : (counted : ℕ) {n : ℕ} → counted ≡ pastOf (shownNext (head timed .read m 5)) → n ≡ numberIn (shownNumber (number 2 0 .read m counted)) → n ≡ length (tablesOf p)
   tables-is counted e f = count-is m 2 40 counted f (e ∙ head-ends) (table-count-stands timed m b p accepted)
 
-  -- table t stands at its place
-  pub table-stands : (t : ℕ) {tab : Table} → entry (tablesOf p) t ≡ ok tab → Stands table m (tableAt timed p t) tab
-  table-stands t e = stands-at (sym (table-place timed p t)) (stands-entry first 0 (length (tablesOf p)) table (tablesOf p) t (tables-stand timed m b p accepted) e)
-
   pub table-at-is : (t counted from : ℕ) {at : ℕ} → t < length (tablesOf p) → counted ≡ pastOf (shownNext (head timed .read m 5))
       → from ≡ pastOf (shownNext (number 2 0 .read m counted)) → at ≡ pastOf (shownNext (each first 0 (replicate t sized) .read m from)) → at ≡ tableAt timed p t
   table-at-is t counted from h e f g =
@@ -86,7 +84,7 @@ module _ (timed : Bool) (m : List ℕ) (b : Bytes m) (p : Message) (accepted : r
       → ok l ≡ bind (entry (tablesOf p) t) (λ tab. ok (layoutOf (tableAt timed p t) tab))
   table-found t at {l} h same lays =
       let w = entry-in (tablesOf p) t h in
-      let is : l ≡ layoutOf (tableAt timed p t) (w .0) = rw same at (lays (w .0) (rw same (table-stands t (w .1)))) in
+      let is : l ≡ layoutOf (tableAt timed p t) (w .0) = rw same at (lays (w .0) (rw same (table-stands timed m b p accepted t (w .1)))) in
       ap ok is ∙ sym (ap (λ (r : Res Table). bind r (λ tab. ok (layoutOf (tableAt timed p t) tab))) (w .1))
 
 -- a table that was found
@@ -104,14 +102,6 @@ module _ (timed : Bool) (m : List ℕ) (b : Bytes m) (t : ℕ) where
       let r = bound (readMessage (responseLayout timed) m) (sym e) in
       let q = bound (entry (tablesOf (r .0)) t) (r .2) in
       record { message = r .0; accepted = r .1; tab = q .0; there = q .1; stands = table-stands timed m b (r .0) (r .1) t (q .1); is = sym (ok-same (q .2)) }
-
--- the names of a table stand where its layout says
-pub names-from : {m : List ℕ} {at : ℕ} {b : Table} → Stands table m at b → {names count : ℕ} → names ≡ nameAt at (b .metadata) 0 → count ≡ length (b .metadata .types)
-    → Stands (each third 0 (replicate count name)) m names (b .metadata .names)
-unfolding total
-names-from {at = at} {b = b} d {names} e n =
-    let at-is : at + 4 + 7 + length (b .metadata .types) ≡ names = omega (arith, name-place at (b .metadata) 0 (omega arith)) in
-    rw n (stands-at at-is (names-stand (metadata-stands d)))
 
 module _ {timed : Bool} {m : List ℕ} {t : ℕ} {l : TableLayout} (o : Opened timed m t l) where
   abbrev place : ℕ
@@ -222,12 +212,6 @@ module _ {A : Type 0} where
   some-ok (no f p) e = absurd (let z : _≡_ {A = ℕ} 0 1 = cc in omega arith)
 
 -- a column that isn't there is past the end
-module _ {A : Type 0} where
-  only-past : (l : List A) (i : ℕ) {f : Fault} {p : ℕ} → entry l i ≡ no f p → _≡_ {A = Res A} (no f p) (no PastEnd 0)
-  only-past [] i e = sym e
-  only-past (a ∷ l) zero e = absurd (no-ok (sym e))
-  only-past (a ∷ l) (suc i) e = only-past l i e
-
 pub none-past : (at : ℕ) (b : Table) (c : ℕ) → none ≡ perhaps (columnOf at b c) → columnOf at b c ≡ no PastEnd 0
 none-past at b c e = by-entries (entry (b .metadata .types) c) refl (entry (b .metadata .names) c) refl e
   where
@@ -237,16 +221,10 @@ none-past at b c e = by-entries (entry (b .metadata .types) c) refl (entry (b .m
     by-entries : (x : Res ℕ) → entry (b .metadata .types) c ≡ x → (y : Res (Option (List ℕ))) → entry (b .metadata .names) c ≡ y
         → none ≡ perhaps (bind x (λ t. bind y (λ n. ok (described t n)))) → bind x (λ t. bind y (λ n. ok (described t n))) ≡ no PastEnd 0
     by-entries (ok t) h (ok n) g e = absurd (let z : _≡_ {A = ℕ} 0 1 = cc in omega arith)
-    by-entries (ok t) h (no f p) g e = retold (only-past (b .metadata .names) c g)
-    by-entries (no f p) h y g e = retold (only-past (b .metadata .types) c h)
+    by-entries (ok t) h (no f p) g e = retold (entry-missing (b .metadata .names) c g)
+    by-entries (no f p) h y g e = retold (entry-missing (b .metadata .types) c h)
 
--- a value that was found, where it is said to stand
-pub record Shows (m : List ℕ) (h : Here) : Type 0 where
-  pub length-field : ℕ
-  pub body-field : ℕ
-  pub stands : Stands (value length-field body-field (h .type)) m (h .at) (h .value)
-
--- a part of it lies in the message
+-- a part of a value that was found lies in the message
 module _ {P : Type 0} (kind : ℕ) (parts : Message → List P) (place : Message → ℕ → ℕ) (m : List ℕ) (i : ℕ) (ask : ℕ → P → Res Here) where
   pub part-fits : ((p : Message) → readMessage kind m ≡ ok p → (b : P) → entry (parts p) i ≡ ok b → (h : Here) → ask (place p i) b ≡ ok h → Shows m h)
       → {span : Part} → toldPart span ≡ ofPart kind parts place m i (λ at b. bind (ask at b) (λ h. partOf (h .type-at) (shownHere h)))
@@ -257,12 +235,3 @@ module _ {P : Type 0} (kind : ℕ) (parts : Message → List P) (place : Message
       let h = bound (ask (place (r .0) i) (q .0)) (q .2) in
       let w = shows (r .0) (r .1) (q .0) (q .1) (h .0) (h .1) in
       part-stands (w .length-field) (w .body-field) (h .0 .type) (h .0 .type-at) (h .0 .value) (w .stands) (h .2) .0
-
--- a cell that was found stands there
-pub cell-stands : (timed : Bool) (m : List ℕ) → Bytes m → (t k c : ℕ) (p : Message) → readMessage (responseLayout timed) m ≡ ok p → (b : Table) → entry (tablesOf p) t ≡ ok b → (h : Here) → cellHere (tableAt timed p t) b k c ≡ ok h → Shows m h
-cell-stands timed m all t k c p e b there-is h f =
-    let v = bound (entry (b .rows) k) f in
-    let y = bound (entry (b .metadata .types) c) (v .2) in
-    let w = there m (table-stands timed m all p e t there-is) k c (entry-below (b .rows) k (v .1)) (entry-below (b .metadata .types) c (y .1)) in
-    let same : w .here ≡ h = ok-same (sym (w .is) ∙ f) in
-    rw (← same) (record { length-field = 50; body-field = 51; stands = w .stands })

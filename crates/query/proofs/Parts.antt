@@ -3,27 +3,24 @@ use Prim.Native.Nat.{ℕ, _+_, _≤_}
 use mathlib.Core.Path.{_≡_, refl, sym, _∙_, ap}
 use mathlib.Core.Bool.{Bool, true, false}
 use mathlib.Core.Option.{Option, some, none}
-use lib.ListN.{length, take, drop, length-append}
-use lib.Seq.{take-at, drop-at}
+use lib.ListN.{length, take, drop}
 use lib.Dec.{eqb}
 use lib.Ieee.{binary64, nanBits}
 use native.Mathlib.Omega.{arith}
-use mathlib.Core.List.{List, [], _∷_, _++_, append-assoc}
+use mathlib.Core.List.{List, [], _∷_}
 use types.Run.{OneOf, miss}
 use denote.Enum.Declared.{tagOf}
 use Rattle.format.specs.declared.Fault.the-variants.{WireType}
 use Rattle.format.specs.Result.{Res, ok, no, pick}
-use Rattle.format.specs.Number.{numBytes}
-use Rattle.format.specs.Format.{into, counted}
-use Rattle.format.specs.Value.{Value, fixed, body, value, isCounted, tTinyint, tSmallint, tInteger, tFloat, tString, tTimestamp, tDecimal, tVarbinary, tPoint}
+use Rattle.format.specs.Value.{Value, fixed, body, value, tTinyint, tSmallint, tInteger, tFloat, tString, tTimestamp, tDecimal, tVarbinary, tPoint}
 use Rattle.format.proofs.Results.{ok-same, no-ok}
-use Rattle.format.proofs.Numbers.{length-numBytes}
 use Rattle.show.specs.declared.Cell.{Cell}
 use Rattle.show.proofs.Cell.{the-type}
 use Rattle.show.specs.Cells.{cellOf, fixedCell, plainCell, bodyCell}
+use Rattle.places.specs.Stands.{Stands}
+use Rattle.places.proofs.Values.{body-stands}
 use Rattle.query.specs.declared.Part.{Part}
 use Rattle.query.proofs.Part.{the-type as part-type}
-use Rattle.query.specs.Stands.{Stands}
 use Rattle.query.specs.Answers.{partOf, toldPart, partIn}
 
 abbrev numbers : List ℕ
@@ -45,10 +42,6 @@ other-cell place (Cell.Binary start size) tag = absurd (miss numbers 11 tt tag)
 other-cell place Cell.NullBinary tag = absurd (miss numbers 12 tt tag)
 other-cell place (Cell.Geography start size) tag = absurd (miss numbers 13 tt tag)
 other-cell place Cell.NullGeography tag = absurd (miss numbers 14 tt tag)
-
-abbrev kindOf : Value → ℕ
-kindOf (fixed n) = 0
-kindOf (body b) = 1
 
 abbrev countOf : Res (Option (ℕ × ℕ)) → ℕ
 countOf (ok none) = 0
@@ -88,12 +81,6 @@ module _ (p : ℕ) where
   body-part : (t at : ℕ) (bs : List ℕ) → Gives p (bodyCell t at (some bs)) (ok (some (at + 4, length bs)))
   body-part t at bs = by-pick (eqb t tString) (record { is = refl }) (by-pick (eqb t tVarbinary) (record { is = refl }) (record { is = refl }))
 
--- the bytes of a body that stands
-body-size : (l b t : ℕ) (bs : List ℕ) (c : Bool) → isCounted t ≡ c → value l b t .Good (body (some bs)) → value l b t .bytes (body (some bs)) ≡ numBytes 4 (length bs) ++ bs
-unfolding value into counted
-body-size l b t bs true e g = rw e
-body-size l b t bs false e g = absurd (let z : _≡_ {A = ℕ} 0 1 = ap kindOf ((rw e at g) .1) in omega arith)
-
 -- a part that a cell is lies in the message, and is the cell's value
 pub part-stands : {m : List ℕ} {at : ℕ} (l b t p : ℕ) (v : Value) {start size : ℕ} → Stands (value l b t) m at v → partOf p (cellOf t at v) ≡ ok (some (start, size))
     → (start + size ≤ length m) × (v ≡ body (some (take size (drop start m))))
@@ -103,9 +90,5 @@ part-stands {m} {at} l b t p (body (some bs)) {start} {size} d e =
     let same : _≡_ {A = ℕ × ℕ} (at + 4, length bs) (start, size) = some-same (ok-same (sym (body-part p t at bs .is) ∙ e)) in
     let start-is : at + 4 ≡ start = ap (λ (z : ℕ × ℕ). z .0) same in
     let size-is : length bs ≡ size = ap (λ (z : ℕ × ℕ). z .1) same in
-    let bytes = body-size l b t bs (isCounted t) refl (d .good) in
-    let whole : d .before ++ ((numBytes 4 (length bs) ++ bs) ++ d .after) ≡ m = rw bytes at (d .whole) in
-    let front : (d .before ++ numBytes 4 (length bs)) ++ (bs ++ d .after) ≡ m = rw (append-assoc (d .before), ← append-assoc (numBytes 4 (length bs))) whole in
-    let far : length (d .before ++ numBytes 4 (length bs)) ≡ start = rw (length-append, length-numBytes) (omega (arith, d .start)) in
-    let part : take size (drop start m) ≡ bs = rw (← front, drop-at (d .before ++ numBytes 4 (length bs)) (bs ++ d .after) start far, take-at bs (d .after) size size-is) in
-    (omega (arith, far, size-is, ap length front, length-append (d .before ++ numBytes 4 (length bs)) (bs ++ d .after), length-append bs (d .after)), rw part)
+    let there = body-stands l b t bs d in
+    rw (← start-is, ← size-is, there .1) (omega (arith, there .0), refl)

@@ -3,20 +3,18 @@
 use Prim.Native.Nat.{ℕ, zero, suc, _+_, _<_}
 use mathlib.Core.Path.{_≡_, refl, sym, _∙_, ap}
 use mathlib.Core.Bool.{Bool, true, false, false≢true, true≢false}
-use mathlib.Core.List.{List, [], _∷_, _++_}
+use mathlib.Core.List.{List, [], _∷_}
 use mathlib.Core.Option.{Option, some, none}
-use lib.ListN.{length, take, drop}
-use lib.Seq.{take-at, drop-at}
 use native.Mathlib.Omega.{arith}
 use Rattle.format.specs.declared.Fault.{Fault}
 use Rattle.format.specs.declared.Refusal.{Refusal}
 use Rattle.format.specs.Result.{Res, ok, no, pick}
-use Rattle.format.specs.Value.{Value, value, body}
+use Rattle.format.specs.Value.{value, body}
 use Rattle.format.proofs.Results.{ok-same, no-ok}
 use Rattle.scan.specs.Shown.{refusal}
-use Rattle.show.specs.declared.Cell.{Cell}
+use Rattle.places.specs.Entries.{Here, entry}
+use Rattle.places.proofs.Values.{Shows}
 use Rattle.query.specs.declared.Count.{Count}
-use Rattle.query.specs.declared.TableLayout.{TableLayout}
 use Rattle.query.specs.declared.TableAnswer.{TableAnswer}
 use Rattle.query.specs.declared.ColumnLayout.{ColumnLayout}
 use Rattle.query.specs.declared.ColumnAnswer.{ColumnAnswer}
@@ -26,10 +24,9 @@ use Rattle.query.specs.declared.Named.{Named}
 use Rattle.query.specs.declared.CellAnswer.{CellAnswer}
 use Rattle.query.specs.declared.Part.{Part}
 use Rattle.query.specs.declared.Argued.{Argued}
-use Rattle.query.specs.Answers.{Here, Given, entry, same, isNamed, firstNamed, shownHere, partOf, partIn, toldCount, toldTable, toldColumn, toldPlaced, toldPosition, toldNamed, toldCell, toldPart, toldArgument}
+use Rattle.query.specs.Answers.{Given, same, isNamed, firstNamed, shownHere, partOf, partIn, toldCount, toldTable, toldColumn, toldPlaced, toldPosition, toldNamed, toldCell, toldPart, toldArgument}
 use Rattle.query.proofs.Names.{same-yes, same-true}
 use Rattle.query.proofs.Parts.{part-stands}
-use Rattle.query.proofs.Opened.{Shows}
 
 -- ---- two answers that say the same are the same: what each says can be told back
 module _ {A B : Type 0} (told : A → B) (back : B → A) (is : (a : A) → back (told a) ≡ a) where
@@ -120,10 +117,5 @@ module _ (name : List ℕ) where
 
 -- ---- a cell, a parameter's value or an element is the bytes at its place, and a part of it is its body
 module _ (m : List ℕ) (h : Here) (w : Shows m h) where
-  pub bytes-there : take (length (value (w .length-field) (w .body-field) (h .type) .bytes (h .value))) (drop (h .at) m) ≡ value (w .length-field) (w .body-field) (h .type) .bytes (h .value)
-  bytes-there =
-      let d = w .stands in
-      rw (← d .whole, drop-at (d .before) (value (w .length-field) (w .body-field) (h .type) .bytes (h .value) ++ d .after) (h .at) (d .start), take-at (value (w .length-field) (w .body-field) (h .type) .bytes (h .value)) (d .after) _ refl)
-
   pub part-is-value : (p : ℕ × ℕ) → partOf (h .type-at) (shownHere h) ≡ ok (some p) → h .value ≡ body (some (partIn m (ok (some p))))
   part-is-value p e = part-stands (w .length-field) (w .body-field) (h .type) (h .type-at) (h .value) (w .stands) e .1

@@ -1,18 +1,14 @@
 -- What each step over an accepted message answers, by what stands at its place.
-use Prim.Native.Nat.{ℕ, zero, suc, _+_, _≤_, _<_}
+use Prim.Native.Nat.{ℕ, _+_, _≤_, _<_}
 use mathlib.Core.Path.{_≡_, refl, sym, _∙_, ap}
-use mathlib.Core.Bool.{Bool, true, false, false≢true}
-use mathlib.Core.Option.{Option, some, none}
-use mathlib.Core.List.{List, [], _∷_, _++_, map, append-nil, append-assoc}
+use mathlib.Core.List.{List, [], _∷_, map, append-nil}
 use lib.ListN.{length, take, drop, replicate, length-map}
 use lib.Seq.{length-take-le}
-use lib.Dec.{leb}
 use native.Mathlib.Omega.{arith}
 use native.Mathlib.Nat.{add-zero}
 use borrow.Author.Tests.{le-leb}
 use Rattle.format.specs.Format.{Format, Index, number, nothing, each, counted}
-use Rattle.format.specs.Value.{anything}
-use Rattle.format.specs.Message.{first, unlimited, Table, Metadata}
+use Rattle.format.specs.Message.{first, Table, metadata, row, table, second, third}
 use Rattle.format.proofs.Laws.{lawful-number, lawful-each, all-map, length-each}
 use Rattle.format.proofs.Formats.{lawful-value}
 use Rattle.scan.specs.Shown.{shownNext, shownNumber, shownByte}
@@ -22,22 +18,21 @@ use Rattle.format.proofs.Results.{ok-same}
 use Rattle.show.specs.declared.Cell.{Cell}
 use Rattle.show.specs.declared.Shown.{Shown}
 use Rattle.show.specs.Cells.{cellOf, shownAs}
+use Rattle.places.specs.Stands.{Stands}
+use Rattle.places.specs.Places.{nameBytes, typeAt, nameAt, rowAt, cellAt}
+use Rattle.places.specs.Entries.{cellHere}
+use Rattle.places.proofs.Stands.{stands-read, stands-fits, stands-at}
+use Rattle.places.proofs.Lists.{Sized, sized, total, jump-lands, entry-in, stands-entry, stands-front, front-bytes}
+use Rattle.places.proofs.Layouts.{length-number, status-stands, columns-stand, types-stand, names-stand, metadata-stands, row-count-stands, rows-stand, type-place, name-place, row-place, sized-table, sized-metadata, sized-row, cells-stand, types-part, cell-place, sized-name, names-all, name, type-stands, name-length-stands}
+use Rattle.places.proofs.Values.{there}
 use Rattle.query.specs.Shown.{pastOf, numberIn, byteIn, cellIn, spotOf, shownOf}
-use Rattle.query.specs.Stands.{Stands}
-use Rattle.query.specs.Answers.{layoutOf, Here, cellHere, shownHere, columnOf, nameBytes, entry}
-use Rattle.query.specs.Places.{typeAt, nameAt, rowAt, cellAt}
+use Rattle.query.specs.Answers.{layoutOf, shownHere, columnOf}
 use Rattle.query.specs.declared.TableLayout.{TableLayout}
 use Rattle.query.specs.declared.Spot.{Spot}
 use Rattle.query.specs.declared.ColumnLayout.{ColumnLayout}
-use Rattle.format.specs.Number.{numBytes}
 use Rattle.scan.specs.declared.Next.{Next}
 use Rattle.format.specs.Result.{ok, bind}
-use Rattle.format.specs.Value.{Value, value, isColumn}
-use Rattle.format.specs.declared.Fault.the-variants.{WireType}
-use Rattle.format.specs.Message.{metadata, row, table, second, third, columnType}
-use Rattle.query.proofs.Layouts.{length-number, status-stands, columns-stand, types-stand, names-stand, metadata-stands, row-count-stands, rows-stand, type-place, name-place, row-place, sized-table, sized-metadata, sized-row, cells-stand, types-part, types-total, cell-place, sized-name, names-all, name}
-use Rattle.query.proofs.Stands.{stands-read, stands-fits, stands-at, stands-ruled}
-use Rattle.query.proofs.Lists.{Sized, sized, total, jump-lands, entry-in, stands-entry, stands-cell, stands-front, front-bytes}
+use Rattle.format.specs.Value.{value}
 
 module _ (m : List ℕ) where
   -- past n bytes
@@ -106,19 +101,6 @@ module _ (m : List ℕ) {at : ℕ} {b : Table} (d : Stands table m at b) where
       (omega (arith, name-place at (b .metadata) 0 (omega arith)))
       (after-is m 4 row-count e₁₁ row-count-is (omega arith) ∙ omega (arith, row-place at b 0))
 
--- a column's type, and the length of its name
-module _ {m : List ℕ} {at : ℕ} {d : Metadata} (md : Stands metadata m at d) where
-  type-stands : (c : ℕ) {t : ℕ} → c < length (d .types) → entry (d .types) c ≡ ok t → Stands (number 1 45) m (at + 7 + c) t
-  type-stands c h e =
-      let size : total (columnType 45) (take c (d .types)) ≡ c = types-total (take c (d .types)) ∙ length-take-le c (d .types) (omega arith) in
-      stands-ruled isColumn WireType (stands-at (ap (λ (x : ℕ). at + 7 + x) size) (stands-entry third 0 (length (d .types)) (columnType 45) (d .types) c (types-stand md) e))
-
-name-length-stands : {m : List ℕ} {at : ℕ} (n : Option (List ℕ)) → Stands name m at n → Stands (number 4 46) m at (length (nameBytes n))
-unfolding counted number
-name-length-stands none d = absurd (false≢true (d .good))
-name-length-stands (some bs) d =
-    record { good = omega (arith, d .good .0); before = d .before; after = bs ++ d .after; whole = rw (← append-assoc (numBytes 4 (length bs))) (d .whole); start = d .start }
-
 -- the place of a cell and its type, step by step
 module _ (m : List ℕ) {at : ℕ} {b : Table} (d : Stands table m at b) (k c : ℕ) (in-rows : k < length (b .rows)) (in-types : c < length (b .metadata .types)) where
   same-spot : {w₁ w₂ p₁ p₂ q₁ q₂ : ℕ} → w₁ ≡ w₂ → p₁ ≡ p₂ → q₁ ≡ q₂ → _≡_ {A = Spot} (record { «wire_type» = w₁; «type_at» = p₁; at = q₁ }) (record { «wire_type» = w₂; «type_at» = p₂; at = q₂ })
@@ -157,33 +139,13 @@ module _ (m : List ℕ) {at : ℕ} {b : Table} (d : Stands table m at b) (k c : 
       = e₅ ∙ rw (part, cells-is, stands-read law first-cells, cell-place (rowAt at b k) l (vs .0) c, front-bytes third (value 50 51) 0 l (vs .0) c) in
       rw (vs .1, ty .1, v .1) (ap ok (same-spot (byte-is m 45 type-at e₂ type-at-is typed) (omega (arith, type-place at (b .metadata) c (omega arith))) (e₆ ∙ ap pastOf reads)))
 
--- a cell that is there stands at its place
+-- what is shown of a cell that is there
 module _ (m : List ℕ) {at : ℕ} {b : Table} (d : Stands table m at b) (k c : ℕ) (in-rows : k < length (b .rows)) (in-types : c < length (b .metadata .types)) where
-  pub record There : Type 0 where
-    pub here : Here
-    pub is : cellHere at b k c ≡ ok here
-    pub stands : Stands (value 50 51 (here .type)) m (here .at) (here .value)
-
-  pub there : There
-  there =
-      let l = b .metadata .types in
-      let vs = entry-in (b .rows) k in-rows in
-      let ty = entry-in l c in-types in
-      let row-here : Stands (row l) m (rowAt at b k) (vs .0) = stands-at (sym (row-place at b k)) (stands-entry second 0 (length (b .rows)) (row l) (b .rows) k (rows-stand d) (vs .1)) in
-      let inner = cells-stand l row-here in
-      let all : length (vs .0) ≡ length l = length-each third 0 (map (value 50 51) l) (vs .0) (inner .good) ∙ length-map l (value 50 51) in
-      let v = entry-in (vs .0) c (omega arith) in
-      record {
-        here = record { type = ty .0; type-at = typeAt at (b .metadata) c; at = cellAt (rowAt at b k) l (vs .0) c; value = v .0 };
-        is = rw (vs .1, ty .1, v .1);
-        stands = stands-at (sym (cell-place (rowAt at b k) l (vs .0) c)) (stands-cell third 0 (value 50 51) l (vs .0) c inner (ty .1) (v .1));
-      }
-
   pub shown-is : (spot : Spot) {shown : Shown} {cell : Cell} → ok spot ≡ bind (cellHere at b k c) (λ h. ok (spotOf h))
       → shown ≡ shownAs (cellOf (spot .«wire_type») (spot .at)) (value 0 0 (spot .«wire_type») .read m (spot .at)) → cell ≡ cellIn shown
       → ok (record { cell = cell; «type_at» = spot .«type_at» }) ≡ bind (cellHere at b k c) (λ h. ok (shownOf h))
   shown-is spot {shown} {cell} e₁ e₂ e₃ =
-      let w = there in
+      let w = there m d k c in-rows in-types in
       let h = w .here in
       let same : spot ≡ spotOf h = ok-same (rw (w .is) at e₁) in
       let reads : value 0 0 (h .type) .read m (h .at) ≡ ok (h .value, h .at + length (value 50 51 (h .type) .bytes (h .value))) = sym (value-fields m (h .at) 50 51 (h .type)) ∙ stands-read (lawful-value 50 51 (h .type)) (w .stands) in

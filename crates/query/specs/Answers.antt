@@ -1,17 +1,18 @@
 -- What each question about a message is answered with: the message's own refusal, then the question's. `ask..` are the questions and `told..` what
 -- the code's answers say: the paper's fault and place (Result.antt has its number), or the values.
-use Prim.Native.Nat.{ℕ, zero, suc, _+_}
+use Prim.Native.Nat.{ℕ, _+_}
 use mathlib.Core.Bool.{Bool, true, false, _&&_}
-use mathlib.Core.List.{List, [], _∷_, map}
+use mathlib.Core.List.{List, [], _∷_}
 use mathlib.Core.Option.{Option, some, none}
 use lib.ListN.{length, take, drop}
 use lib.Dec.{eqb}
-use Rattle.format.specs.declared.Fault.the-variants.{WireType, PastEnd, NoColumn}
+use Rattle.format.specs.declared.Fault.the-variants.{WireType, NoColumn}
 use Rattle.format.specs.Result.{Res, ok, no, bind, pick}
-use Rattle.format.specs.Value.{Value, fixed}
-use Rattle.format.specs.Message.{Table, table, Items, bytes, values, Argument, null, one, array, Param, Message, readMessage, responseLayout}
+use Rattle.format.specs.Message.{Table, table, Argument, null, one, array, Param, Message, readMessage, responseLayout}
 use Rattle.show.specs.declared.Cell.{Cell}
 use Rattle.show.specs.Cells.{cellOf}
+use Rattle.places.specs.Places.{tablesOf, tableAt, typeAt, nameAt, nameBytes, rowAt, paramsOf, paramAt, argumentAt}
+use Rattle.places.specs.Entries.{entry, Here, cellHere, valueHere, valuesIn, elementOf}
 use Rattle.query.specs.declared.Count.{Count}
 use Rattle.query.specs.declared.TableLayout.{TableLayout}
 use Rattle.query.specs.declared.TableAnswer.{TableAnswer}
@@ -23,15 +24,8 @@ use Rattle.query.specs.declared.Named.{Named}
 use Rattle.query.specs.declared.CellAnswer.{CellAnswer}
 use Rattle.query.specs.declared.Part.{Part}
 use Rattle.query.specs.declared.Argued.{Argued}
-use Rattle.query.specs.Places.{tablesOf, tableAt, typeAt, nameAt, rowAt, cellAt, paramsOf, paramAt, argumentAt, elementAt}
 
 module _ {A : Type 0} where
-  -- the i-th of a list
-  abbrev pub entry : List A → ℕ → Res A
-  entry [] i = no PastEnd 0
-  entry (a ∷ l) zero = ok a
-  entry (a ∷ l) (suc i) = entry l i
-
   -- what is there, if anything is
   abbrev pub perhaps : Res A → Option A
   perhaps (ok a) = some a
@@ -81,10 +75,6 @@ firstNamed name [] i = no NoColumn 0
 firstNamed name (n ∷ ns) i = pick (isNamed name n) (ok i) (firstNamed name ns (i + 1))
 
 -- a column at its position: its type and that one's place, and where its name's bytes start and how many they are
-abbrev pub nameBytes : Option (List ℕ) → List ℕ
-nameBytes none = []
-nameBytes (some bs) = bs
-
 abbrev pub columnOf : ℕ → Table → ℕ → Res ColumnLayout
 columnOf at b c = bind (entry (b .metadata .types) c) (λ t. bind (entry (b .metadata .names) c) (λ n.
     ok (record { «wire_type» = t; «type_at» = typeAt at (b .metadata) c; name = nameAt at (b .metadata) c + 4; «name_length» = length (nameBytes n) })))
@@ -92,18 +82,6 @@ columnOf at b c = bind (entry (b .metadata .types) c) (λ t. bind (entry (b .met
 -- the first column of a name, with its position
 abbrev pub namedOf : ℕ → Table → List ℕ → Res (ℕ × ColumnLayout)
 namedOf at b name = bind (firstNamed name (b .metadata .names) 0) (λ i. bind (columnOf at b i) (λ l. ok (i, l)))
-
--- a cell: its column's type and the place of that, its own place and its value
-pub record Here : Type 0 where
-  pub type : ℕ
-  pub type-at : ℕ
-  pub at : ℕ
-  pub value : Value
-
--- the cell at row k and column c
-abbrev pub cellHere : ℕ → Table → ℕ → ℕ → Res Here
-cellHere at b k c = bind (entry (b .rows) k) (λ cells. bind (entry (b .metadata .types) c) (λ t. bind (entry cells c) (λ v.
-    ok (record { type = t; type-at = typeAt at (b .metadata) c; at = cellAt (rowAt at b k) (b .metadata .types) cells c; value = v }))))
 
 abbrev pub shownHere : Here → Cell
 shownHere h = cellOf (h .type) (h .at) (h .value)
@@ -138,29 +116,11 @@ pub data Given : Type 0 where
   value : Cell → Given
   list : ℕ → ℕ → Given
 
--- the elements of an array, bytes as tinyints
-abbrev pub valuesIn : Items → List Value
-valuesIn (bytes none) = []
-valuesIn (bytes (some bs)) = map fixed bs
-valuesIn (values l) = l
-
 -- a parameter of a type, at a place
 abbrev pub givenOf : ℕ → ℕ → Argument → Given
 givenOf at t null = Given.nothing
 givenOf at t (one v) = Given.value (cellOf t (argumentAt at) v)
 givenOf at t (array e l) = Given.list e (length (valuesIn l))
-
--- the value of a parameter that is one; any other is refused at its type
-abbrev pub valueHere : ℕ → ℕ → Argument → Res Here
-valueHere at t (one v) = ok (record { type = t; type-at = at; at = argumentAt at; value = v })
-valueHere at t null = no WireType at
-valueHere at t (array e l) = no WireType at
-
--- element e of an array; the parameter of any other type is refused at that
-abbrev pub elementOf : ℕ → Argument → ℕ → Res Here
-elementOf at null e = no WireType at
-elementOf at (one v) e = no WireType at
-elementOf at (array t l) e = bind (entry (valuesIn l) e) (λ v. ok (record { type = t; type-at = argumentAt at; at = elementAt at t l e; value = v }))
 
 -- ---- the questions
 abbrev pub askTables : List ℕ → Res ℕ

@@ -1,4 +1,2 @@
-pub mod Places
 pub mod Answers
-pub mod Stands
 pub mod Shown

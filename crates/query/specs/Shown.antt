@@ -6,10 +6,11 @@ use Rattle.scan.specs.declared.Number.{Number}
 use Rattle.scan.specs.declared.Byte.{Byte}
 use Rattle.show.specs.declared.Cell.{Cell}
 use Rattle.show.specs.declared.Shown.{Shown}
+use Rattle.places.specs.Entries.{Here}
 use Rattle.query.specs.declared.Spot.{Spot}
 use Rattle.query.specs.declared.ShownCell.{ShownCell}
 use Rattle.query.specs.declared.FoundCell.{FoundCell}
-use Rattle.query.specs.Answers.{Here, shownHere}
+use Rattle.query.specs.Answers.{shownHere}
 
 -- where a reading ended, and the number that it gave; after an acceptance no reading here is refused, and what stands for a refusal is never used
 abbrev pub pastOf : Next → ℕ

@@ -23,10 +23,11 @@ ghost use Rattle.format.specs.Value.{string, anything, ascii, value, tTinyint};
 ghost use Rattle.format.specs.Message.{first, third, unlimited, Message, readMessage, responseLayout, head, Table, table, Param, param};
 ghost use Rattle.scan.specs.Shown.{shownNext, shownNumber, shownByte, bodyEnd, refusal};
 ghost use Rattle.show.specs.Cells.{cellOf, shownAs};
-ghost use Rattle.query.specs.Stands.{Stands};
-ghost use Rattle.query.specs.Places.{tablesOf, tableAt, typeAt, nameAt, rowAt, paramsOf, paramAt};
+ghost use Rattle.places.specs.Stands.{Stands};
+ghost use Rattle.places.specs.Places.{tablesOf, tableAt, typeAt, nameAt, rowAt, paramsOf, paramAt};
+ghost use Rattle.places.specs.Entries.{entry, cellHere, valueHere, elementOf};
 ghost use Rattle.query.specs.Shown.{pastOf, numberIn, byteIn, cellIn, spotOf, shownOf, toldFound};
-ghost use Rattle.query.specs.Answers.{entry, perhaps, ofTable, ofParam, layoutOf, columnOf, firstNamed, namedOf, cellHere, partOf, partIn, givenOf, valueHere, elementOf, askTables, askTable, askColumn, askPlaced, askPosition, askNamed, askCell, askCellSpan, askParameter, askParameterSpan, askElement, askElementSpan, toldCount, toldTable, toldColumn, toldPlaced, toldPosition, toldNamed, toldCell, toldPart, toldArgument};
+ghost use Rattle.query.specs.Answers.{perhaps, ofTable, ofParam, layoutOf, columnOf, firstNamed, namedOf, partOf, partIn, givenOf, askTables, askTable, askColumn, askPlaced, askPosition, askNamed, askCell, askCellSpan, askParameter, askParameterSpan, askElement, askElementSpan, toldCount, toldTable, toldColumn, toldPlaced, toldPosition, toldNamed, toldCell, toldPart, toldArgument};
 
 // ---- What the questions are answered with.
 

@@ -1,5 +1,5 @@
 -- Where an accepted message's strings and blocks are shown, their bytes stand. The numbers are shown as the signed numbers of their fields by definition.
-use Prim.Native.Nat.{ℕ, _+_}
+use Prim.Native.Nat.{ℕ}
 use mathlib.Core.Path.{_≡_, sym, _∙_, ap, subst}
 use mathlib.Core.Bool.{Bool, true, false}
 use mathlib.Core.List.{List}
@@ -10,14 +10,16 @@ use Rattle.format.specs.Result.{ok}
 use Rattle.format.specs.Number.{Bytes, numBytes}
 use Rattle.format.specs.Format.{number, block, both, present, nothing}
 use Rattle.format.specs.Message as wire
-use Rattle.format.specs.Message.{Message, Server, contentOf, readMessage, loginRequest, loginResponse, server, noServer, invocation, responseLayout, text, edition, list, mostItems, first, param}
+use Rattle.format.specs.Message.{Message, Server, contentOf, readMessage, loginRequest, loginResponse, server, noServer, invocation, responseLayout, text, edition}
 use Rattle.format.proofs.Numbers.{numBytes-numAt}
 use Rattle.format.proofs.Results.{ok-same}
 use Rattle.scan.proofs.Answers.{took}
-use Rattle.record.specs.Places.{afterText, afterNumber}
+use Rattle.places.specs.Places.{afterText, afterNumber}
+use Rattle.places.proofs.Readings.{block-held, both-parts, into-parts, ruled-part}
+use Rattle.places.proofs.Calls.{call-1, call-2}
 use Rattle.record.specs.Records.{loginRequestOf, loginResponseOf, invocationOf, responseOf}
-use Rattle.record.proofs.Holds.{Holds, HoldsNote, text-held, block-held}
-use Rattle.record.proofs.Says.{both-parts, into-parts, ruled-part, number-says, number-both, block-both, text-both, said}
+use Rattle.record.proofs.Holds.{Holds, HoldsNote, text-held}
+use Rattle.record.proofs.Says.{number-says, number-both, block-both, text-both, said}
 use Rattle.record.proofs.Records.{Rest, replied, response-read}
 
 -- ---- kind 1
@@ -107,10 +109,10 @@ module _ (m : List ℕ) where
   call-held : (v : ℕ) (l : wire.Invocation) (end : ℕ) → invocation .read m 5 ≡ ok (l, end) → InvocationHeld m v l
   unfolding invocation
   call-held v l end e =
-      let p = into-parts m _ _ (both (text 20 21) (λ p. both (block 8 22) (λ c. list 2 mostItems 23 first param))) 5 l end e in
+      let p = into-parts m _ _ (both (text 20 21) call-1) 5 l end e in
       let a = p .0 in
-      let q₁ = text-both m 5 false 20 21 (λ p. both (block 8 22) (λ c. list 2 mostItems 23 first param)) a end (p .1) in
-      let q₂ = block-both m (afterText 5 (a .0)) 22 (λ c. list 2 mostItems 23 first param) (a .1) end (q₁ .1) in
+      let q₁ = text-both m 5 false 20 21 call-1 a end (p .1) in
+      let q₂ = block-both m (afterText 5 (a .0)) 22 (λ c. call-2) (a .1) end (q₁ .1) in
       subst (InvocationHeld m v) (p .2) (q₁ .2, q₂ .2)
 
   pub invocation-held : (r : Message) → readMessage 3 m ≡ ok r → InvocationHeld m (r .version) (wire.invocation-of (r .content))

@@ -13,25 +13,29 @@ use Rattle.format.specs.declared.Refusal.{Refusal}
 use Rattle.format.specs.Result.{Res, ok}
 use Rattle.format.specs.Format.{Format, number, block, both, present, nothing}
 use Rattle.format.specs.Message as wire
-use Rattle.format.specs.Message.{Message, Server, contentOf, readMessage, loginRequest, loginResponse, server, noServer, invocation, responseLayout, response, head, appStated, tripped, flagByte, afterFlags, text, edition, flagged, list, mostItems, first, param, table}
+use Rattle.format.specs.Message.{Message, Server, contentOf, readMessage, loginRequest, loginResponse, server, noServer, invocation, responseLayout, response, head, appStated, tripped, flagByte, afterFlags, text, edition, flagged, mostItems, first, param, table}
 use Rattle.format.proofs.Results.{ok-same}
 use Rattle.message.specs.declared.Verdict.{Verdict}
 use Rattle.message.specs.Verdict.{toldVerdict, verdictOf}
 use Rattle.message.proofs.Accepted.{verdict-go, verdict-stop}
-use Rattle.message.proofs.Whole.{content-response}
 use Rattle.scan.specs.Signed.{signed}
+use Rattle.places.specs.Places.{afterText, afterNote, afterNumber, tripSize}
+use Rattle.places.proofs.Readings.{block-size, both-parts, into-parts, ruled-part}
+use Rattle.places.proofs.Contents.{content-response}
+use Rattle.places.proofs.Replies.{tabled}
+use Rattle.places.proofs.Calls.{call-1, call-2}
 use Rattle.record.specs.declared.Span.{Span}
 use Rattle.record.specs.declared.Edition.{Edition}
 use Rattle.record.specs.declared.Num.{Num}
 use Rattle.record.specs.declared.Noted.{Noted}
 use Rattle.record.specs.declared.LoginRequestRecord.{LoginRequestRecord}
 use Rattle.record.specs.declared.ResponseRecord.{ResponseRecord}
-use Rattle.record.specs.Places.{spanOf, afterText, noteOf, afterNote, afterNumber, tripSize}
+use Rattle.record.specs.Spans.{spanOf, noteOf}
 use Rattle.record.specs.Records.{recordIn, loginRequestOf, loginResponseOf, invocationOf, responseOf}
 use Rattle.record.specs.Peeks.{numberAt, textAt, notedAt, blockAt, loginAt, loginRequestAt, serverAt, loginResponseAt, invocationAt}
 use Rattle.record.proofs.Fields.{spot}
-use Rattle.record.proofs.Holds.{HoldsNote, block-size}
-use Rattle.record.proofs.Says.{both-parts, into-parts, ruled-part, number-says, text-says, list-says, trip-says, notice, number-both, ruled-both, block-both, text-both, noted-both, said}
+use Rattle.record.proofs.Holds.{HoldsNote}
+use Rattle.record.proofs.Says.{number-says, text-says, list-says, trip-says, notice, number-both, ruled-both, block-both, text-both, noted-both, said}
 
 -- ---- an answer's record
 module _ {A : Type 0} (show : Message → A) (d : A) (w : Res Message) (v : Verdict) where
@@ -146,10 +150,10 @@ login-response-says m r e =
 call-says : (m : List ℕ) (v : ℕ) → numberAt m 4 1 ≡ record { n = v; next = 5 } → (l : wire.Invocation) (end : ℕ) → invocation .read m 5 ≡ ok (l, end) → invocationAt m ≡ invocationOf v l
 unfolding invocation
 call-says m v version l end e =
-    let p = into-parts m _ _ (both (text 20 21) (λ p. both (block 8 22) (λ c. list 2 mostItems 23 first param))) 5 l end e in
+    let p = into-parts m _ _ (both (text 20 21) call-1) 5 l end e in
     let a = p .0 in
-    let q₁ = text-both m 5 false 20 21 (λ p. both (block 8 22) (λ c. list 2 mostItems 23 first param)) a end (p .1) in
-    let q₂ = block-both m (afterText 5 (a .0)) 22 (λ c. list 2 mostItems 23 first param) (a .1) end (q₁ .1) in
+    let q₁ = text-both m 5 false 20 21 call-1 a end (p .1) in
+    let q₂ = block-both m (afterText 5 (a .0)) 22 (λ c. call-2) (a .1) end (q₁ .1) in
     let q₃ = list-says m (afterText 5 (a .0) + 8) mostItems 23 first param (a .1 .1) end (q₂ .1) in
     let far : afterText 5 (a .0) + 8 + 2 ≡ afterText 5 (a .0) + 10 = omega arith in
     rw (version, q₁ .0, q₂ .0, q₃, far) (ap (invocationOf v) (p .2))
@@ -176,9 +180,6 @@ trip-small : (timed : Bool) → min (tripSize timed) 8 ≡ tripSize timed
 trip-small true = refl
 trip-small false = refl
 
-abbrev Tables : Format (List wire.Table)
-Tables = list 2 mostItems 40 first table
-
 module _ (timed : Bool) (m : List ℕ) where
   pub record Replied (l : wire.Response) : Type 0 where
     pub client : (blockAt m 5 ≡ record { bytes = l .head .client; next = 13 }) × (take (length (l .head .client)) (drop 5 m) ≡ l .head .client)
@@ -191,8 +192,8 @@ module _ (timed : Bool) (m : List ℕ) where
   pub replied : (l : wire.Response) (end : ℕ) → response timed .read m 5 ≡ ok (l, end) → Replied l
   unfolding response head
   replied l end e =
-      let p = into-parts m _ _ (both (head timed) (λ h. Tables)) 5 l end e in
-      let q = both-parts m (head timed) (λ h. Tables) 5 (p .0) end (p .1) in
+      let p = into-parts m _ _ (both (head timed) (λ h. tabled)) 5 l end e in
+      let q = both-parts m (head timed) (λ h. tabled) 5 (p .0) end (p .1) in
       let w = into-parts m _ _ (both (block 8 22) (λ c. both (flagByte 30) (afterFlags timed))) 5 (p .0 .0) (q .0) (q .1) in
       let a = w .0 in
       let c = block-both m 5 22 (λ c. both (flagByte 30) (afterFlags timed)) a (q .0) (w .1) in

@@ -1,67 +1,30 @@
--- What an accepted reading says of its parts: where they stand, and what the code finds there.
-use Prim.Native.Nat.{ℕ, suc, _+_}
-use mathlib.Core.Path.{_≡_, refl, sym, _∙_, ap, ap₂, subst}
-use mathlib.Core.Bool.{Bool, true, false, _&&_}
-use mathlib.Core.List.{List, [], _∷_}
+-- What the code finds at the places of an accepted reading's parts.
+use Prim.Native.Nat.{ℕ, _+_}
+use mathlib.Core.Path.{_≡_, refl, sym, _∙_, ap, subst}
+use mathlib.Core.Bool.{Bool, true, false}
+use mathlib.Core.List.{List}
 use mathlib.Core.Option.{Option, some, none, Option·getD}
 use lib.ListN.{length, take, drop, replicate, length-replicate}
-use lib.Dec.{leb, ltb, eqb}
-use native.Mathlib.Omega.{arith}
+use lib.Dec.{leb}
 use native.Mathlib.Nat.{add-zero}
 use Rattle.format.specs.declared.Fault.{Fault}
-use Rattle.format.specs.declared.Fault.the-variants.{Short, Negative, Limit}
-use Rattle.format.specs.Result.{Res, ok, no, pick}
-use Rattle.format.specs.Number.{numAt, half, null4}
-use Rattle.format.specs.Format.{Format, Index, number, block, ruled, into, both, present, nothing, each, counted}
-use Rattle.format.specs.Value.{string, anything, mostBytes}
-use Rattle.format.specs.Message.{Message, message, contentOf, readMessage, list, binary, noted, trip}
-use Rattle.format.proofs.Results.{bound, passed, spared, ok-same}
-use Rattle.format.proofs.Demands.{accepted→passed}
+use Rattle.format.specs.declared.Fault.the-variants.{Short}
+use Rattle.format.specs.Result.{ok, no, pick}
+use Rattle.format.specs.Number.{numAt}
+use Rattle.format.specs.Format.{Format, Index, number, block, ruled, both, present, nothing, each, counted}
+use Rattle.format.specs.Value.{string, anything}
+use Rattle.format.specs.Message.{Message, contentOf, readMessage, list, binary, noted, trip}
+use Rattle.format.proofs.Results.{passed, ok-same}
 use Rattle.scan.proofs.Answers.{took}
-use Rattle.show.proofs.Bodies.{stood}
+use Rattle.places.specs.Places.{afterText, afterNote, afterNumber, tripSize}
+use Rattle.places.proofs.Readings.{both-parts, into-parts, ruled-part, each-length, block-held, text-ends}
+use Rattle.places.proofs.Contents.{content-read}
 use Rattle.record.specs.declared.Num.{Num}
 use Rattle.record.specs.declared.Noted.{Noted}
-use Rattle.record.specs.Places.{spanOf, afterText, noteOf, afterNote, afterNumber, tripSize}
+use Rattle.record.specs.Spans.{spanOf, noteOf}
 use Rattle.record.specs.Peeks.{numIn, spotIn, blockIn, numberAt, textAt, noteAt, blockAt, notedAt}
-use Rattle.record.proofs.Holds.{Holds, HoldsNote, text-held, block-held}
+use Rattle.record.proofs.Holds.{Holds, HoldsNote, text-held}
 use Rattle.record.proofs.Fields.{spot, note-absent, note-there}
-
--- ---- the parts of each combinator
-module _ {A B : Type 0} (s : List ℕ) where
-  pub both-parts : (f : Format A) (g : A → Format B) (at : ℕ) (v : A × B) (next : ℕ) → both f g .read s at ≡ ok (v, next)
-      → (mid : ℕ) × (f .read s at ≡ ok (v .0, mid)) × (g (v .0) .read s mid ≡ ok (v .1, next))
-  unfolding both
-  both-parts f g at v next e =
-      let p = bound (f .read s at) e in
-      let q = bound (g (p .0 .0) .read s (p .0 .1)) (p .2) in
-      let same = ok-same (q .2) in
-      let first : p .0 .0 ≡ v .0 = ap (λ (w : (A × B) × ℕ). w .0 .0) same in
-      let second : q .0 ≡ (v .1, next) = ap (λ (w : (A × B) × ℕ). (w .0 .1, w .1)) same in
-      (p .0 .1, p .1 ∙ ap (λ (a : A). ok (a, p .0 .1)) first, sym (ap (λ (a : A). g a .read s (p .0 .1)) first) ∙ q .1 ∙ ap ok second)
-
-  pub into-parts : (to : A → B) (from : B → A) (f : Format A) (at : ℕ) (b : B) (next : ℕ) → into to from f .read s at ≡ ok (b, next)
-      → (a : A) × (f .read s at ≡ ok (a, next)) × (to a ≡ b)
-  unfolding into
-  into-parts to from f at b next e =
-      let p = bound (f .read s at) e in
-      let same = ok-same (p .2) in
-      (p .0 .0, p .1 ∙ ap (λ (n : ℕ). ok (p .0 .0, n)) (ap (λ (w : B × ℕ). w .1) same), ap (λ (w : B × ℕ). w .0) same)
-
-module _ {A : Type 0} (s : List ℕ) where
-  pub ruled-part : (test : A → Bool) (fault : Fault) (f : Format A) (at : ℕ) (a : A) (next : ℕ) → ruled test fault f .read s at ≡ ok (a, next) → f .read s at ≡ ok (a, next)
-  unfolding ruled
-  ruled-part test fault f at a next e =
-      let p = bound (f .read s at) e in
-      p .1 ∙ passed (test (p .0 .0)) _ _ (p .2) .1
-
-  -- as many values are read as there are formats
-  each-length : (ix : ℕ → Index → Index) (k : ℕ) (fs : List (Format A)) (at : ℕ) (l : List A) (next : ℕ) → each ix k fs .read s at ≡ ok (l, next) → length l ≡ length fs
-  unfolding each nothing
-  each-length ix k [] at l next e = sym (ap (λ (w : List A × ℕ). length (w .0)) (ok-same e))
-  each-length ix k (f ∷ fs) at l next e =
-      let p = bound (f .read s at) e in
-      let q = bound (each ix (k + 1) fs .read s (p .0 .1)) (p .2) in
-      sym (ap (λ (w : List A × ℕ). length (w .0)) (ok-same (q .2))) ∙ ap suc (each-length ix (k + 1) fs (p .0 .1) (q .0 .0) (q .0 .1) (q .1))
 
 -- ---- what the code finds
 module _ (s : List ℕ) (at : ℕ) where
@@ -77,43 +40,11 @@ module _ (s : List ℕ) (at : ℕ) where
       let far : at + 8 ≡ next = ap (λ (w : List ℕ × ℕ). w .1) (ok-same (passed (leb (at + 8) (length s)) _ _ e .1)) in
       (ap (blockIn at) (e ∙ ap (λ (m : ℕ). ok (bs, m)) (sym far)), sym far)
 
-  some-none : {bs : List ℕ} {n m : ℕ} → _≡_ {A = Res (Option (List ℕ) × ℕ)} (ok (some bs, n)) (ok (none, m)) → ⊥
-  some-none e = let z : _≡_ {A = ℕ} 0 1 = ap (λ (w : Option (List ℕ) × ℕ). kindOf (w .0)) (ok-same e) in omega arith
-    where
-      kindOf : Option (List ℕ) → ℕ
-      kindOf (some bs) = 0
-      kindOf none = 1
-
-  null-ends : (nullable : Bool) (l b next : ℕ) → string nullable anything l b .read s at ≡ ok (none, next) → next ≡ at + 4
-  unfolding counted
-  null-ends nullable l b next e =
-      let r = bound (number 4 l .read s at) e in
-      let n = r .0 .0 in
-      by-null n (nullable && eqb n null4) (r .2)
-    where
-      by-null : (n : ℕ) (t : Bool)
-          → pick {A = Res (Option (List ℕ) × ℕ)} t (ok (none, at + 4))
-          (pick (leb (half 4) n) (no Negative at)
-          (pick (ltb mostBytes n) (no Limit at)
-          (pick (ltb (length s) (at + 4 + n)) (no Short at)
-          (ok (some (take n (drop (at + 4) s)), at + 4 + n))))) ≡ ok (none, next)
-          → next ≡ at + 4
-      by-null n true h = sym (ap (λ (w : Option (List ℕ) × ℕ). w .1) (ok-same h))
-      by-null n false h =
-          let t₁ = spared (leb (half 4) n) _ _ h in
-          let t₂ = spared (ltb mostBytes n) _ _ (t₁ .1) in
-          let t₃ = spared (ltb (length s) (at + 4 + n)) _ _ (t₂ .1) in
-          absurd (some-none (t₃ .1))
-
-  text-ends : (nullable : Bool) (l b : ℕ) (o : Option (List ℕ)) (next : ℕ) → string nullable anything l b .read s at ≡ ok (o, next) → next ≡ afterText at o
-  text-ends nullable l b none next e = null-ends nullable l b next e
-  text-ends nullable l b (some bs) next e = stood nullable mostBytes anything l b s at e .far
-
   pub text-says : (nullable : Bool) (l b : ℕ) (o : Option (List ℕ)) (next : ℕ) → string nullable anything l b .read s at ≡ ok (o, next)
       → (textAt s at nullable ≡ spot (spanOf at o) (afterText at o)) × (next ≡ afterText at o)
   unfolding textAt counted number
   text-says nullable l b o next e =
-      let far = text-ends nullable l b o next e in
+      let far = text-ends s at nullable l b o next e in
       (ap (spotIn at) (e ∙ ap (λ (m : ℕ). ok (o, m)) far), far)
 
   pub note-says : (there nullable : Bool) (l b : ℕ) (o : Option (Option (List ℕ))) (next : ℕ) → present there none (string nullable anything l b) .read s at ≡ ok (o, next)
@@ -239,15 +170,6 @@ pub record Said (kind : ℕ) (m : List ℕ) (r : Message) : Type 0 where
   pub content : contentOf kind (r .version) .read m 5 ≡ ok (r .content, length m)
 
 pub said : (kind : ℕ) (m : List ℕ) (r : Message) → readMessage kind m ≡ ok r → Said kind m r
-unfolding message
 said kind m r e =
-    let t = accepted→passed kind m r e .message-read in
-    let p = into-parts m _ _ (both _ (contentOf kind)) 4 r (length m) t in
-    let q = both-parts m _ (contentOf kind) 4 (p .0) (length m) (p .1) in
-    let v : p .0 .0 ≡ r .version = ap (λ (x : Message). x .version) (p .2) in
-    let c : p .0 .1 ≡ r .content = ap (λ (x : Message). x .content) (p .2) in
-    let n = number-says m 4 1 2 (p .0 .0) (q .0) (ruled-part m _ _ (number 1 2) 4 (p .0 .0) (q .0) (q .1)) in
-    record {
-      version = n .0 ∙ ap (λ (x : ℕ). record { n = x; next = 5 }) v;
-      content = ap₂ (λ (x y : ℕ). contentOf kind x .read m y) (sym v) (sym (n .1)) ∙ q .2 ∙ ap (λ x. ok (x, length m)) c;
-    }
+    let w = content-read kind m r e in
+    record { version = number-says m 4 1 2 (r .version) 5 (w .0) .0; content = w .1 }

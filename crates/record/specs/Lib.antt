@@ -1,3 +1,3 @@
-pub mod Places
+pub mod Spans
 pub mod Records
 pub mod Peeks

@@ -1,7 +1,7 @@
 -- What the code takes out of a message that is accepted, field by field. proofs/Records.antt proves that it is the record; only helpers' contracts cite this.
 -- A field that can't be read, which no accepted message has, gives nothing, and the next one its place.
 use Prim.Native.Nat.{ℕ}
-use mathlib.Core.Bool.{Bool, true, false}
+use mathlib.Core.Bool.{Bool, false}
 use mathlib.Core.List.{List}
 use mathlib.Core.Option.{Option, none}
 use lib.ListN.{replicate}
@@ -20,7 +20,7 @@ use Rattle.record.specs.declared.Noted.{Noted}
 use Rattle.record.specs.declared.LoginRequestRecord.{LoginRequestRecord}
 use Rattle.record.specs.declared.LoginResponseRecord.{LoginResponseRecord}
 use Rattle.record.specs.declared.InvocationRecord.{InvocationRecord}
-use Rattle.record.specs.Places.{spanOf, noteOf}
+use Rattle.record.specs.Spans.{spanOf, noteOf}
 use Rattle.record.specs.Records.{loginResponseOf}
 
 abbrev pub numIn : ℕ → Res (ℕ × ℕ) → Num

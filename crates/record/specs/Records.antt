@@ -8,13 +8,14 @@ use Rattle.format.specs.Result.{Res, ok, no}
 use Rattle.format.specs.Message as wire
 use Rattle.format.specs.Message.{Message, Server}
 use Rattle.scan.specs.Signed.{signed}
+use Rattle.places.specs.Places.{afterText, afterNote, afterNumber}
 use Rattle.record.specs.declared.Span.{Span}
 use Rattle.record.specs.declared.Edition.{Edition}
 use Rattle.record.specs.declared.LoginRequestRecord.{LoginRequestRecord}
 use Rattle.record.specs.declared.LoginResponseRecord.{LoginResponseRecord}
 use Rattle.record.specs.declared.InvocationRecord.{InvocationRecord}
 use Rattle.record.specs.declared.ResponseRecord.{ResponseRecord}
-use Rattle.record.specs.Places.{spanOf, afterText, noteOf, afterNote, afterNumber}
+use Rattle.record.specs.Spans.{spanOf, noteOf}
 
 module _ {A : Type 0} where
   -- the record of a message that is accepted; of one that is not, the record given

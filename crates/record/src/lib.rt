@@ -10,8 +10,8 @@ ghost use Rattle.format.specs.Number.{numBytes};
 ghost use Rattle.format.specs.Result.{ok};
 ghost use Rattle.format.specs.Message.{Message, Response, readMessage, responseLayout, response-of, response as responseFormat};
 ghost use Rattle.message.specs.Verdict.{toldVerdict, verdictOf};
+ghost use Rattle.places.specs.Places.{tripSize};
 ghost use Rattle.record.specs.Peeks.{numberAt, textAt, noteAt, notedAt, blockAt, hashSize, loginAt, loginRequestAt, serverAt, loginResponseAt, invocationAt};
-ghost use Rattle.record.specs.Places.{tripSize};
 ghost use Rattle.record.specs.Records.{loginResponseOf, responseOf, noResponse, shownLoginRequest, shownLoginResponse, shownInvocation, shownResponse};
 
 // A string: where its bytes start and how many they are; or null; or not there.

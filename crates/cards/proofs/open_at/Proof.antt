@@ -5,8 +5,8 @@ use native.Mathlib.Omega.{arith}
 use Rattle.format.specs.declared.Fault.the-variants.{Stale}
 use Rattle.format.specs.Result.{ok, no, pick}
 use Rattle.format.specs.Message.{responseLayout}
+use Rattle.places.specs.Places.{tablesOf, tableAt}
 use Rattle.query.specs.Answers.{toldPlaced, columnOf, perhaps}
-use Rattle.query.specs.Places.{tablesOf, tableAt}
 use Rattle.query.proofs.Opened.{bytes-all, not-found}
 use Rattle.cards.specs.Card.{aCard}
 use Rattle.cards.specs.Answers.{opened}

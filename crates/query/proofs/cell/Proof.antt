@@ -1,11 +1,11 @@
 -- `query::cell` meets its contract: what was found answers this question too.
 use mathlib.Core.Bool.{true}
-use mathlib.Core.Path.{_∙_, sym, ap}
+use mathlib.Core.Path.{_∙_, ap}
 use Rattle.format.specs.Result.{Res, ok, bind}
+use Rattle.places.specs.Places.{tablesOf, tableAt}
+use Rattle.places.specs.Entries.{cellHere}
 use Rattle.query.specs.declared.ShownCell.{ShownCell}
-use Rattle.query.specs.Answers.{cellHere}
 use Rattle.query.specs.Shown.{shownOf}
-use Rattle.query.specs.Places.{tablesOf, tableAt}
 use Rattle.query.proofs.Opened.{follows}
 use borrow.Author.Needs.{needs}
 use Rattle.query.proofs.cell.Statement.{statement}

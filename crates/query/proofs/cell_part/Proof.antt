@@ -1,10 +1,12 @@
 -- `query::cell_part` meets its contract: that part of the message.
-use mathlib.Core.Path.{_∙_, sym, ap}
+use mathlib.Core.Path.{_∙_, ap}
 use mathlib.Core.Bool.{true}
 use native.Mathlib.Omega.{arith}
-use Rattle.query.specs.Answers.{cellHere, partIn}
-use Rattle.query.specs.Places.{tablesOf, tableAt}
-use Rattle.query.proofs.Opened.{bytes-all, part-fits, cell-stands}
+use Rattle.places.specs.Places.{tablesOf, tableAt}
+use Rattle.places.specs.Entries.{cellHere}
+use Rattle.places.proofs.Values.{cell-stands}
+use Rattle.query.specs.Answers.{partIn}
+use Rattle.query.proofs.Opened.{bytes-all, part-fits}
 use borrow.Author.Needs.{needs}
 use Rattle.query.proofs.cell_part.Statement.{statement}
 use Rattle.query.proofs.cell_part.Tie as tie

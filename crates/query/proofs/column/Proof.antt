@@ -1,8 +1,8 @@
 -- `query::column` meets its contract: the column at its position, and past the end if there is none.
 use mathlib.Core.Bool.{true}
 use mathlib.Core.Path.{_∙_, sym, ap}
+use Rattle.places.specs.Places.{tablesOf, tableAt}
 use Rattle.query.specs.Answers.{toldPlaced, columnOf, perhaps}
-use Rattle.query.specs.Places.{tablesOf, tableAt}
 use Rattle.query.proofs.Opened.{found, found-asked, not-found, some-ok, none-past}
 use borrow.Author.Needs.{needs}
 use Rattle.query.proofs.column.Statement.{statement}

@@ -6,7 +6,7 @@ use Rattle.format.specs.Result.{ok}
 use Rattle.format.specs.Message.{readMessage, responseLayout}
 use Rattle.message.specs.Verdict.{verdictOf}
 use lib.ListN.{length}
-use Rattle.query.specs.Places.{tablesOf}
+use Rattle.places.specs.Places.{tablesOf}
 use Rattle.query.proofs.Opened.{bytes-all, verdict-fine, verdict-no, refused, admitted, tables-is}
 use borrow.Author.Needs.{needs}
 use Rattle.query.proofs.count_tables.Statement.{statement}

@@ -1,10 +1,10 @@
 -- `query::element` meets its contract: what was found answers this question too.
-use mathlib.Core.Path.{_∙_, sym, ap}
+use mathlib.Core.Path.{_∙_, ap}
 use Rattle.format.specs.Result.{Res, ok, bind}
+use Rattle.places.specs.Places.{paramsOf, paramAt}
+use Rattle.places.specs.Entries.{elementOf}
 use Rattle.query.specs.declared.ShownCell.{ShownCell}
-use Rattle.query.specs.Answers.{elementOf}
 use Rattle.query.specs.Shown.{shownOf}
-use Rattle.query.specs.Places.{paramsOf, paramAt}
 use Rattle.query.proofs.Opened.{follows}
 use borrow.Author.Needs.{needs}
 use Rattle.query.proofs.element.Statement.{statement}

@@ -1,10 +1,12 @@
 -- `query::element_part` meets its contract: that part of the message.
-use mathlib.Core.Path.{_∙_, sym, ap}
+use mathlib.Core.Path.{_∙_, ap}
 use native.Mathlib.Omega.{arith}
-use Rattle.query.specs.Answers.{elementOf, partIn}
-use Rattle.query.specs.Places.{paramsOf, paramAt}
+use Rattle.places.specs.Places.{paramsOf, paramAt}
+use Rattle.places.specs.Entries.{elementOf}
+use Rattle.places.proofs.Calls.{param-stands}
+use Rattle.places.proofs.Values.{element-stands}
+use Rattle.query.specs.Answers.{partIn}
 use Rattle.query.proofs.Opened.{bytes-all, part-fits}
-use Rattle.query.proofs.Calls.{param-stands, element-stands}
 use borrow.Author.Needs.{needs}
 use Rattle.query.proofs.element_part.Statement.{statement}
 use Rattle.query.proofs.element_part.Tie as tie

@@ -1,10 +1,11 @@
 -- `query::element_span` meets its contract: what was found answers this question too.
-use mathlib.Core.Path.{_∙_, sym, ap}
-use Rattle.format.specs.Result.{Res, ok, bind}
+use mathlib.Core.Path.{_∙_, ap}
+use Rattle.format.specs.Result.{Res, bind}
+use Rattle.places.specs.Places.{paramsOf, paramAt}
+use Rattle.places.specs.Entries.{elementOf}
 use Rattle.query.specs.declared.ShownCell.{ShownCell}
-use Rattle.query.specs.Answers.{elementOf, partOf}
+use Rattle.query.specs.Answers.{partOf}
 use Rattle.query.specs.Shown.{shownOf}
-use Rattle.query.specs.Places.{paramsOf, paramAt}
 use Rattle.query.proofs.Opened.{follows}
 use borrow.Author.Needs.{needs}
 use Rattle.query.proofs.element_span.Statement.{statement}

@@ -3,9 +3,10 @@ use mathlib.Core.Path.{_∙_, sym, ap}
 use native.Mathlib.Omega.{arith}
 use Rattle.format.specs.Result.{ok, bind}
 use Rattle.format.specs.Message.{responseLayout}
-use Rattle.query.specs.Answers.{toldTable, layoutOf, cellHere}
+use Rattle.places.specs.Places.{tablesOf, tableAt}
+use Rattle.places.specs.Entries.{cellHere}
+use Rattle.query.specs.Answers.{toldTable, layoutOf}
 use Rattle.query.specs.Shown.{shownOf}
-use Rattle.query.specs.Places.{tablesOf, tableAt}
 use Rattle.query.proofs.Opened.{bytes-all, opened, not-found, asked, row-past, cell-past, types-fit, rows-are, columns-are, types-at, rows-at}
 use borrow.Author.Needs.{needs}
 use Rattle.query.proofs.find_cell.Statement.{statement}

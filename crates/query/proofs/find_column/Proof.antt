@@ -2,8 +2,8 @@
 use mathlib.Core.Bool.{true}
 use mathlib.Core.Path.{_∙_, sym, ap}
 use native.Mathlib.Omega.{arith}
+use Rattle.places.specs.Places.{tablesOf, tableAt}
 use Rattle.query.specs.Answers.{toldTable, layoutOf, firstNamed}
-use Rattle.query.specs.Places.{tablesOf, tableAt}
 use Rattle.query.proofs.Opened.{bytes-all, opened, not-found, asked, named}
 use borrow.Author.Needs.{needs}
 use Rattle.query.proofs.find_column.Statement.{statement}

@@ -2,9 +2,10 @@
 use mathlib.Core.Path.{_∙_, sym, ap}
 use native.Mathlib.Omega.{arith}
 use Rattle.format.specs.Result.{ok, bind}
-use Rattle.query.specs.Answers.{toldPosition, elementOf}
+use Rattle.places.specs.Places.{paramsOf, paramAt}
+use Rattle.places.specs.Entries.{elementOf}
+use Rattle.query.specs.Answers.{toldPosition}
 use Rattle.query.specs.Shown.{shownOf}
-use Rattle.query.specs.Places.{paramsOf, paramAt}
 use Rattle.query.proofs.Opened.{bytes-all, not-found}
 use Rattle.query.proofs.Calls.{param-asked}
 use borrow.Author.Needs.{needs}

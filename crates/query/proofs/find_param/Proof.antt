@@ -1,7 +1,7 @@
 -- `query::find_param` meets its contract: the message's own refusal, or the parameter of an accepted one.
 use Rattle.format.specs.Result.{ok, bind}
-use Rattle.query.specs.Answers.{entry}
-use Rattle.query.specs.Places.{paramsOf, paramAt}
+use Rattle.places.specs.Places.{paramsOf, paramAt}
+use Rattle.places.specs.Entries.{entry}
 use Rattle.query.proofs.Opened.{verdict-fine, verdict-no, refused, admitted}
 use borrow.Author.Needs.{needs}
 use Rattle.query.proofs.find_param.Statement.{statement}

@@ -3,9 +3,9 @@ use mathlib.Core.Path.{_∙_, sym, ap}
 use native.Mathlib.Omega.{arith}
 use Rattle.format.specs.Result.{Res, ok}
 use Rattle.format.specs.Message.{responseLayout}
+use Rattle.places.specs.Places.{tablesOf, tableAt}
 use Rattle.query.specs.declared.ColumnLayout.{ColumnLayout}
 use Rattle.query.specs.Answers.{toldTable, layoutOf, columnOf, perhaps}
-use Rattle.query.specs.Places.{tablesOf, tableAt}
 use Rattle.query.proofs.Opened.{bytes-all, opened, not-found, asked, column-past, columns-are, types-at, names-at}
 use borrow.Author.Needs.{needs}
 use Rattle.query.proofs.find_placed.Statement.{statement}

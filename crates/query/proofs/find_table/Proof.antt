@@ -4,8 +4,9 @@ use mathlib.Core.Path.{_∙_, ap}
 use Rattle.format.specs.Result.{ok, bind}
 use Rattle.format.specs.Message.{readMessage, responseLayout}
 use Rattle.message.specs.Verdict.{verdictOf}
-use Rattle.query.specs.Answers.{entry, layoutOf}
-use Rattle.query.specs.Places.{tablesOf, tableAt}
+use Rattle.places.specs.Places.{tablesOf, tableAt}
+use Rattle.places.specs.Entries.{entry}
+use Rattle.query.specs.Answers.{layoutOf}
 use Rattle.query.proofs.Opened.{verdict-fine, verdict-no, refused, admitted}
 use borrow.Author.Needs.{needs}
 use Rattle.query.proofs.find_table.Statement.{statement}

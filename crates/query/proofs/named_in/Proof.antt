@@ -3,11 +3,10 @@ use mathlib.Core.Path.{_∙_, sym, ap}
 use Prim.Native.Nat.{ℕ}
 use native.Mathlib.Omega.{arith}
 use Rattle.format.specs.Result.{Res, ok, bind}
+use Rattle.places.proofs.Lists.{entry-below}
+use Rattle.places.proofs.Layouts.{metadata-stands, names-all, names-from}
 use Rattle.query.specs.declared.ColumnLayout.{ColumnLayout}
 use Rattle.query.specs.Answers.{toldPosition, columnOf}
-use Rattle.query.proofs.Layouts.{metadata-stands, names-all}
-use Rattle.query.proofs.Lists.{entry-below}
-use Rattle.query.proofs.Opened.{names-from}
 use Rattle.query.proofs.Theorems.{finds-first}
 use borrow.Author.Needs.{needs}
 use Rattle.query.proofs.named_in.Statement.{statement}

@@ -1,9 +1,9 @@
 -- `query::parameter` meets its contract: the refusal of the place, or what stands there.
 use mathlib.Core.Path.{_∙_, sym, ap}
 use native.Mathlib.Omega.{arith}
-use Rattle.format.specs.Result.{ok, bind}
+use Rattle.format.specs.Result.{ok}
+use Rattle.places.specs.Places.{paramsOf, paramAt}
 use Rattle.query.specs.Answers.{toldPosition, givenOf}
-use Rattle.query.specs.Places.{paramsOf, paramAt}
 use Rattle.query.proofs.Opened.{bytes-all, not-found}
 use Rattle.query.proofs.Calls.{param-asked}
 use borrow.Author.Needs.{needs}

@@ -1,10 +1,12 @@
 -- `query::parameter_part` meets its contract: that part of the message.
-use mathlib.Core.Path.{_∙_, sym, ap}
+use mathlib.Core.Path.{_∙_, ap}
 use native.Mathlib.Omega.{arith}
-use Rattle.query.specs.Answers.{valueHere, partIn}
-use Rattle.query.specs.Places.{paramsOf, paramAt}
+use Rattle.places.specs.Places.{paramsOf, paramAt}
+use Rattle.places.specs.Entries.{valueHere}
+use Rattle.places.proofs.Calls.{param-stands}
+use Rattle.places.proofs.Values.{value-stands}
+use Rattle.query.specs.Answers.{partIn}
 use Rattle.query.proofs.Opened.{bytes-all, part-fits}
-use Rattle.query.proofs.Calls.{param-stands, value-stands}
 use borrow.Author.Needs.{needs}
 use Rattle.query.proofs.parameter_part.Statement.{statement}
 use Rattle.query.proofs.parameter_part.Tie as tie

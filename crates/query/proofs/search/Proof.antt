@@ -1,5 +1,5 @@
 -- `query::search` meets its contract: the names that are left decide the search as all of them do. The inner loop has seen that the bytes before j are equal.
-use mathlib.Core.Path.{_≡_, refl, sym, _∙_, ap}
+use mathlib.Core.Path.{_≡_, refl}
 use Prim.Native.Nat.{ℕ, _+_, _-_, _≤_, _<_}
 use native.Mathlib.Omega.{arith}
 use mathlib.Core.Bool.{false}
@@ -12,9 +12,9 @@ use borrow.Author.Needs.{needs}
 use Rattle.format.specs.Format.{each}
 use Rattle.format.specs.Message.{third, unlimited}
 use Rattle.scan.proofs.Counted.{here, refuses}
-use Rattle.query.specs.Stands.{Stands}
+use Rattle.places.specs.Stands.{Stands}
+use Rattle.places.proofs.Layouts.{name}
 use Rattle.query.specs.Answers.{firstNamed}
-use Rattle.query.proofs.Layouts.{name}
 use Rattle.query.proofs.Names.{Left, starts, ends, turn, found-it, other-length, other-byte, never-refused}
 use Rattle.query.proofs.search.Statement.{statement}
 use Rattle.query.proofs.search.Tie as tie

@@ -1,28 +1,27 @@
 -- The parts of a table, of its metadata and of a row stand at the places that specs/Places.antt gives them.
 use Prim.Native.Nat.{ℕ, zero, suc, _+_, _≤_, _<_}
-use mathlib.Core.Path.{_≡_, refl, sym, _∙_, ap, ap₂}
-use mathlib.Core.Bool.{Bool, true, false, false≢true}
+use mathlib.Core.Path.{_≡_, refl, sym, _∙_, ap}
+use mathlib.Core.Bool.{false, false≢true}
 use mathlib.Core.List.{List, [], _∷_, _++_, map, append-assoc}
 use mathlib.Core.Option.{Option, some, none}
-use lib.ListN.{length, take, drop, replicate, getD, length-append, length-replicate}
+use lib.ListN.{length, take, drop, replicate, length-append, length-replicate}
 use lib.Seq.{length-take-le, take-append-le, drop-at}
-use lib.Dec.{lit<, leb, ltb}
+use lib.Dec.{leb, ltb}
 use native.Mathlib.Omega.{arith}
-use native.Mathlib.Nat.{add-assoc, add-zero}
 use Rattle.format.specs.declared.Fault.the-variants.{Limit, Negative, WireType}
-use Rattle.format.specs.Result.{Res, ok, no}
-use Rattle.format.specs.Number.{numBytes, Bytes, half}
+use Rattle.format.specs.Result.{ok}
+use Rattle.format.specs.Number.{numBytes, half}
 use Rattle.format.specs.Format.{Format, Index, number, ruled, into, both, nothing, each, counted, room}
-use Rattle.format.specs.Value.{Value, value, string, ascii, anything, isColumn, mostBytes}
-use Rattle.format.specs.Message.{first, second, third, count, list, columnType, unlimited, mostColumns, mostRow, Metadata, metadata, row, Table, table}
+use Rattle.format.specs.Value.{Value, value, string, ascii, isColumn}
+use Rattle.format.specs.Message.{second, third, count, list, columnType, unlimited, mostColumns, mostRow, Metadata, metadata, row, Table, table}
 use Rattle.format.proofs.Numbers.{length-numBytes, Bytes-drop}
 use Rattle.format.proofs.Laws.{Lawful, length-each}
 use Rattle.format.proofs.Formats.{lawful-metadata, lawful-row, lawful-table}
-use Rattle.query.specs.Stands.{Stands}
-use Rattle.query.specs.Answers.{entry}
-use Rattle.query.specs.Places.{metadataAt, typeAt, nameAt, rowAt, cellAt}
-use Rattle.query.proofs.Stands.{stands-read, stands-fits, stands-at, stands-ruled, stands-into, stands-first, stands-second, stands-inner}
-use Rattle.query.proofs.Lists.{total, length-total, bytes-none, Sized}
+use Rattle.places.specs.Stands.{Stands}
+use Rattle.places.specs.Places.{typeAt, nameAt, rowAt, cellAt, nameBytes}
+use Rattle.places.specs.Entries.{entry}
+use Rattle.places.proofs.Stands.{stands-at, stands-ruled, stands-into, stands-first, stands-second, stands-inner}
+use Rattle.places.proofs.Lists.{total, length-total, stands-entry, Sized}
 
 module _ {s : List ℕ} {at n : ℕ} where
   pub stands-count : (k most field : ℕ) → Stands (count k most field) s at n → Stands (number k field) s at n
@@ -183,14 +182,10 @@ pub sized-row : (types : List ℕ) → Sized (row types)
 unfolding row
 sized-row types = sized-room mostRow 49 _ (lawful-row types) (omega arith)
 
-bytesOf : Option (List ℕ) → List ℕ
-bytesOf none = []
-bytesOf (some bs) = bs
-
 pub sized-name : Sized name
-unfolding counted bytesOf
+unfolding counted
 sized-name = record {
-  inner = bytesOf;
+  inner = nameBytes;
   few = elim [ none ↦ λ g. absurd (false≢true g) | some bs ↦ λ g. omega (arith, g .0) ];
   fits = elim [ none ↦ λ g. absurd (false≢true g) | some bs ↦ λ g. g .1 ];
   same = elim [ none ↦ λ g. absurd (false≢true g) | some bs ↦ λ g. refl ];
@@ -212,3 +207,24 @@ pub types-part : {s : List ℕ} {at : ℕ} (n : ℕ) (l : List ℕ) (c : ℕ) �
 types-part {s} {at} n l c h d =
     let whole : d .before ++ (l ++ d .after) ≡ s = rw (types-bytes 0 n l (d .good)) at (d .whole) in
     rw (← whole, drop-at (d .before) (l ++ d .after) at (d .start), take-append-le)
+
+-- a column's type, and the length of its name
+module _ {m : List ℕ} {at : ℕ} {d : Metadata} (md : Stands metadata m at d) where
+  pub type-stands : (c : ℕ) {t : ℕ} → c < length (d .types) → entry (d .types) c ≡ ok t → Stands (number 1 45) m (at + 7 + c) t
+  type-stands c h e =
+      let size : total (columnType 45) (take c (d .types)) ≡ c = types-total (take c (d .types)) ∙ length-take-le c (d .types) (omega arith) in
+      stands-ruled isColumn WireType (stands-at (ap (λ (x : ℕ). at + 7 + x) size) (stands-entry third 0 (length (d .types)) (columnType 45) (d .types) c (types-stand md) e))
+
+pub name-length-stands : {m : List ℕ} {at : ℕ} (n : Option (List ℕ)) → Stands name m at n → Stands (number 4 46) m at (length (nameBytes n))
+unfolding counted number
+name-length-stands none d = absurd (false≢true (d .good))
+name-length-stands (some bs) d =
+    record { good = omega (arith, d .good .0); before = d .before; after = bs ++ d .after; whole = rw (← append-assoc (numBytes 4 (length bs))) (d .whole); start = d .start }
+
+-- the names of a table, by the place of the first and their number
+pub names-from : {m : List ℕ} {at : ℕ} {b : Table} → Stands table m at b → {names count : ℕ} → names ≡ nameAt at (b .metadata) 0 → count ≡ length (b .metadata .types)
+    → Stands (each third 0 (replicate count name)) m names (b .metadata .names)
+unfolding total
+names-from {at = at} {b = b} d {names} e n =
+    let at-is : at + 4 + 7 + length (b .metadata .types) ≡ names = omega (arith, name-place at (b .metadata) 0 (omega arith)) in
+    rw n (stands-at at-is (names-stand (metadata-stands d)))

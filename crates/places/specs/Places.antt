@@ -1,12 +1,13 @@
--- Where things stand in a response and in an invocation. Each stands where the message would end if it were cut there: after the encoding of what comes before it.
--- Lengths and counts have the same size whatever they say, so nothing else decides a place, and no layout is restated here.
+-- Where things stand in a message. A part of a response or of an invocation stands where the message would end if it were cut there: after the encoding of what
+-- comes before it. Lengths and counts have the same size whatever they say, so nothing else decides a place, and no layout is restated here.
 use Prim.Native.Nat.{ℕ, _+_}
 use mathlib.Core.Bool.{Bool}
 use mathlib.Core.List.{List, []}
-use mathlib.Core.Option.{some, none}
+use mathlib.Core.Option.{Option, some, none}
 use lib.ListN.{length, take}
+use Rattle.format.specs.Result.{pick}
 use Rattle.format.specs.Value.{Value, tArray}
-use Rattle.format.specs.Message.{Metadata, metadata, row, Table, table, Response, Message, response-of, aResponse, Items, bytes, values, Argument, null, one, array, Param, param, Invocation, anInvocation, invocation-of, responseLayout, messageBytes}
+use Rattle.format.specs.Message.{Metadata, metadata, row, Table, table, Response, Message, response-of, aResponse, Items, bytes, values, array, Param, param, Invocation, anInvocation, invocation-of, responseLayout, messageBytes}
 
 -- the tables of a response, and the same response with other tables
 abbrev pub tablesOf : Message → List Table
@@ -30,6 +31,11 @@ typeAt at d c = metadataAt at + length (metadata .bytes (record { status = d .st
 -- the name of column c, from its length on: after all types and the names before it
 unfoldable pub nameAt : ℕ → Metadata → ℕ → ℕ
 nameAt at d c = metadataAt at + length (metadata .bytes (record { status = d .status; types = d .types; names = take c (d .names) }))
+
+-- the bytes of a name
+abbrev pub nameBytes : Option (List ℕ) → List ℕ
+nameBytes none = []
+nameBytes (some bs) = bs
 
 -- row k, from its length on: after the metadata, the row count and the rows before it
 unfoldable pub rowAt : ℕ → Table → ℕ → ℕ
@@ -61,3 +67,22 @@ cutItems (values l) e = values (take e l)
 
 unfoldable pub elementAt : ℕ → ℕ → Items → ℕ → ℕ
 elementAt at t l e = at + length (param .bytes (record { type = tArray; argument = array t (cutItems l e) }))
+
+-- the place after a string whose length field stands at a place
+abbrev pub afterText : ℕ → Option (List ℕ) → ℕ
+afterText at none = at + 4
+afterText at (some bs) = at + 4 + length bs
+
+-- the same of a string that is there or not
+abbrev pub afterNote : ℕ → Option (Option (List ℕ)) → ℕ
+afterNote at none = at
+afterNote at (some t) = afterText at t
+
+-- the place after a number of k bytes that is there or not
+abbrev pub afterNumber : ℕ → ℕ → Option ℕ → ℕ
+afterNumber k at none = at
+afterNumber k at (some n) = at + k
+
+-- how many bytes the round trip of a response has
+abbrev pub tripSize : Bool → ℕ
+tripSize timed = pick timed 4 0

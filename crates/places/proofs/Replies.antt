@@ -1,22 +1,21 @@
 -- An accepted response: its table count and its tables stand where specs/Places.antt says.
 use Prim.Native.Nat.{ℕ, _+_}
-use mathlib.Core.Path.{_≡_, ap, subst}
-use mathlib.Core.Bool.{Bool, true, false}
-use mathlib.Core.List.{List, [], append-nil}
+use mathlib.Core.Path.{_≡_, sym, ap, subst}
+use mathlib.Core.Bool.{Bool}
+use mathlib.Core.List.{List}
 use lib.ListN.{length, take, replicate, length-append}
 use native.Mathlib.Omega.{arith}
 use Rattle.format.specs.Result.{ok}
-use Rattle.format.specs.Number.{numBytes, Bytes}
-use Rattle.format.specs.Format.{Format, number, ruled, into, both, each}
-use Rattle.format.specs.Message.{first, list, mostItems, Table, table, Response, head, response, Content, Message, message, contentOf, response-of, responseLayout, readMessage}
-use Rattle.format.proofs.Numbers.{length-numBytes}
-use Rattle.format.proofs.Demands.{accepted→encodes}
-use Rattle.message.proofs.Whole.{versioned, content-response}
-use Rattle.query.specs.Stands.{Stands}
-use Rattle.query.specs.Places.{tablesOf, tableAt}
-use Rattle.query.proofs.Stands.{stands-at, stands-into, stands-first, stands-second}
-use Rattle.query.proofs.Lists.{total}
-use Rattle.query.proofs.Layouts.{length-number, length-list, list-count, list-values}
+use Rattle.format.specs.Number.{Bytes}
+use Rattle.format.specs.Format.{Format, number, into, both, each}
+use Rattle.format.specs.Message.{first, list, mostItems, Table, table, Response, head, response, Content, Message, contentOf, response-of, responseLayout, readMessage}
+use Rattle.places.specs.Stands.{Stands}
+use Rattle.places.specs.Places.{tablesOf, tableAt}
+use Rattle.places.specs.Entries.{entry}
+use Rattle.places.proofs.Stands.{stands-at, stands-into, stands-first, stands-second}
+use Rattle.places.proofs.Lists.{total, stands-entry}
+use Rattle.places.proofs.Layouts.{length-list, list-count, list-values}
+use Rattle.places.proofs.Contents.{length-message, content-stands, content-response}
 
 -- a response is its head and its tables
 abbrev pub tabled : Format (List Table)
@@ -46,21 +45,19 @@ module _ (timed : Bool) where
   length-content v c = ap (λ (f : Format Content). length (f .bytes c)) (content-response timed v)
 
   pub table-place : (r : Message) (t : ℕ) → tableAt timed r t ≡ 5 + headSize timed (response-of (r .content)) + 2 + total table (take t (tablesOf r))
-  unfolding tableAt message both into ruled
-  table-place r t = rw (length-append, length-numBytes, length-append, length-number, length-content, length-response _) (omega arith)
+  unfolding tableAt
+  table-place r t = rw (length-message (responseLayout timed), length-content, length-response _) (omega arith)
 
   module _ (m : List ℕ) (b : Bytes m) (r : Message) (accepted : readMessage (responseLayout timed) m ≡ ok r) where
     pub response-stands : Stands (response timed) m 5 (response-of (r .content))
-    unfolding message ruled
-    response-stands =
-        let layout = responseLayout timed in
-        let e = accepted→encodes layout m b r accepted in
-        let all : Stands (message layout) m 4 r = record { good = e .0 .good; before = numBytes 4 (length (message layout .bytes r)); after = []; whole = rw append-nil (e .1); start = length-numBytes 4 _ } in
-        let content = stands-at (ap (λ (x : ℕ). 4 + x) (length-number 1 2 (r .version))) (stands-second (versioned layout) (contentOf layout) (stands-into _ _ all)) in
-        stands-into _ _ (subst (λ (f : Format Content). Stands f m 5 (r .content)) (content-response timed (r .version)) content)
+    response-stands = stands-into _ _ (subst (λ (f : Format Content). Stands f m 5 (r .content)) (content-response timed (r .version)) (content-stands (responseLayout timed) m b r accepted))
 
     pub table-count-stands : Stands (number 2 40) m (5 + headSize timed (response-of (r .content))) (length (tablesOf r))
     table-count-stands = list-count 2 mostItems 40 first table (tabled-stands response-stands)
 
     pub tables-stand : Stands (each first 0 (replicate (length (tablesOf r)) table)) m (5 + headSize timed (response-of (r .content)) + 2) (tablesOf r)
     tables-stand = list-values 2 mostItems 40 first table (tabled-stands response-stands)
+
+    -- table t stands at its place
+    pub table-stands : (t : ℕ) {tab : Table} → entry (tablesOf r) t ≡ ok tab → Stands table m (tableAt timed r t) tab
+    table-stands t e = stands-at (sym (table-place r t)) (stands-entry first 0 (length (tablesOf r)) table (tablesOf r) t (tables-stand) e)

@@ -1,27 +1,28 @@
 -- Values of a list that stand side by side: the i-th stands where those before it end, and a jump by lengths alone comes there.
 use Prim.Native.Nat.{ℕ, zero, suc, _+_, _≤_, _<_}
-use mathlib.Core.Path.{_≡_, refl, sym, _∙_, ap, ap₂}
-use mathlib.Core.Bool.{Bool, true, false}
+use mathlib.Core.Path.{_≡_, refl, sym, _∙_, ap}
+use mathlib.Core.Bool.{false}
 use mathlib.Core.List.{List, [], _∷_, _++_, map, append-assoc}
-use mathlib.Core.Option.{Option, some, none}
-use lib.ListN.{length, take, drop, replicate, length-append}
+use mathlib.Core.Option.{Option, some}
+use lib.ListN.{length, take, replicate, length-append}
 use lib.Dec.{lit<}
 use native.Mathlib.Omega.{arith}
-use native.Mathlib.Nat.{add-assoc, add-zero}
+use native.Mathlib.Nat.{add-assoc}
+use Rattle.format.specs.declared.Fault.{Fault}
 use Rattle.format.specs.declared.Fault.the-variants.{PastEnd}
 use Rattle.format.specs.Result.{Res, ok, no}
-use Rattle.format.specs.Number.{numBytes, Bytes, half}
+use Rattle.format.specs.Number.{numBytes, Bytes}
 use Rattle.format.specs.Format.{Format, Index, nothing, each, counted}
 use Rattle.format.specs.Value.{anything}
 use Rattle.format.specs.Message.{first, unlimited}
 use Rattle.format.proofs.Results.{ok-same, no-ok}
-use Rattle.format.proofs.Laws.{Lawful, lawful-each, all-replicate, length-each}
+use Rattle.format.proofs.Laws.{Lawful, lawful-each, all-replicate}
 use Rattle.format.proofs.Lengths.{lawful-counted}
 use Rattle.scan.specs.declared.Next.{Next}
 use Rattle.scan.specs.Shown.{shownNext}
-use Rattle.query.specs.Answers.{entry}
-use Rattle.query.specs.Stands.{Stands}
-use Rattle.query.proofs.Stands.{stands-read, stands-head, stands-tail}
+use Rattle.places.specs.Stands.{Stands}
+use Rattle.places.specs.Entries.{entry}
+use Rattle.places.proofs.Stands.{stands-read, stands-head, stands-tail}
 
 module _ {A : Type 0} where
   -- what is there, and what is past the end
@@ -34,6 +35,11 @@ module _ {A : Type 0} where
   entry-past [] i h = refl
   entry-past (a ∷ l) zero h = absurd (omega arith)
   entry-past (a ∷ l) (suc i) h = entry-past l i (omega arith)
+
+  pub entry-missing : (l : List A) (i : ℕ) {f : Fault} {p : ℕ} → entry l i ≡ no f p → _≡_ {A = Res A} (no f p) (no PastEnd 0)
+  entry-missing [] i e = sym e
+  entry-missing (a ∷ l) zero e = absurd (no-ok (sym e))
+  entry-missing (a ∷ l) (suc i) e = entry-missing l i e
 
   pub entry-below : (l : List A) (i : ℕ) {a : A} → entry l i ≡ ok a → i < length l
   entry-below [] i e = absurd (no-ok e)

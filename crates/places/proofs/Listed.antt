@@ -1,6 +1,6 @@
 -- The field list beside the places: the fields of a table, a type, a name and a cell are listed at the places of specs/Places.antt, with their indices.
-use Prim.Native.Nat.{ℕ, zero, suc, _+_, _≤_, _<_}
-use mathlib.Core.Path.{_≡_, refl, sym, _∙_, ap}
+use Prim.Native.Nat.{ℕ, zero, suc, _+_, _≤_}
+use mathlib.Core.Path.{_≡_, refl, sym, _∙_, ap, subst}
 use mathlib.Core.Bool.{Bool}
 use mathlib.Core.List.{List, [], _∷_, _++_, map, append-assoc, append-nil}
 use mathlib.Core.Option.{Option}
@@ -8,18 +8,17 @@ use lib.ListN.{length, take, replicate, length-append}
 use lib.Seq.{length-take-le}
 use native.Mathlib.Omega.{arith}
 use native.Mathlib.Nat.{add-assoc, add-zero, zero-add}
-use Rattle.format.specs.Result.{ok, bind}
-use Rattle.format.specs.Number.{Bytes}
+use Rattle.format.specs.Result.{ok}
 use Rattle.format.specs.Format.{Format, Index, Entry, number, ruled, into, both, nothing, each, room, piece}
 use Rattle.format.specs.Value.{value}
-use Rattle.format.specs.Message.{first, second, third, list, count, columnType, unlimited, mostItems, mostColumns, mostRow, Metadata, metadata, row, Table, table, Response, head, response, Content, Message, message, contentOf, response-of, responseLayout, messageFields, noIndex}
+use Rattle.format.specs.Message.{first, second, third, list, count, columnType, unlimited, mostItems, mostColumns, mostRow, metadata, row, Table, table, Response, head, response, Content, Message, message, contentOf, response-of, responseLayout, messageFields, noIndex}
 use Rattle.format.proofs.Results.{ok-same, no-ok, bound}
-use Rattle.message.proofs.Whole.{versioned, content-response}
-use Rattle.query.specs.Answers.{Here, entry, cellHere}
-use Rattle.query.specs.Places.{tablesOf, tableAt, typeAt, nameAt, rowAt, cellAt}
-use Rattle.query.proofs.Lists.{total, length-total, entry-below}
-use Rattle.query.proofs.Layouts.{length-number, length-count, types-total, type-place, name-place, row-place, cell-place, name, columns-0, columns-1, columns-2, contents-1}
-use Rattle.query.proofs.Replies.{tabled, headSize, table-place}
+use Rattle.places.specs.Places.{tablesOf, tableAt, typeAt, nameAt, rowAt, cellAt}
+use Rattle.places.specs.Entries.{Here, entry, cellHere}
+use Rattle.places.proofs.Lists.{total, length-total, entry-below}
+use Rattle.places.proofs.Layouts.{length-number, length-count, types-total, type-place, name-place, row-place, cell-place, name, columns-0, columns-1, columns-2, contents-1}
+use Rattle.places.proofs.Contents.{content-response}
+use Rattle.places.proofs.Replies.{tabled, headSize, table-place}
 
 -- some entries stand side by side in a list
 pub record Within (es whole : List Entry) : Type 0 where
@@ -27,10 +26,7 @@ pub record Within (es whole : List Entry) : Type 0 where
   pub after : List Entry
   pub is : before ++ (es ++ after) ≡ whole
 
-within-self : (es : List Entry) → Within es es
-within-self es = record { before = []; after = []; is = append-nil es }
-
-within-in : {xs ys zs : List Entry} → Within xs ys → Within ys zs → Within xs zs
+pub within-in : {xs ys zs : List Entry} → Within xs ys → Within ys zs → Within xs zs
 within-in {xs} p q = record {
   before = q .before ++ p .before;
   after = p .after ++ q .after;
@@ -38,25 +34,25 @@ within-in {xs} p q = record {
 }
 
 module _ {A : Type 0} (f : Format A) {ix : Index} {a : A} {whole : List Entry} where
-  within-at : {o p : ℕ} → o ≡ p → Within (f .fields ix o a) whole → Within (f .fields ix p a) whole
+  pub within-at : {o p : ℕ} → o ≡ p → Within (f .fields ix o a) whole → Within (f .fields ix p a) whole
   within-at e w = rw (← e) w
 
 -- what is made of parts lists those
 module _ {A B : Type 0} (f : Format A) (g : A → Format B) (ix : Index) (o : ℕ) (v : A × B) where
-  in-first : Within (f .fields ix o (v .0)) (both f g .fields ix o v)
+  pub in-first : Within (f .fields ix o (v .0)) (both f g .fields ix o v)
   unfolding both
   in-first = record { before = []; after = _; is = refl }
 
-  in-second : Within (g (v .0) .fields ix (o + length (f .bytes (v .0))) (v .1)) (both f g .fields ix o v)
+  pub in-second : Within (g (v .0) .fields ix (o + length (f .bytes (v .0))) (v .1)) (both f g .fields ix o v)
   unfolding both
   in-second = record { before = f .fields ix o (v .0); after = []; is = rw append-nil }
 
 module _ {A : Type 0} (ix : Index) (o : ℕ) where
-  in-room : (most field : ℕ) (f : Format A) (a : A) → Within (f .fields ix (o + 4) a) (room most field f .fields ix o a)
+  pub in-room : (most field : ℕ) (f : Format A) (a : A) → Within (f .fields ix (o + 4) a) (room most field f .fields ix o a)
   unfolding room
   in-room most field f a = record { before = piece 4 o field ix; after = []; is = rw append-nil }
 
-  in-list : (k most field : ℕ) (at-index : ℕ → Index → Index) (f : Format A) (l : List A) → Within (each at-index 0 (replicate (length l) f) .fields ix (o + k) l) (list k most field at-index f .fields ix o l)
+  pub in-list : (k most field : ℕ) (at-index : ℕ → Index → Index) (f : Format A) (l : List A) → Within (each at-index 0 (replicate (length l) f) .fields ix (o + k) l) (list k most field at-index f .fields ix o l)
   unfolding list into
   in-list k most field at-index f l =
       within-at (each at-index 0 (replicate (length l) f)) (ap (λ (x : ℕ). o + x) (length-count k most field (length l)))
@@ -64,7 +60,7 @@ module _ {A : Type 0} (ix : Index) (o : ℕ) where
 
 module _ {A : Type 0} (at-index : ℕ → Index → Index) (ix : Index) where
   -- the i-th of some values
-  in-entry : (k n : ℕ) (f : Format A) (l : List A) (i o : ℕ) {a : A} → length l ≤ n → entry l i ≡ ok a
+  pub in-entry : (k n : ℕ) (f : Format A) (l : List A) (i o : ℕ) {a : A} → length l ≤ n → entry l i ≡ ok a
       → Within (f .fields (at-index (k + i) ix) (o + total f (take i l)) a) (each at-index k (replicate n f) .fields ix o l)
   unfolding each nothing total
   in-entry k n f [] i o h e = absurd (no-ok e)
@@ -74,7 +70,7 @@ module _ {A : Type 0} (at-index : ℕ → Index → Index) (ix : Index) where
       let next : k + suc i ≡ k + 1 + i = omega arith in
       rw (next, ← add-assoc o) (within-in (in-entry (k + 1) n f l i (o + length (f .bytes b)) (omega arith) e) (record { before = f .fields (at-index k ix) o b; after = []; is = rw append-nil }))
 
-  in-cell : (k : ℕ) (g : ℕ → Format A) (xs : List ℕ) (l : List A) (i o : ℕ) {x : ℕ} {a : A} → entry xs i ≡ ok x → entry l i ≡ ok a
+  pub in-cell : (k : ℕ) (g : ℕ → Format A) (xs : List ℕ) (l : List A) (i o : ℕ) {x : ℕ} {a : A} → entry xs i ≡ ok x → entry l i ≡ ok a
       → Within (g x .fields (at-index (k + i) ix) (o + length (each at-index k (map g xs) .bytes (take i l))) a) (each at-index k (map g xs) .fields ix o l)
   unfolding each nothing
   in-cell k g [] l i o p q = absurd (no-ok p)
@@ -83,6 +79,13 @@ module _ {A : Type 0} (at-index : ℕ → Index → Index) (ix : Index) where
   in-cell k g (y ∷ xs) (b ∷ l) (suc i) o p q =
       let next : k + suc i ≡ k + 1 + i = omega arith in
       rw (next, length-append, ← add-assoc o) (within-in (in-cell (k + 1) g xs l i (o + length (g y .bytes b)) p q) (record { before = g y .fields (at-index k ix) o b; after = []; is = rw append-nil }))
+
+-- a message lists its content, after its length and its version
+pub content-in : (layout : ℕ) (r : Message) → Within (contentOf layout (r .version) .fields noIndex 5 (r .content)) (messageFields layout r)
+unfolding message into ruled
+content-in layout r =
+    let all : Within (message layout .fields noIndex 4 r) (messageFields layout r) = record { before = piece 4 0 1 noIndex; after = []; is = rw append-nil } in
+    within-in (within-at (contentOf layout (r .version)) (ap (λ (x : ℕ). 4 + x) (length-number 1 2 (r .version))) (in-second _ (contentOf layout) noIndex 4 (r .version, r .content))) all
 
 -- a response lists its tables, from its table count on
 module _ (timed : Bool) where
@@ -95,13 +98,8 @@ module _ (timed : Bool) where
     layout = responseLayout timed
 
     response-in : Within (response timed .fields noIndex 5 (response-of (r .content))) (messageFields layout r)
-    unfolding message into ruled
-    response-in =
-        let same : contentOf layout (r .version) .fields noIndex 5 (r .content) ≡ response timed .fields noIndex 5 (response-of (r .content))
-        = ap (λ (f : Format Content). f .fields noIndex 5 (r .content)) (content-response timed (r .version)) in
-        rw (← same)
-        (within-in (within-at (contentOf layout (r .version)) (ap (λ (x : ℕ). 4 + x) (length-number 1 2 (r .version))) (in-second (versioned layout) (contentOf layout) noIndex 4 (r .version, r .content)))
-        (record { before = piece 4 0 1 noIndex; after = []; is = rw append-nil }))
+    unfolding into
+    response-in = subst (λ (f : Format Content). Within (f .fields noIndex 5 (r .content)) (messageFields layout r)) (content-response timed (r .version)) (content-in layout r)
 
     -- table t is listed at its place, with its index
     pub table-listed : (t : ℕ) {b : Table} → entry (tablesOf r) t ≡ ok b → Within (table .fields (first t noIndex) (tableAt timed r t) b) (messageFields layout r)

@@ -1,17 +1,17 @@
 -- What stands at a place of a list (specs/Stands.antt) is read, and its parts stand where the bytes before them end.
-use Prim.Native.Nat.{ℕ, zero, suc, _+_, _≤_, _<_}
-use mathlib.Core.Path.{_≡_, refl, sym, _∙_, ap}
-use mathlib.Core.Bool.{Bool, true, false}
-use mathlib.Core.List.{List, [], _∷_, _++_, map, append-assoc}
-use lib.ListN.{length, take, drop, replicate, length-append}
+use Prim.Native.Nat.{ℕ, _+_, _≤_}
+use mathlib.Core.Path.{_≡_, ap}
+use mathlib.Core.Bool.{Bool}
+use mathlib.Core.List.{List, _∷_, _++_, append-assoc}
+use lib.ListN.{length, length-append}
 use native.Mathlib.Omega.{arith}
 use Rattle.format.specs.declared.Fault.{Fault}
-use Rattle.format.specs.Result.{Res, ok, no}
-use Rattle.format.specs.Number.{numBytes, half}
-use Rattle.format.specs.Format.{Format, Index, number, ruled, into, both, each, room}
+use Rattle.format.specs.Result.{ok}
+use Rattle.format.specs.Number.{numBytes}
+use Rattle.format.specs.Format.{Format, Index, ruled, into, both, each, room}
 use Rattle.format.proofs.Laws.{Lawful}
 use Rattle.format.proofs.Numbers.{length-numBytes}
-use Rattle.query.specs.Stands.{Stands}
+use Rattle.places.specs.Stands.{Stands}
 
 module _ {A : Type 0} {f : Format A} {s : List ℕ} {at : ℕ} {a : A} where
   pub stands-read : Lawful f → Stands f s at a → f .read s at ≡ ok (a, at + length (f .bytes a))

@@ -1,0 +1,3 @@
+pub mod Stands
+pub mod Places
+pub mod Entries
