@@ -3,8 +3,8 @@ use format::Fault;
 use steps::Stage;
 use write::Answer;
 use write::Check;
+use write::Outcome;
 use write::State;
-use write::Step;
 ghost use mathlib.Core.Path.{_≡_};
 ghost use Prim.Native.Nat.{_+_, _*_, _^_, _≤_};
 ghost use mathlib.Core.Option.{some};
@@ -18,14 +18,14 @@ ghost use Rattle.steps.specs.Steps.{plan, beginCall, nullParam, oneParam, bytes
 ghost use Rattle.write.specs.Shown.{zero, shownAnswer, Stepped};
 
 // Begins an invocation; its length and its count hold zeros until it is finished.
-pub fn begin_call(out: &mut [u8], version: u8, procedure: &[u8], client: &[u8; 8]) -> Step
+pub fn begin_call(out: &mut [u8], version: u8, procedure: &[u8], client: &[u8; 8]) -> Outcome
     ensures { λ r. ⌜ Stepped (beginCall version (now (procedure .entry)) (now (client .entry))) zero [] (now (out .entry)) r (now (out .exit)) ⌝ }
 {
     begin(out, version, procedure, client)
 }
 
 // Writes a null parameter.
-pub fn null_param(out: &mut [u8], st: State) -> Step
+pub fn null_param(out: &mut [u8], st: State) -> Outcome
     ensures { λ r. ⌜ Stepped nullParam st [] (now (out .entry)) r (now (out .exit)) ⌝ }
 {
     let at = st.position;
@@ -34,21 +34,21 @@ pub fn null_param(out: &mut [u8], st: State) -> Step
     let more = write::one_more(st.count, write::MOST_ITEMS);
     let a = write::judge(permitted, Check::Fine, more, at, 1, size);
     let Answer::Reached(n) = a else {
-        return Step {
+        return Outcome {
             answer: a,
             state: st,
         };
     };
     put::number_at(out, at, 1, 1);
     let next = write::between(st, Stage::Call, n, st.count + 1);
-    Step {
+    Outcome {
         answer: a,
         state: next,
     }
 }
 
 // Opens an array of elements of a type; its count holds zeros until it is closed.
-pub fn open_array(out: &mut [u8], st: State, t: u8) -> Step
+pub fn open_array(out: &mut [u8], st: State, t: u8) -> Outcome
     ensures { λ r. ⌜ Stepped (openArray t) st [] (now (out .entry)) r (now (out .exit)) ⌝ }
 {
     let at = st.position;
@@ -58,7 +58,7 @@ pub fn open_array(out: &mut [u8], st: State, t: u8) -> Step
     let more = write::one_more(st.count, write::MOST_ITEMS);
     let a = write::judge(permitted, fault, more, at, 4, size);
     let Answer::Reached(n) = a else {
-        return Step {
+        return Outcome {
             answer: a,
             state: st,
         };
@@ -67,14 +67,14 @@ pub fn open_array(out: &mut [u8], st: State, t: u8) -> Step
     let count_at = put::number_at(out, mid, t as u64, 1);
     put::number_at(out, count_at, 0, 2);
     let next = write::in_array(st, Stage::Array, n, st.count + 1, n - 2, t, 0);
-    Step {
+    Outcome {
         answer: a,
         state: next,
     }
 }
 
 // Closes the open array, and fills its count.
-pub fn close_array(out: &mut [u8], st: State) -> Step
+pub fn close_array(out: &mut [u8], st: State) -> Outcome
     ensures { λ r. ⌜ Stepped closeArray st [] (now (out .entry)) r (now (out .exit)) ⌝ }
 {
     let at = st.position;
@@ -82,21 +82,21 @@ pub fn close_array(out: &mut [u8], st: State) -> Step
     let permitted = write::at_array(st, size);
     let a = write::judge(permitted, Check::Fine, true, at, 0, size);
     let Answer::Reached(n) = a else {
-        return Step {
+        return Outcome {
             answer: a,
             state: st,
         };
     };
     put::number_at(out, st.inner_at, st.inner_count as u64, 2);
     let next = write::between(st, Stage::Call, n, st.count);
-    Step {
+    Outcome {
         answer: a,
         state: next,
     }
 }
 
 // Finishes the invocation: its length and its parameter count are filled.
-pub fn finish_call(out: &mut [u8], st: State) -> Step
+pub fn finish_call(out: &mut [u8], st: State) -> Outcome
     ensures { λ r. ⌜ Stepped finishCall st [] (now (out .entry)) r (now (out .exit)) ⌝ }
 {
     let at = st.position;
@@ -104,7 +104,7 @@ pub fn finish_call(out: &mut [u8], st: State) -> Step
     let permitted = write::at_call(st, size);
     let a = write::judge(permitted, Check::Fine, true, at, 0, size);
     let Answer::Reached(n) = a else {
-        return Step {
+        return Outcome {
             answer: a,
             state: st,
         };
@@ -112,14 +112,14 @@ pub fn finish_call(out: &mut [u8], st: State) -> Step
     put::number_at(out, 0, (at - 4) as u64, 4);
     put::number_at(out, st.count_at, st.count as u64, 2);
     let next = write::finished(n);
-    Step {
+    Outcome {
         answer: a,
         state: next,
     }
 }
 
 // Writes a parameter of a fixed size: its type, and its value by its upper and lower 64 bits.
-pub fn fixed_param(out: &mut [u8], st: State, t: u8, upper: u64, lower: u64) -> Step
+pub fn fixed_param(out: &mut [u8], st: State, t: u8, upper: u64, lower: u64) -> Outcome
     ensures { λ r. ⌜ Stepped (oneParam t (fixed (upper * 2 ^ 64 + lower))) st [] (now (out .entry)) r (now (out .exit)) ⌝ }
 {
     let at = st.position;
@@ -130,7 +130,7 @@ pub fn fixed_param(out: &mut [u8], st: State, t: u8, upper: u64, lower: u64) -> 
     let bytes = 1 + scan::width_of(t);
     let a = write::judge(permitted, fault, more, at, bytes, size);
     let Answer::Reached(n) = a else {
-        return Step {
+        return Outcome {
             answer: a,
             state: st,
         };
@@ -138,14 +138,14 @@ pub fn fixed_param(out: &mut [u8], st: State, t: u8, upper: u64, lower: u64) -> 
     let mid = put::number_at(out, at, t as u64, 1);
     put::fixed_at(out, mid, t, upper, lower);
     let next = write::between(st, Stage::Call, n, st.count + 1);
-    Step {
+    Outcome {
         answer: a,
         state: next,
     }
 }
 
 // Writes a text or binary parameter: its type, and its bytes or null.
-pub fn body_param(out: &mut [u8], st: State, t: u8, null: bool, s: &[u8]) -> Step
+pub fn body_param(out: &mut [u8], st: State, t: u8, null: bool, s: &[u8]) -> Outcome
     ensures { λ r. ⌜ Stepped (oneParam t (body (optional null (now (s .entry))))) st [] (now (out .entry)) r (now (out .exit)) ⌝ }
 {
     let at = st.position;
@@ -156,7 +156,7 @@ pub fn body_param(out: &mut [u8], st: State, t: u8, null: bool, s: &[u8]) -> Ste
     let bytes = 1 + put::text_size(null, s);
     let a = write::judge(permitted, fault, more, at, bytes, size);
     let Answer::Reached(n) = a else {
-        return Step {
+        return Outcome {
             answer: a,
             state: st,
         };
@@ -164,14 +164,14 @@ pub fn body_param(out: &mut [u8], st: State, t: u8, null: bool, s: &[u8]) -> Ste
     let mid = put::number_at(out, at, t as u64, 1);
     put::text_at(out, mid, null, s);
     let next = write::between(st, Stage::Call, n, st.count + 1);
-    Step {
+    Outcome {
         answer: a,
         state: next,
     }
 }
 
 // Writes an array of bytes, in one step.
-pub fn bytes_param(out: &mut [u8], st: State, s: &[u8]) -> Step
+pub fn bytes_param(out: &mut [u8], st: State, s: &[u8]) -> Outcome
     ensures { λ r. ⌜ Stepped (bytesParam (now (s .entry))) st [] (now (out .entry)) r (now (out .exit)) ⌝ }
 {
     let at = st.position;
@@ -182,7 +182,7 @@ pub fn bytes_param(out: &mut [u8], st: State, s: &[u8]) -> Step
     let bytes = 2 + put::text_size(false, s);
     let a = write::judge(permitted, fault, more, at, bytes, size);
     let Answer::Reached(n) = a else {
-        return Step {
+        return Outcome {
             answer: a,
             state: st,
         };
@@ -191,14 +191,14 @@ pub fn bytes_param(out: &mut [u8], st: State, s: &[u8]) -> Step
     let mid = put::number_at(out, kind, 3, 1);
     put::text_at(out, mid, false, s);
     let next = write::between(st, Stage::Call, n, st.count + 1);
-    Step {
+    Outcome {
         answer: a,
         state: next,
     }
 }
 
 // Writes an element of a fixed size into the open array.
-pub fn fixed_element(out: &mut [u8], st: State, t: u8, upper: u64, lower: u64) -> Step
+pub fn fixed_element(out: &mut [u8], st: State, t: u8, upper: u64, lower: u64) -> Outcome
     ensures { λ r. ⌜ Stepped (element t (fixed (upper * 2 ^ 64 + lower))) st [] (now (out .entry)) r (now (out .exit)) ⌝ }
 {
     let at = st.position;
@@ -209,7 +209,7 @@ pub fn fixed_element(out: &mut [u8], st: State, t: u8, upper: u64, lower: u64) -
     let more = write::one_more(st.inner_count, write::MOST_ITEMS);
     let a = write::judge(permitted, fault, more, at, scan::width_of(t), size);
     let Answer::Reached(n) = a else {
-        return Step {
+        return Outcome {
             answer: a,
             state: st,
         };
@@ -224,14 +224,14 @@ pub fn fixed_element(out: &mut [u8], st: State, t: u8, upper: u64, lower: u64) -
         st.inner_type,
         st.inner_count + 1,
     );
-    Step {
+    Outcome {
         answer: a,
         state: next,
     }
 }
 
 // Writes a text or binary element into the open array.
-pub fn body_element(out: &mut [u8], st: State, t: u8, null: bool, s: &[u8]) -> Step
+pub fn body_element(out: &mut [u8], st: State, t: u8, null: bool, s: &[u8]) -> Outcome
     ensures { λ r. ⌜ Stepped (element t (body (optional null (now (s .entry))))) st [] (now (out .entry)) r (now (out .exit)) ⌝ }
 {
     let at = st.position;
@@ -243,7 +243,7 @@ pub fn body_element(out: &mut [u8], st: State, t: u8, null: bool, s: &[u8]) -> S
     let bytes = put::text_size(null, s);
     let a = write::judge(permitted, fault, more, at, bytes, size);
     let Answer::Reached(n) = a else {
-        return Step {
+        return Outcome {
             answer: a,
             state: st,
         };
@@ -258,26 +258,26 @@ pub fn body_element(out: &mut [u8], st: State, t: u8, null: bool, s: &[u8]) -> S
         st.inner_type,
         st.inner_count + 1,
     );
-    Step {
+    Outcome {
         answer: a,
         state: next,
     }
 }
 
 // Begins an invocation whose client data is a slice.
-fn begin(out: &mut [u8], version: u8, procedure: &[u8], client: &[u8]) -> Step
+fn begin(out: &mut [u8], version: u8, procedure: &[u8], client: &[u8]) -> Outcome
     requires { ⌜ length (now client) ≡ 8 ⌝ }
     ensures { λ r. ⌜ Stepped (beginCall version (now (procedure .entry)) (now (client .entry))) zero [] (now (out .entry)) r (now (out .exit)) ⌝ }
 {
     let a = ask_begin(version, procedure, client, out.len());
     let Answer::Reached(n) = a else {
-        return Step {
+        return Outcome {
             answer: a,
             state: write::nothing_open(),
         };
     };
     put_head(out, version, procedure, client);
-    Step {
+    Outcome {
         answer: a,
         state: write::begun(Stage::Call, n),
     }

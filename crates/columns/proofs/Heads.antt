@@ -16,12 +16,13 @@ use Rattle.write.specs.declared.Answer.{Answer}
 use Rattle.write.specs.declared.Answer.the-variants.{Reached, No}
 use Rattle.steps.specs.declared.Stage.the-variants.{Reply}
 use Rattle.write.specs.declared.State.{State as Code}
-use Rattle.write.specs.declared.Step.{Step as Came}
+use Rattle.write.specs.declared.Outcome.{Outcome}
 use Rattle.steps.specs.State.{State, atStage, closed}
 use Rattle.steps.specs.Plans.{Plan, also, test}
 use Rattle.steps.specs.Steps.{messageEnd}
-use Rattle.write.specs.Shown.{seen, shownAnswer, verdictOf}
-use Rattle.steps.proofs.Accepted.{Accepted, answer-ok}
+use Rattle.write.specs.Shown.{seen, shownAnswer}
+use Rattle.write.specs.Shared.{verdictOf}
+use Rattle.steps.proofs.Plans.{Accepted, answer-ok}
 use Rattle.steps.proofs.Back.{also-fine, test-fine}
 use Rattle.columns.specs.declared.Survey.{Survey}
 use Rattle.columns.specs.declared.Walk.{Walk}

@@ -20,13 +20,14 @@ use Rattle.put.specs.Put.{put}
 use Rattle.put.proofs.Laws.{put-length, twice}
 use Rattle.write.specs.declared.Answer.the-variants.{Reached, No}
 use Rattle.write.specs.declared.State.{State as Code}
-use Rattle.write.specs.declared.Step.{Step as Came}
+use Rattle.write.specs.declared.Outcome.{Outcome}
 use Rattle.steps.specs.State.{State, allColumns}
 use Rattle.steps.specs.Plans.{Plan, Out, answerWithin, answerOf, outOf, carry, also, test}
 use Rattle.steps.specs.Arguments.{nameFaults, typesOf, metadataOf}
 use Rattle.steps.specs.Steps.{Step, step, plan, openTable}
 use Rattle.write.specs.Shown.{seen, shown, shownAnswer, typesAfter, Stepped, Opened}
-use Rattle.steps.proofs.Accepted.{Accepted, step-ok, answer-ok}
+use Rattle.steps.proofs.Plans.{Accepted, answer-ok}
+use Rattle.steps.proofs.Accepted.{step-ok}
 use Rattle.steps.proofs.Back.{also-fine, test-fine}
 use Rattle.write.proofs.Taken.{step-refused, step-taken}
 use Rattle.columns.specs.declared.Column.{Column as Entry}
@@ -177,7 +178,7 @@ module _ (st : Code) (status : ℕ) (names : List ℕ) (es : List Entry) (b type
   -- as the code makes it: from no column on, by what is found, by what stands around the columns and by what they leave
   pub opens-made : {z s : Survey} {h : Head} {b₁ : List ℕ} → z ≡ noneAt (st .position) → s ≡ addAll names z es
       → (h ≡ headOf st s (headAnswer st s (length b))) × (b₁ ≡ headOut st status s (headAnswer st s (length b)) b)
-      → FitsAll names (length b₁) (h .walk) es × ((r : Came) (b′ types′ : List ℕ) → (let q = putAll names (record { out = b₁; types = types; walk = h .walk }) es in (r ≡ h .step) × (b′ ≡ q .out) × (types′ ≡ q .types)) → Opened opens-by st types b r types′ b′)
+      → FitsAll names (length b₁) (h .walk) es × ((r : Outcome) (b′ types′ : List ℕ) → (let q = putAll names (record { out = b₁; types = types; walk = h .walk }) es in (r ≡ h .step) × (b′ ≡ q .out) × (types′ ≡ q .types)) → Opened opens-by st types b r types′ b′)
   opens-made {z} {s} {h} {b₁} e f g =
       let same : s ≡ survey = f ∙ ap (λ (x : Survey). addAll names x es) e in
       let head : h ≡ headOf st survey (headAnswer st survey (length b)) = g .0 ∙ ap (λ (x : Survey). headOf st x (headAnswer st x (length b))) same in

@@ -19,7 +19,7 @@ use Rattle.write.specs.declared.Check.the-variants.{Fine, Bad}
 use Rattle.steps.specs.State.{allColumns}
 use Rattle.steps.specs.Plans.{also, test}
 use Rattle.steps.specs.Arguments.{nameFault, nameFaults, typesOf}
-use Rattle.write.specs.Shown.{verdictOf}
+use Rattle.write.specs.Shared.{verdictOf}
 use Rattle.columns.specs.declared.Column.{Column as Entry}
 use Rattle.columns.specs.declared.Survey.{Survey}
 use Rattle.columns.specs.Entries.{nameOf, columnsOf, typesIn, namesSize, columnsFault}

@@ -20,7 +20,8 @@ use Rattle.steps.specs.State.{atStage}
 use Rattle.steps.specs.Plans.{also, test}
 use Rattle.steps.specs.Arguments.{nameFault}
 use Rattle.steps.specs.Steps.{answerAt}
-use Rattle.write.specs.Shown.{seen, verdictOf}
+use Rattle.write.specs.Shown.{seen}
+use Rattle.write.specs.Shared.{verdictOf}
 use Rattle.columns.specs.declared.Column.{Column as Entry}
 use Rattle.columns.specs.declared.Survey.{Survey}
 use Rattle.columns.specs.declared.Walk.{Walk}

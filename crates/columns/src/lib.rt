@@ -6,8 +6,8 @@ use steps::Stage;
 use write::Answer;
 use write::COLUMNS;
 use write::Check;
+use write::Outcome;
 use write::State;
-use write::Step;
 ghost use mathlib.Core.Path.{_≡_};
 ghost use Prim.Native.Nat.{_+_, _*_, _<_, _≤_};
 ghost use lib.ListN.{length};
@@ -17,7 +17,8 @@ ghost use Rattle.format.specs.Message.{mostColumns, mostItems};
 ghost use Rattle.put.specs.Put.{put};
 ghost use Rattle.steps.specs.Plans.{placed};
 ghost use Rattle.steps.specs.Arguments.{nameFault};
-ghost use Rattle.write.specs.Shown.{shownAnswer, verdictOf};
+ghost use Rattle.write.specs.Shown.{shownAnswer};
+ghost use Rattle.write.specs.Shared.{verdictOf};
 ghost use Rattle.columns.specs.Entries.{nameOf, nameBytes};
 ghost use Rattle.columns.specs.Walks.{noneAt, nextFault, added, Bounded, surveyFault, headAnswer, headBytes, openedAt, headOf, headOut, Fits, moved, columnOut, columnTypes};
 
@@ -49,7 +50,7 @@ pub struct Walk {
 
 // What was written around the columns: the step that was made, and where they go. Of a step that was refused none are left.
 pub struct Head {
-    pub step: Step,
+    pub step: Outcome,
     pub walk: Walk,
 }
 
@@ -119,7 +120,7 @@ pub fn open_head(out: &mut [u8], st: State, status: u8, s: Survey) -> Head
 {
     let a = ask_open_table(st, s, out.len());
     let Answer::Reached(n) = a else {
-        let step = Step {
+        let step = Outcome {
             answer: a,
             state: st,
         };
@@ -133,7 +134,7 @@ pub fn open_head(out: &mut [u8], st: State, status: u8, s: Survey) -> Head
     };
     let kinds = head_at(out, st.position, status, s);
     put::number_at(out, n - 4, 0, 4);
-    let step = Step {
+    let step = Outcome {
         answer: a,
         state: opened(st, n, s.n),
     };
@@ -173,7 +174,7 @@ pub fn put_column(
 }
 
 // The parts of a head.
-pub fn step_in(h: Head) -> Step
+pub fn step_in(h: Head) -> Outcome
     ensures { λ r. ⌜ r ≡ h .step ⌝ }
 {
     h.step

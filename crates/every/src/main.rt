@@ -9,7 +9,7 @@ use reply::Head;
 use show::Cell;
 use values::Fixed;
 use write::Answer;
-use write::Step;
+use write::Outcome;
 ghost use Prim.Native.Nat.{_<_};
 
 // A byte of kind, and more room than any of the messages needs.
@@ -228,7 +228,7 @@ fn wide(x: u8) -> u64 {
 // ---- Steps.
 
 // The second of two steps, or the first where that was refused.
-fn after(first: Step, second: Step) -> Step {
+fn after(first: Outcome, second: Outcome) -> Outcome {
     let answer = first.answer;
     if let Answer::No(_) = answer {
         return first;
@@ -237,19 +237,19 @@ fn after(first: Step, second: Step) -> Step {
 }
 
 // A call with a parameter of each type, and arrays.
-fn write_call(out: &mut [u8]) -> Step {
+fn write_call(out: &mut [u8]) -> Outcome {
     let begun = call::begin_call(out, 0, b"Every", b"client 3");
     let filled = put_parameters(out, begun);
     after(filled, call::finish_call(out, filled.state))
 }
 
-fn put_parameters(out: &mut [u8], step: Step) -> Step {
+fn put_parameters(out: &mut [u8], step: Outcome) -> Outcome {
     let each = put_each(out, step);
     put_arrays(out, each)
 }
 
 // A null, a parameter of each type, and a null string.
-fn put_each(out: &mut [u8], before: Step) -> Step {
+fn put_each(out: &mut [u8], before: Outcome) -> Outcome {
     let mut step = after(before, call::null_param(out, before.state));
     let mut c = 0;
     while c < COLUMNS {
@@ -263,7 +263,7 @@ fn put_each(out: &mut [u8], before: Step) -> Step {
 }
 
 // A parameter of a column's type, with its value.
-fn put_param(out: &mut [u8], step: Step, c: usize) -> Step {
+fn put_param(out: &mut [u8], step: Outcome, c: usize) -> Outcome {
     let st = step.state;
     match c {
         STRING_COLUMN => after(
@@ -289,40 +289,40 @@ fn put_param(out: &mut [u8], step: Step, c: usize) -> Step {
 }
 
 // An array of bytes, one of strings and one of decimals.
-fn put_arrays(out: &mut [u8], step: Step) -> Step {
+fn put_arrays(out: &mut [u8], step: Outcome) -> Outcome {
     let bytes = after(step, call::bytes_param(out, step.state, &BYTES));
     let strings = put_strings(out, bytes);
     put_decimals(out, strings)
 }
 
-fn put_strings(out: &mut [u8], step: Step) -> Step {
+fn put_strings(out: &mut [u8], step: Outcome) -> Outcome {
     let opened = after(step, call::open_array(out, step.state, format::STRING));
     let filled = fill_strings(out, opened);
     after(filled, call::close_array(out, filled.state))
 }
 
 // A string, a null one and an empty one.
-fn fill_strings(out: &mut [u8], step: Step) -> Step {
+fn fill_strings(out: &mut [u8], step: Outcome) -> Outcome {
     let first = put_string(out, step, false, &TEXT);
     let second = put_string(out, first, true, b"");
     put_string(out, second, false, b"")
 }
 
-fn put_string(out: &mut [u8], step: Step, null: bool, s: &[u8]) -> Step {
+fn put_string(out: &mut [u8], step: Outcome, null: bool, s: &[u8]) -> Outcome {
     after(
         step,
         call::body_element(out, step.state, format::STRING, null, s),
     )
 }
 
-fn put_decimals(out: &mut [u8], step: Step) -> Step {
+fn put_decimals(out: &mut [u8], step: Outcome) -> Outcome {
     let opened = after(step, call::open_array(out, step.state, format::DECIMAL));
     let filled = fill_decimals(out, opened);
     after(filled, call::close_array(out, filled.state))
 }
 
 // The largest decimal by its bits, and -1 as the reader shows it.
-fn fill_decimals(out: &mut [u8], step: Step) -> Step {
+fn fill_decimals(out: &mut [u8], step: Outcome) -> Outcome {
     let most = value(DECIMAL_COLUMN);
     let first = after(
         step,
@@ -335,7 +335,7 @@ fn fill_decimals(out: &mut [u8], step: Step) -> Step {
 }
 
 // A response with one table, which has the first row alone.
-fn write_draft(out: &mut [u8]) -> Step {
+fn write_draft(out: &mut [u8]) -> Outcome {
     let mut types = [0; write::COLUMNS];
     let opened = open_table(out, &mut types);
     let filled = put_row(out, &types, opened, false);
@@ -343,7 +343,7 @@ fn write_draft(out: &mut [u8]) -> Step {
 }
 
 // A response with that table, which has two rows more, and a table with no columns.
-fn write_reply(out: &mut [u8], draft: &[u8]) -> Step {
+fn write_reply(out: &mut [u8], draft: &[u8]) -> Outcome {
     let mut types = [0; write::COLUMNS];
     let opened = open_table(out, &mut types);
     let filled = put_rows(out, &types, opened, draft);
@@ -352,14 +352,14 @@ fn write_reply(out: &mut [u8], draft: &[u8]) -> Step {
 }
 
 // A row of values, its copy from the draft, and a row of nulls.
-fn put_rows(out: &mut [u8], types: &[u8; write::COLUMNS], step: Step, draft: &[u8]) -> Step {
+fn put_rows(out: &mut [u8], types: &[u8; write::COLUMNS], step: Outcome, draft: &[u8]) -> Outcome {
     let first = put_row(out, types, step, false);
     let second = copy_row(out, types, first, draft);
     put_row(out, types, second, true)
 }
 
 // Closes the table, and opens one with no columns.
-fn put_empty(out: &mut [u8], types: &mut [u8; write::COLUMNS], step: Step) -> Step {
+fn put_empty(out: &mut [u8], types: &mut [u8; write::COLUMNS], step: Outcome) -> Outcome {
     let closed = after(step, rows::close_table(out, step.state, types));
     after(
         closed,
@@ -368,13 +368,13 @@ fn put_empty(out: &mut [u8], types: &mut [u8; write::COLUMNS], step: Step) -> St
 }
 
 // Closes the open table and finishes the response.
-fn finish_reply(out: &mut [u8], types: &[u8; write::COLUMNS], step: Step) -> Step {
+fn finish_reply(out: &mut [u8], types: &[u8; write::COLUMNS], step: Outcome) -> Outcome {
     let closed = after(step, rows::close_table(out, step.state, types));
     after(closed, reply::finish_reply(out, closed.state))
 }
 
 // Begins the response, with all its strings, and opens the table.
-fn open_table(out: &mut [u8], types: &mut [u8; write::COLUMNS]) -> Step {
+fn open_table(out: &mut [u8], types: &mut [u8; write::COLUMNS]) -> Outcome {
     let head = Head {
         version: 1,
         flags: 32 + 64 + 128,
@@ -392,7 +392,7 @@ fn open_table(out: &mut [u8], types: &mut [u8; write::COLUMNS]) -> Step {
 }
 
 // A row of the columns' values, or of nulls where there are any.
-fn put_row(out: &mut [u8], types: &[u8; write::COLUMNS], before: Step, null: bool) -> Step {
+fn put_row(out: &mut [u8], types: &[u8; write::COLUMNS], before: Outcome, null: bool) -> Outcome {
     let mut step = after(before, rows::open_row(out, before.state, types));
     let mut c = 0;
     while c < COLUMNS {
@@ -406,10 +406,10 @@ fn put_row(out: &mut [u8], types: &[u8; write::COLUMNS], before: Step, null: boo
 fn put_cell(
     out: &mut [u8],
     types: &[u8; write::COLUMNS],
-    step: Step,
+    step: Outcome,
     null: bool,
     c: usize,
-) -> Step {
+) -> Outcome {
     let st = step.state;
     match c {
         STRING_COLUMN => after(
@@ -435,7 +435,12 @@ fn put_cell(
 }
 
 // Writes a row of the cells that the reader shows of the draft's.
-fn copy_row(out: &mut [u8], types: &[u8; write::COLUMNS], before: Step, draft: &[u8]) -> Step {
+fn copy_row(
+    out: &mut [u8],
+    types: &[u8; write::COLUMNS],
+    before: Outcome,
+    draft: &[u8],
+) -> Outcome {
     let mut step = after(before, rows::open_row(out, before.state, types));
     let mut c = 0;
     while c < COLUMNS {
@@ -449,10 +454,10 @@ fn copy_row(out: &mut [u8], types: &[u8; write::COLUMNS], before: Step, draft: &
 fn copy_cell(
     out: &mut [u8],
     types: &[u8; write::COLUMNS],
-    step: Step,
+    step: Outcome,
     draft: &[u8],
     c: usize,
-) -> Step {
+) -> Outcome {
     let st = step.state;
     let answer = query::cell(draft, 0, 0, c);
     let CellAnswer::Is(cell) = answer else {

@@ -9,8 +9,8 @@ use query::Part;
 use query::Position;
 use query::TableAnswer;
 use write::COLUMNS;
+use write::Outcome;
 use write::State;
-use write::Step;
 ghost use mathlib.Core.Path.{_≡_};
 ghost use lib.ListN.{length};
 ghost use Rattle.cards.specs.Answers.{askOpen};
@@ -103,7 +103,7 @@ fn put_columns(
     head: Head,
     cols: &[Column],
     names: &[u8],
-) -> Step
+) -> Outcome
     requires { ⌜ FitsAll (now names) (length (now out)) (head .walk) (now cols) ⌝ }
     ensures { λ r. ⌜ (r ≡ head .step) × (now (out .exit) ≡ putAll (now (names .entry)) (record { out = now (out .entry); types = now (types .entry); walk = head .walk }) (now (cols .entry)) .out) × (now (types .exit) ≡ putAll (now (names .entry)) (record { out = now (out .entry); types = now (types .entry); walk = head .walk }) (now (cols .entry)) .types) ⌝ }
 {
@@ -124,7 +124,7 @@ pub fn open_table(
     status: u8,
     cols: &[Column],
     names: &[u8],
-) -> Step
+) -> Outcome
     ensures { λ r. ⌜ Opened (openTable status (columnsOf (now (cols .entry)) (now (names .entry)))) st (now (types .entry)) (now (out .entry)) r (now (types .exit)) (now (out .exit)) ⌝ }
 {
     let z = columns::no_columns(st);

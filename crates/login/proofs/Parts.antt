@@ -24,10 +24,12 @@ use Rattle.write.specs.declared.Answer.the-variants.{Reached, No}
 use Rattle.write.specs.declared.Check.{Check}
 use Rattle.write.specs.declared.Check.the-variants.{Fine, Bad}
 use Rattle.steps.specs.State.{State, closed}
-use Rattle.write.specs.Shown.{zero, shownAnswer, verdictOf}
+use Rattle.write.specs.Shown.{zero, shownAnswer}
+use Rattle.write.specs.Shared.{verdictOf}
 use Rattle.steps.specs.Plans.{Plan, answerOf, outOf, carry, fillAll, also, test}
-use Rattle.steps.specs.Arguments.{textFault, hashFault, writtenRequest, writtenResponse, Welcome, requestFault, responseFault}
-use Rattle.steps.specs.Steps.{answerAt, loginPlan, says}
+use Rattle.steps.specs.Arguments.{textFault}
+use Rattle.steps.specs.Steps.{answerAt, says}
+use Rattle.steps.specs.Logins.{hashFault, writtenRequest, writtenResponse, Welcome, requestFault, responseFault, loginPlan}
 use Rattle.steps.proofs.Back.{also-fine, test-fine}
 use Rattle.write.proofs.Taken.{taken as accepts}
 use Rattle.login.specs.Told.{Told, hashPart, serverOf}

@@ -10,7 +10,7 @@ use Rattle.format.specs.Message.{edition, Server}
 use Rattle.write.specs.declared.Answer.{Answer}
 use Rattle.steps.specs.State.{State}
 use Rattle.steps.specs.Plans.{Out}
-use Rattle.steps.specs.Arguments.{Welcome}
+use Rattle.steps.specs.Logins.{Welcome}
 use Rattle.write.specs.Shown.{shownAnswer}
 
 -- a login comes to r and leaves the buffer b: both are what the definition gives

@@ -14,9 +14,10 @@ ghost use Rattle.format.specs.Value.{mostBytes};
 ghost use Rattle.format.specs.Message.{aLoginRequest, aLoginResponse, messageBytes, hashSize, server};
 ghost use Rattle.put.specs.Put.{put};
 ghost use Rattle.steps.specs.Plans.{answerOf};
-ghost use Rattle.steps.specs.Arguments.{hashFault, requestFault, responseFault, writtenRequest, writtenResponse};
-ghost use Rattle.steps.specs.Steps.{loginPlan, says, loginRequest, loginResponse};
-ghost use Rattle.write.specs.Shown.{shownAnswer, verdictOf};
+ghost use Rattle.steps.specs.Steps.{says};
+ghost use Rattle.steps.specs.Logins.{hashFault, requestFault, responseFault, writtenRequest, writtenResponse, loginPlan, loginRequest, loginResponse};
+ghost use Rattle.write.specs.Shown.{shownAnswer};
+ghost use Rattle.write.specs.Shared.{verdictOf};
 ghost use Rattle.login.specs.Told.{Told, welcome, serverOf, hashPart};
 
 // Writes a login request. In version 0 the hash version, here `hashing`, is ignored.

@@ -5,7 +5,7 @@ use mathlib.Core.List.{List, []}
 use Rattle.format.specs.Result.{Res, ok, no}
 use Rattle.write.specs.declared.State.{State}
 use Rattle.write.specs.declared.Answer.{Answer}
-use Rattle.write.specs.declared.Step.{Step as Came}
+use Rattle.write.specs.declared.Outcome.{Outcome}
 use Rattle.steps.specs.State as definition
 use Rattle.steps.specs.Plans.{Out}
 use Rattle.steps.specs.Steps.{Step, step}
@@ -22,20 +22,20 @@ state-kept : (ns : List ℕ) (old : State) (a : Res ℕ) (s : definition.State) 
 state-kept ns old (ok n) s = refl
 state-kept ns old (no f p) s = refl
 
-pub wrote-from : (S : Step) (st : State) (ns types b b′ ns′ : List ℕ) {s : Came} {r : ℕ} → Stepped S st types b s b′ → (r ≡ packed itself (toldAnswer (s .answer))) × (ns′ ≡ kept ns (s .answer) (s .state))
+pub wrote-from : (S : Step) (st : State) (ns types b b′ ns′ : List ℕ) {s : Outcome} {r : ℕ} → Stepped S st types b s b′ → (r ≡ packed itself (toldAnswer (s .answer))) × (ns′ ≡ kept ns (s .answer) (s .state))
     → WroteFrom S st ns types b r ns′ b′
 wrote-from S st ns types b b′ ns′ steps keeps =
     let o = step S (seen st types) b in (
-      keeps .0 ∙ ap (λ (z : Came). packed itself (toldAnswer (z .answer))) (steps .0) ∙ answer-packed st (o .answer) (o .state),
-      keeps .1 ∙ ap (λ (z : Came). kept ns (z .answer) (z .state)) (steps .0) ∙ state-kept ns st (o .answer) (o .state),
+      keeps .0 ∙ ap (λ (z : Outcome). packed itself (toldAnswer (z .answer))) (steps .0) ∙ answer-packed st (o .answer) (o .state),
+      keeps .1 ∙ ap (λ (z : Outcome). kept ns (z .answer) (z .state)) (steps .0) ∙ state-kept ns st (o .answer) (o .state),
       steps .1,
     )
 
-pub wrote : (S : Step) (ns types b b′ ns′ : List ℕ) {st : State} {s : Came} {r : ℕ} → st ≡ stateOf ns → Stepped S st types b s b′
+pub wrote : (S : Step) (ns types b b′ ns′ : List ℕ) {st : State} {s : Outcome} {r : ℕ} → st ≡ stateOf ns → Stepped S st types b s b′
     → (r ≡ packed itself (toldAnswer (s .answer))) × (ns′ ≡ kept ns (s .answer) (s .state)) → Wrote S ns types b r ns′ b′
 wrote S ns types b b′ ns′ {st} {s} {r} is steps keeps = subst (λ (z : State). WroteFrom S z ns types b r ns′ b′) is (wrote-from S st ns types b b′ ns′ steps keeps)
 
-pub wrote-all : (S : Step) (ns types b b′ ns′ types′ : List ℕ) {st : State} {s : Came} {r : ℕ} → st ≡ stateOf ns → Opened S st types b s types′ b′
+pub wrote-all : (S : Step) (ns types b b′ ns′ types′ : List ℕ) {st : State} {s : Outcome} {r : ℕ} → st ≡ stateOf ns → Opened S st types b s types′ b′
     → (r ≡ packed itself (toldAnswer (s .answer))) × (ns′ ≡ kept ns (s .answer) (s .state)) → WroteAll S ns types b r ns′ types′ b′
 wrote-all S ns types b b′ ns′ types′ {st} {s} {r} is opens keeps =
     (wrote S ns [] b b′ ns′ is (opens .0) keeps, subst (λ (z : State). types′ ≡ typesAfter (step S (seen z []) b .answer) (step S (seen z []) b .state .outer .types) types) is (opens .1))

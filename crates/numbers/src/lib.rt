@@ -27,8 +27,8 @@ use show::Cell;
 use steps::Stage;
 use write::Answer;
 use write::COLUMNS;
+use write::Outcome;
 use write::State;
-use write::Step;
 ghost use mathlib.Core.Path.{_≡_};
 ghost use mathlib.Core.List.{[], _∷_};
 ghost use Prim.Native.Nat.{_+_, _*_, _<_};
@@ -210,7 +210,7 @@ pub fn save(numbers: &mut [u64; 11], st: State)
 }
 
 // Packs a step's answer, and keeps the state that it leaves; a refusal leaves the numbers as they were.
-pub fn keep(numbers: &mut [u64; 11], step: Step) -> u64
+pub fn keep(numbers: &mut [u64; 11], step: Outcome) -> u64
     ensures { λ r. ⌜ (r ≡ packed itself (toldAnswer (step .answer))) × (now (numbers .exit) ≡ kept (now (numbers .entry)) (step .answer) (step .state)) ⌝ }
 {
     let answer = step.answer;
@@ -254,7 +254,7 @@ pub fn open_listed(
     status: u8,
     list: &[u64],
     names: &[u8],
-) -> Step
+) -> Outcome
     ensures { λ r. ⌜ Opened (openTable status (entriesWith (entriesOf (now (list .entry))) (now (names .entry)))) st (now (types .entry)) (now (out .entry)) r (now (types .exit)) (now (out .exit)) ⌝ }
 {
     let found = survey_listed(columns::no_columns(st), list, names);
@@ -283,7 +283,7 @@ fn put_listed(
     head: Head,
     list: &[u64],
     names: &[u8],
-) -> Step
+) -> Outcome
     requires { ⌜ FitsAll (now names) (length (now out)) (head .walk) (entriesOf (now list)) ⌝ }
     ensures { λ r. ⌜ (r ≡ head .step) × (now (out .exit) ≡ putAll (now (names .entry)) (record { out = now (out .entry); types = now (types .entry); walk = head .walk }) (entriesOf (now (list .entry))) .out) × (now (types .exit) ≡ putAll (now (names .entry)) (record { out = now (out .entry); types = now (types .entry); walk = head .walk }) (entriesOf (now (list .entry))) .types) ⌝ }
 {

@@ -4,7 +4,7 @@ use native.Mathlib.Omega.{arith}
 use Rattle.steps.specs.declared.Stage.the-variants.{Reply}
 use Rattle.steps.specs.State.{State}
 use Rattle.steps.specs.Steps.{plan, finishReply}
-use Rattle.steps.proofs.Accepted.{Accepted}
+use Rattle.steps.proofs.Plans.{Accepted}
 use Rattle.write.proofs.Filled.{Fills, fills}
 use Rattle.steps.proofs.Sound.{at-stage, between-reply}
 

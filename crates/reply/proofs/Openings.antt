@@ -27,7 +27,8 @@ use Rattle.write.specs.declared.Check.the-variants.{Bad}
 use Rattle.steps.specs.Plans.{answerOf, also, test}
 use Rattle.steps.specs.Arguments.{textFault, nullTextFault, openingFault, opened}
 use Rattle.steps.specs.Steps.{Step, answerAt, plan, says, beginReply}
-use Rattle.write.specs.Shown.{zero, seen, shownAnswer, verdictOf, Stepped}
+use Rattle.write.specs.Shown.{zero, seen, shownAnswer, Stepped}
+use Rattle.write.specs.Shared.{verdictOf}
 use Rattle.steps.proofs.Back.{also-fine, test-fine}
 use Rattle.steps.proofs.Reply.{head, begin-bytes}
 use Rattle.write.proofs.Taken.{answered, step-refused, step-accepted}

@@ -3,8 +3,8 @@ use format::Fault;
 use steps::Stage;
 use write::Answer;
 use write::Check;
+use write::Outcome;
 use write::State;
-use write::Step;
 ghost use mathlib.Core.Path.{_≡_};
 ghost use Prim.Native.Nat.{_+_, _<_, _≤_};
 ghost use mathlib.Core.Bool.{true};
@@ -18,7 +18,8 @@ ghost use Rattle.put.specs.Put.{put, optional};
 ghost use Rattle.steps.specs.Plans.{answerOf};
 ghost use Rattle.steps.specs.Arguments.{nullTextFault};
 ghost use Rattle.steps.specs.Steps.{answerAt, plan, beginReply, finishReply};
-ghost use Rattle.write.specs.Shown.{zero, seen, shownAnswer, verdictOf, Stepped};
+ghost use Rattle.write.specs.Shown.{zero, seen, shownAnswer, Stepped};
+ghost use Rattle.write.specs.Shared.{verdictOf};
 ghost use Rattle.reply.specs.Opening.{openingOf, beginFault, beginSize, letIn, statusPart, appPart, exceptionPart, frontBytes, middleBytes, endBytes, beginBytes};
 
 // What a response says before its table count, beside its client data and its strings; its numbers without a sign.
@@ -47,7 +48,7 @@ pub fn begin_reply(
     status: &[u8],
     app: &[u8],
     exception: &[u8],
-) -> Step
+) -> Outcome
     ensures { λ r. ⌜ Stepped (beginReply (h .version) (openingOf h (now (client .entry)) (now (status .entry)) (now (app .entry)) (now (exception .entry)))) zero [] (now (out .entry)) r (now (out .exit)) ⌝ }
 {
     // as a slice, so that its length is known from here on
@@ -55,26 +56,26 @@ pub fn begin_reply(
     let a = ask_begin(h, status, app, exception, out.len());
     let Answer::Reached(n) = a else {
         let none = write::nothing_open();
-        return Step {
+        return Outcome {
             answer: a,
             state: none,
         };
     };
     put_opening(out, h, data, status, app, exception);
     let next = write::begun(Stage::Reply, n);
-    Step {
+    Outcome {
         answer: a,
         state: next,
     }
 }
 
 // Finishes the response: its length and its table count are filled.
-pub fn finish_reply(out: &mut [u8], st: State) -> Step
+pub fn finish_reply(out: &mut [u8], st: State) -> Outcome
     ensures { λ r. ⌜ Stepped finishReply st [] (now (out .entry)) r (now (out .exit)) ⌝ }
 {
     let a = ask_finish_reply(st, out.len());
     let Answer::Reached(n) = a else {
-        return Step {
+        return Outcome {
             answer: a,
             state: st,
         };
@@ -82,7 +83,7 @@ pub fn finish_reply(out: &mut [u8], st: State) -> Step
     put::number_at(out, 0, (st.position - 4) as u64, 4);
     put::number_at(out, st.count_at, st.count as u64, 2);
     let next = write::finished(n);
-    Step {
+    Outcome {
         answer: a,
         state: next,
     }

@@ -25,7 +25,7 @@ use Rattle.steps.specs.Plans.{answerOf, also, test}
 use Rattle.steps.specs.Arguments.{valueFault}
 use Rattle.steps.specs.Steps.{plan, cell}
 use Rattle.write.specs.Shown.{seen, typesIn, shownAnswer}
-use Rattle.steps.proofs.Accepted.{Accepted}
+use Rattle.steps.proofs.Plans.{Accepted}
 use Rattle.steps.proofs.Back.{also-fine}
 use Rattle.write.proofs.Bytes.{fixed-bytes, body-bytes}
 use Rattle.write.proofs.Taken.{answered}

@@ -5,7 +5,7 @@ use Rattle.format.proofs.Results.{and-true-both}
 use Rattle.steps.specs.declared.Stage.the-variants.{Table, Row}
 use Rattle.steps.specs.State.{State, atStage}
 use Rattle.steps.specs.Steps.{plan, closeRow, closeTable}
-use Rattle.steps.proofs.Accepted.{Accepted}
+use Rattle.steps.proofs.Plans.{Accepted}
 use Rattle.write.proofs.Filled.{Fills, fills}
 use Rattle.steps.proofs.Sound.{at-stage, around, along, outer-places}
 

@@ -4,8 +4,8 @@ use steps::Stage;
 use write::Answer;
 use write::COLUMNS;
 use write::Check;
+use write::Outcome;
 use write::State;
-use write::Step;
 ghost use mathlib.Core.Path.{_≡_};
 ghost use Prim.Native.Nat.{_+_, _*_, _^_};
 ghost use lib.ListN.{getD};
@@ -13,25 +13,26 @@ ghost use Rattle.format.specs.Value.{fixed, body};
 ghost use Rattle.put.specs.Put.{optional};
 ghost use Rattle.steps.specs.Plans.{answerOf};
 ghost use Rattle.steps.specs.Steps.{plan, openRow, cell, closeRow, closeTable};
-ghost use Rattle.write.specs.Shown.{seen, typesIn, verdictOf, shownAnswer, Stepped};
+ghost use Rattle.write.specs.Shown.{seen, typesIn, shownAnswer, Stepped};
+ghost use Rattle.write.specs.Shared.{verdictOf};
 ghost use Rattle.rows.specs.Asked.{cellAnswer};
 
 // Opens a row; its length holds zeros until it is closed.
-pub fn open_row(out: &mut [u8], st: State, types: &[u8; COLUMNS]) -> Step
+pub fn open_row(out: &mut [u8], st: State, types: &[u8; COLUMNS]) -> Outcome
     ensures { λ r. ⌜ Stepped openRow st (now (types .entry)) (now (out .entry)) r (now (out .exit)) ⌝ }
 {
     // as a slice, so that its length is known from here on
     let lent: &[u8] = types;
     let a = ask_open_row(st, types, out.len());
     let Answer::Reached(n) = a else {
-        return Step {
+        return Outcome {
             answer: a,
             state: st,
         };
     };
     put::number_at(out, st.position, 0, 4);
     let next = write::in_table(st, Stage::Row, n, st.position, 0, st.rows + 1);
-    Step {
+    Outcome {
         answer: a,
         state: next,
     }
@@ -45,7 +46,7 @@ pub fn fixed_cell(
     t: u8,
     upper: u64,
     lower: u64,
-) -> Step
+) -> Outcome
     ensures { λ r. ⌜ Stepped (cell t (fixed (upper * 2 ^ 64 + lower))) st (now (types .entry)) (now (out .entry)) r (now (out .exit)) ⌝ }
 {
     // as a slice, so that its length is known from here on
@@ -53,14 +54,14 @@ pub fn fixed_cell(
     let fault = write::fixed_fault(st.position, t, upper, lower);
     let a = ask_cell(st, types, t, fault, scan::width_of(t), out.len());
     let Answer::Reached(n) = a else {
-        return Step {
+        return Outcome {
             answer: a,
             state: st,
         };
     };
     put::fixed_at(out, st.position, t, upper, lower);
     let next = write::in_table(st, Stage::Row, n, st.inner_at, st.inner_count + 1, st.rows);
-    Step {
+    Outcome {
         answer: a,
         state: next,
     }
@@ -74,7 +75,7 @@ pub fn body_cell(
     t: u8,
     null: bool,
     s: &[u8],
-) -> Step
+) -> Outcome
     ensures { λ r. ⌜ Stepped (cell t (body (optional null (now (s .entry))))) st (now (types .entry)) (now (out .entry)) r (now (out .exit)) ⌝ }
 {
     // as a slice, so that its length is known from here on
@@ -82,28 +83,28 @@ pub fn body_cell(
     let fault = write::body_fault(st.position, t, null, s);
     let a = ask_cell(st, types, t, fault, put::text_size(null, s), out.len());
     let Answer::Reached(n) = a else {
-        return Step {
+        return Outcome {
             answer: a,
             state: st,
         };
     };
     put::text_at(out, st.position, null, s);
     let next = write::in_table(st, Stage::Row, n, st.inner_at, st.inner_count + 1, st.rows);
-    Step {
+    Outcome {
         answer: a,
         state: next,
     }
 }
 
 // Closes the open row, which has a cell for each column, and fills its length.
-pub fn close_row(out: &mut [u8], st: State, types: &[u8; COLUMNS]) -> Step
+pub fn close_row(out: &mut [u8], st: State, types: &[u8; COLUMNS]) -> Outcome
     ensures { λ r. ⌜ Stepped closeRow st (now (types .entry)) (now (out .entry)) r (now (out .exit)) ⌝ }
 {
     // as a slice, so that its length is known from here on
     let lent: &[u8] = types;
     let a = ask_close_row(st, types, out.len());
     let Answer::Reached(n) = a else {
-        return Step {
+        return Outcome {
             answer: a,
             state: st,
         };
@@ -115,19 +116,19 @@ pub fn close_row(out: &mut [u8], st: State, types: &[u8; COLUMNS]) -> Step
         4,
     );
     let next = write::in_table(st, Stage::Table, n, 0, 0, st.rows);
-    Step {
+    Outcome {
         answer: a,
         state: next,
     }
 }
 
 // Closes the open table, and fills its length and its row count.
-pub fn close_table(out: &mut [u8], st: State, types: &[u8; COLUMNS]) -> Step
+pub fn close_table(out: &mut [u8], st: State, types: &[u8; COLUMNS]) -> Outcome
     ensures { λ r. ⌜ Stepped closeTable st (now (types .entry)) (now (out .entry)) r (now (out .exit)) ⌝ }
 {
     let a = ask_close_table(st, types, out.len());
     let Answer::Reached(n) = a else {
-        return Step {
+        return Outcome {
             answer: a,
             state: st,
         };
@@ -140,7 +141,7 @@ pub fn close_table(out: &mut [u8], st: State, types: &[u8; COLUMNS]) -> Step
     );
     put::number_at(out, st.rows_at, st.rows as u64, 4);
     let next = write::between(st, Stage::Reply, n, st.count);
-    Step {
+    Outcome {
         answer: a,
         state: next,
     }

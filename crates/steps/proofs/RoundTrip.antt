@@ -16,10 +16,10 @@ use Rattle.format.proofs.Results.{ok-same}
 use Rattle.format.proofs.Demands.{accepted→encodes, encodes→accepted, encodes-once}
 use Rattle.steps.specs.State.{State, closed}
 use Rattle.steps.specs.Plans.{Out}
-use Rattle.steps.specs.Arguments.{Welcome, opened}
+use Rattle.steps.specs.Arguments.{opened}
+use Rattle.steps.specs.Logins.{Welcome}
 use Rattle.steps.specs.Spells.{openingOf}
-use Rattle.steps.specs.Writings.{Writing, requestCall, responseCall, callSteps, replySteps, kindOf, written, inFront, HeldWriting, welcomeOf, writingOf, noWelcome, trimmed}
-use Rattle.steps.proofs.Buffers.{over}
+use Rattle.steps.specs.Writings.{Writing, requestCall, responseCall, callSteps, replySteps, kindOf, written, inFront, HeldWriting, welcomeOf, writingOf, noWelcome, trimmed, overlaid}
 use Rattle.steps.proofs.Back.{Ends}
 use Rattle.steps.proofs.CallBack.{call-wrote}
 use Rattle.steps.proofs.ReplyBack.{reply-wrote}
@@ -81,7 +81,7 @@ spells-once kind r q known g h e =
     let same : inFront b x ≡ inFront b y
     = sym (good-writes kind r known g (closed 0) b (omega arith)) ∙ (ap (λ (w : Writing). written w (closed 0) b) e ∙ good-writes kind q known h (closed 0) b (omega arith)) in
     let n : length x ≡ length y = ok-same (ap (λ (o : Out State). o .answer) same) in
-    let bytes : take (length x) (over b x) ≡ take (length x) (over b y) = ap (λ (o : Out State). take (length x) (o .buffer)) same in
+    let bytes : take (length x) (overlaid b x) ≡ take (length x) (overlaid b y) = ap (λ (o : Out State). take (length x) (o .buffer)) same in
     encodes-once kind r q g h (sym (take-append-seam x _) ∙ (bytes ∙ rw n (take-append-seam y _)))
 
 -- the writing that the record of an accepted message spells puts the message in front of any buffer that is long enough, and changes no other byte

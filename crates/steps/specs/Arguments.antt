@@ -1,15 +1,15 @@
--- What the steps and the logins take: the parts of a message that it says, and its faults, in wire order. A writer's refusal stands at its position.
+-- What the steps take: the parts of a message that it says, and its faults, in wire order. A writer's refusal stands at its position.
 use Prim.Native.Nat.{ℕ, _%_}
 use mathlib.Core.Bool.{not}
 use mathlib.Core.List.{List, [], _∷_, map}
 use mathlib.Core.Option.{Option, some, none}
 use lib.ListN.{length}
 use lib.Dec.{leb, eqb}
-use Rattle.format.specs.declared.Fault.the-variants.{Short, Limit, Extra, Version, WireType, Decimal, Point, Flags, PastEnd}
+use Rattle.format.specs.declared.Fault.the-variants.{Limit, WireType, Decimal, Point, Flags, PastEnd}
 use Rattle.format.specs.Result.{pick}
 use Rattle.format.specs.Format.{Verdict, fine, bad}
 use Rattle.format.specs.Value.{Value, fixed, body, widthOf, isCounted, fixedFine, anything, notEmpty, ascii, mostBytes, tDecimal, tGeography}
-use Rattle.format.specs.Message.{LoginRequest, LoginResponse, Response, Metadata, hashSize, flagged}
+use Rattle.format.specs.Message.{Response, Metadata, flagged}
 use Rattle.steps.specs.Plans.{also, test, placed}
 
 abbrev pub textFault : (List ℕ → Verdict) → ℕ → List ℕ → Verdict
@@ -75,36 +75,3 @@ openingFault o =
     (also (pick (flagged 32 (o .flags)) (nullTextFault anything 0 (o .statusString)) fine)
     (also (pick (flagged 128 (o .flags)) (nullTextFault anything 0 (o .appString)) fine)
     (pick (flagged 64 (o .flags)) (textFault anything 0 (o .exception)) fine)))
-
--- in version 0 the hash version is ignored
-abbrev pub writtenRequest : ℕ → ℕ → List ℕ → List ℕ → List ℕ → LoginRequest
-writtenRequest version hashVersion service user hash =
-    record { hashVersion = pick (eqb version 1) (some hashVersion) none; service = some service; user = some user; hash = hash }
-
-abbrev pub hashFault : ℕ → List ℕ → Verdict
-hashFault n hash = also (test (leb n (length hash)) Short 0) (test (leb (length hash) n) Extra 0)
-
-unfoldable pub requestFault : ℕ → ℕ → List ℕ → List ℕ → List ℕ → Verdict
-requestFault version hashVersion service user hash =
-    also (test (leb version 1) Version 0)
-    (also (pick (eqb version 1) (test (leb hashVersion 1) Version 0) fine)
-    (also (textFault anything 0 service)
-    (also (textFault anything 0 user)
-    (hashFault (hashSize (pick (eqb version 1) (some hashVersion) none)) hash))))
-
--- with a result other than 0 all that follows it is ignored
-pub record Welcome : Type 0 where
-  pub host : ℕ
-  pub connection : ℕ
-  pub start : ℕ
-  pub leader : ℕ
-  pub build : List ℕ
-
-abbrev pub writtenResponse : ℕ → Welcome → LoginResponse
-writtenResponse result w = record {
-  result = result;
-  server = pick (eqb result 0) (some (record { host = w .host; connection = w .connection; start = w .start; leader = w .leader; build = some (w .build) })) none;
-}
-
-unfoldable pub responseFault : ℕ → ℕ → Welcome → Verdict
-responseFault version result w = also (test (leb version 1) Version 0) (pick (eqb result 0) (textFault anything 0 (w .build)) fine)

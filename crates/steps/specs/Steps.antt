@@ -11,13 +11,13 @@ use Rattle.format.specs.Result.{Res, ok}
 use Rattle.format.specs.Number.{numBytes}
 use Rattle.format.specs.Format.{Verdict, fine}
 use Rattle.format.specs.Value.{Value, value, anything, tNull, tTinyint, tArray}
-use Rattle.format.specs.Message.{Message, Content, aLoginRequest, aLoginResponse, anInvocation, aResponse, Param, null, one, array, bytes, values, param, metadata, message, messageBytes, mostItems, mostColumns, mostMessage, mostRow, unlimited}
+use Rattle.format.specs.Message.{Message, Content, anInvocation, aResponse, Param, null, one, array, bytes, values, param, metadata, message, mostItems, mostColumns, mostMessage, mostRow, unlimited}
 use Rattle.steps.specs.declared.Stage.{Stage}
 use Rattle.steps.specs.declared.Stage.the-variants.{Call, Array, Reply, Table, Row}
 use Rattle.steps.specs.State.{State, noInner, closed, allColumns, isElement, atStage}
 use Rattle.steps.specs.Next.{begunAt, betweenAt, arrayAt, tableAt}
 use Rattle.steps.specs.Plans.{Plan, Out, answerWithin, carry, after, also, test}
-use Rattle.steps.specs.Arguments.{Column, Opening, Welcome, textFault, valueFault, nameFaults, openingFault, requestFault, responseFault, typesOf, metadataOf, opened, writtenRequest, writtenResponse}
+use Rattle.steps.specs.Arguments.{Column, Opening, textFault, valueFault, nameFaults, openingFault, typesOf, metadataOf, opened}
 
 -- the steps, with their arguments
 pub data Step : Type 0 where
@@ -197,14 +197,3 @@ step s st b = carry (plan s st (length b)) st b
 unfoldable pub run : List Step → State → List ℕ → Out State
 run [] st b = record { answer = ok (st .position); state = st; buffer = b }
 run (s ∷ ss) st b = after (step s st b) (run ss)
-
--- the login kinds, a call each, from 0 and with no state
-abbrev pub loginPlan : Verdict → List ℕ → Plan State
-loginPlan faults bs = record { permitted = true; faults = faults; limits = true; most = messageEnd; at = 0; bytes = bs; fills = []; next = λ n. closed n }
-
-unfoldable pub loginRequest : ℕ → ℕ → List ℕ → List ℕ → List ℕ → List ℕ → Out State
-loginRequest version hashVersion service user hash b =
-    carry (loginPlan (requestFault version hashVersion service user hash) (messageBytes 1 (says version (aLoginRequest (writtenRequest version hashVersion service user hash))))) (closed 0) b
-
-unfoldable pub loginResponse : ℕ → ℕ → Welcome → List ℕ → Out State
-loginResponse version result w b = carry (loginPlan (responseFault version result w) (messageBytes 2 (says version (aLoginResponse (writtenResponse result w))))) (closed 0) b

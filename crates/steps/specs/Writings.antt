@@ -9,8 +9,9 @@ use Rattle.format.specs.Number.{Bytes}
 use Rattle.format.specs.Message.{Server, noServer, Content, aLoginRequest, aLoginResponse, anInvocation, aResponse, Message}
 use Rattle.steps.specs.State.{State, closed}
 use Rattle.steps.specs.Plans.{Out}
-use Rattle.steps.specs.Arguments.{Opening, opened, Welcome}
-use Rattle.steps.specs.Steps.{Step, beginCall, beginReply, run, loginRequest, loginResponse}
+use Rattle.steps.specs.Arguments.{Opening, opened}
+use Rattle.steps.specs.Steps.{Step, beginCall, beginReply, run}
+use Rattle.steps.specs.Logins.{Welcome, loginRequest, loginResponse}
 use Rattle.steps.specs.Spells.{textOf, callRest, replyRest, openingOf, AllHeld, HeldClient, HeldOpening, HeldWelcome}
 
 pub data Writing : Type 0 where
@@ -32,9 +33,13 @@ written (responseCall version result w) st b = loginResponse version result w b
 written (callSteps version procedure client ss) st b = run (beginCall version procedure client ∷ ss) st b
 written (replySteps version o ss) st b = run (beginReply version o ∷ ss) st b
 
+-- the buffer b with m laid over its front
+abbrev pub overlaid : List ℕ → List ℕ → List ℕ
+overlaid b m = m ++ drop (length m) b
+
 -- accepted, with the message m in front of the buffer b, and every other byte as it was
 abbrev pub inFront : List ℕ → List ℕ → Out State
-inFront b m = record { answer = ok (length m); state = closed (length m); buffer = m ++ drop (length m) b }
+inFront b m = record { answer = ok (length m); state = closed (length m); buffer = overlaid b m }
 
 -- the code's types hold its arguments
 abbrev pub HeldWriting : Writing → Type 0

@@ -1,8 +1,8 @@
 // Values as the reader shows them, written: one step for a shown value of any fixed size.
 use show::Cell;
 use write::COLUMNS;
+use write::Outcome;
 use write::State;
-use write::Step;
 ghost use mathlib.Core.Path.{_≡_};
 ghost use mathlib.Core.List.{[]};
 ghost use lib.Ieee.{binary64, toBits};
@@ -19,7 +19,7 @@ pub struct Fixed {
 }
 
 // Writes a shown value as a parameter.
-pub fn value_param(out: &mut [u8], st: State, c: Cell) -> Step
+pub fn value_param(out: &mut [u8], st: State, c: Cell) -> Outcome
     ensures { λ r. ⌜ Stepped (oneParam (typeIn c) (valueIn c)) st [] (now (out .entry)) r (now (out .exit)) ⌝ }
 {
     let v = fixed_of(c);
@@ -27,7 +27,7 @@ pub fn value_param(out: &mut [u8], st: State, c: Cell) -> Step
 }
 
 // Writes a shown value into the open array.
-pub fn value_element(out: &mut [u8], st: State, c: Cell) -> Step
+pub fn value_element(out: &mut [u8], st: State, c: Cell) -> Outcome
     ensures { λ r. ⌜ Stepped (element (typeIn c) (valueIn c)) st [] (now (out .entry)) r (now (out .exit)) ⌝ }
 {
     let v = fixed_of(c);
@@ -35,7 +35,7 @@ pub fn value_element(out: &mut [u8], st: State, c: Cell) -> Step
 }
 
 // Writes a shown value into the open row.
-pub fn value_cell(out: &mut [u8], st: State, types: &[u8; COLUMNS], c: Cell) -> Step
+pub fn value_cell(out: &mut [u8], st: State, types: &[u8; COLUMNS], c: Cell) -> Outcome
     ensures { λ r. ⌜ Stepped (cell (typeIn c) (valueIn c)) st (now (types .entry)) (now (out .entry)) r (now (out .exit)) ⌝ }
 {
     let v = fixed_of(c);

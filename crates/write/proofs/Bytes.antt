@@ -1,23 +1,23 @@
 -- The bytes of values that have no fault, and how faults of texts are put together.
 use Prim.Native.Nat.{ℕ}
-use mathlib.Core.Path.{_≡_, refl, sym, ap, _∙_}
-use mathlib.Core.Bool.{Bool, true, false, not, _||_, true≢false}
+use mathlib.Core.Path.{_≡_, refl, sym, ap}
+use mathlib.Core.Bool.{Bool, true, false, not}
 use mathlib.Core.List.{List, [], _∷_, _++_}
 use mathlib.Core.Option.{Option, some, none}
 use lib.ListN.{length}
 use lib.Dec.{leb, eqb}
 use native.Mathlib.Omega.{arith}
 use borrow.Author.Tests.{ne-eqb}
-use Rattle.format.specs.declared.Fault.the-variants.{Limit, Decimal, Point}
+use Rattle.format.specs.declared.Fault.the-variants.{Limit}
 use Rattle.format.specs.Result.{pick}
 use Rattle.format.specs.Number.{numBytes}
 use Rattle.format.specs.Format.{Verdict, fine, bad, number, ruled, into, both, nothing, counted}
-use Rattle.format.specs.Value.{Value, fixed, body, value, string, widthOf, isCounted, isColumn, fixedFine, anything, notEmpty, mostBytes, tNull, tTinyint, tDecimal, tGeography, tArray}
+use Rattle.format.specs.Value.{Value, fixed, body, value, string, widthOf, isCounted, isColumn, fixedFine, anything, notEmpty, mostBytes, tNull, tTinyint, tGeography, tArray}
 use Rattle.format.specs.Message.{one, array, bytes, items, argument, param}
 use Rattle.put.specs.Put.{optional, sized}
 use Rattle.steps.specs.Plans.{also, test, placed}
 use Rattle.steps.specs.Arguments.{textFault, nullTextFault, valueFault}
-use Rattle.write.specs.Shown.{emptyFault}
+use Rattle.write.specs.Shared.{emptyFault}
 use Rattle.steps.proofs.Back.{also-fine, test-fine, no-column, column-fixed}
 
 also-none : (v : Verdict) → also v fine ≡ v

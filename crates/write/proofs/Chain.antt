@@ -3,8 +3,8 @@
 use Prim.Native.Nat.{ℕ, _+_, _≤_}
 use native.Mathlib.Nat.{zero-add}
 use native.Mathlib.Omega.{arith}
-use mathlib.Core.Path.{_≡_, refl, sym, ap, _∙_, subst}
-use mathlib.Core.Bool.{Bool, true, false, _&&_}
+use mathlib.Core.Path.{_≡_, refl, sym, ap, _∙_}
+use mathlib.Core.Bool.{Bool, true, false}
 use mathlib.Core.List.{List, [], _∷_, _++_}
 use lib.ListN.{length, take, drop, length-map}
 use lib.Seq.{sets, sets-eq, length-sets, length-take-le, take-append-seam}
@@ -17,14 +17,15 @@ use Rattle.format.proofs.Results.{and-true-both}
 use Rattle.put.specs.Put.{put}
 use Rattle.write.specs.declared.State.{State as Code}
 use Rattle.write.specs.declared.Answer.the-variants.{Reached, No}
-use Rattle.write.specs.declared.Step.{Step as Came}
+use Rattle.write.specs.declared.Outcome.{Outcome}
 use Rattle.steps.specs.declared.Stage.the-variants.{Table, Row}
 use Rattle.steps.specs.State.{State, stageNumber, allColumns, messageSound, outerSound, sound, atStage}
 use Rattle.steps.specs.Plans.{Plan, Out, also, test, answerOf, outOf, carry, after, fillAll}
 use Rattle.steps.specs.Arguments.{nameFaults, typesOf}
 use Rattle.steps.specs.Steps.{Step, beginCall, nullParam, oneParam, bytesParam, openArray, element, closeArray, finishCall, beginReply, openTable, openRow, cell, closeRow, closeTable, finishReply, plan, step, run}
 use Rattle.write.specs.Shown.{typesIn, seen, shown, answered, came, Stepped, typesAfter}
-use Rattle.steps.proofs.Accepted.{Accepted, answer-ok, step-ok}
+use Rattle.steps.proofs.Plans.{Accepted}
+use Rattle.steps.proofs.Accepted.{step-ok}
 use Rattle.steps.proofs.Back.{also-fine, test-fine}
 use Rattle.write.proofs.Seen.{seen-shown}
 
@@ -65,12 +66,12 @@ leftBy closeTable o types = types
 leftBy finishReply o types = types
 
 -- what the contract of a step's function says, of the types too
-abbrev pub Called : Step → Code → List ℕ → List ℕ → Came → List ℕ → List ℕ → Type 0
+abbrev pub Called : Step → Code → List ℕ → List ℕ → Outcome → List ℕ → List ℕ → Type 0
 Called s st types b r types′ b′ = Stepped s st (lentTo s types) b r b′ × (types′ ≡ leftBy s (step s (seen st (lentTo s types)) b) types)
 
 -- one of them: what it is called on, and what it leaves
 pub record Call (s : Step) (st : Code) (types b : List ℕ) : Type 0 where
-  pub came : Came
+  pub came : Outcome
   pub types′ : List ℕ
   pub b′ : List ℕ
   pub reached : ℕ
@@ -241,12 +242,12 @@ linked s st types b l c =
     let lent = step s (seen st (lentTo s types)) b in
     let o = step s (seen st types) b in
     let n = c .reached in
-    let said : lent .answer ≡ ok n = came-ok st lent n (sym (ap (λ (x : Came). x .answer) (c .called .0 .0)) ∙ c .accepted) in
+    let said : lent .answer ≡ ok n = came-ok st lent n (sym (ap (λ (x : Outcome). x .answer) (c .called .0 .0)) ∙ c .accepted) in
     let same : lent ≡ o = same-step s st types b n said in
     let p = plan s (seen st types) (length b) in
     let w = step-ok s (seen st types) b n (sym (ap (λ (x : Out State). x .answer) same) ∙ said) in
     let is : o ≡ record { answer = ok n; state = p .next n; buffer = fillAll (p .fills) (put b (p .at) (p .bytes)) } = w .1 in
-    let numbers : c .came .state ≡ shown (p .next n) = ap (λ (x : Came). x .state) (c .called .0 .0 ∙ ap (came st) (same ∙ is)) in
+    let numbers : c .came .state ≡ shown (p .next n) = ap (λ (x : Outcome). x .state) (c .called .0 .0 ∙ ap (came st) (same ∙ is)) in
     let types-left : c .types′ ≡ leftBy s (record { answer = ok n; state = p .next n; buffer = b }) types = c .called .1 ∙ ap (λ (x : Out State). leftBy s x types) (same ∙ is) ∙ left-same s types n (p .next n) _ b in
     let back : seen (c .came .state) (c .types′) ≡ p .next n = rw (numbers, types-left) (left-seen s st types b n l (w .0)) in
     let buffer : c .b′ ≡ fillAll (p .fills) (put b (p .at) (p .bytes)) = c .called .0 .1 ∙ ap (λ (x : Out State). x .buffer) (same ∙ is) in

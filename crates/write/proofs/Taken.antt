@@ -15,12 +15,12 @@ use Rattle.put.specs.Put.{put}
 use Rattle.write.specs.declared.State.{State as Code}
 use Rattle.write.specs.declared.Answer.{Answer}
 use Rattle.write.specs.declared.Answer.the-variants.{Reached, No}
-use Rattle.write.specs.declared.Step.{Step as Came}
+use Rattle.write.specs.declared.Outcome.{Outcome}
 use Rattle.steps.specs.State.{State}
-use Rattle.steps.specs.Plans.{Plan, Out, answerWithin, answerOf, outOf, carry, fillAll}
+use Rattle.steps.specs.Plans.{Plan, answerWithin, answerOf, carry, fillAll}
 use Rattle.steps.specs.Steps.{Step, plan, step}
 use Rattle.write.specs.Shown.{seen, shown, shownAnswer, came, Stepped}
-use Rattle.steps.proofs.Accepted.{Accepted, answer-ok}
+use Rattle.steps.proofs.Plans.{Accepted, answer-ok}
 
 -- what the tests of the code gave is what the plan asks; limits and length are asked only of a step that nothing else refuses
 pub answered : {S : Type 0} (p : Plan S) (size : ℕ) {permitted limits : Bool} {v : Verdict} {n : ℕ} {a : Answer} → a ≡ shownAnswer (answerWithin (p .most) permitted v limits (p .at) n size)
@@ -48,7 +48,7 @@ module _ (p : Plan State) (st : Code) (b : List ℕ) (types : List ℕ) where
   unfolding carry
   refused {a} {x} e f =
       let r = shown-no (answerOf p (length b)) e f in
-      (sym (rw r (ap {B = Came} (λ (y : Answer). record { answer = y; state = st }) (sym f))), sym (rw r))
+      (sym (rw r (ap {B = Outcome} (λ (y : Answer). record { answer = y; state = st }) (sym f))), sym (rw r))
 
   -- what comes of one that is taken
   pub record Taken (n : ℕ) : Type 0 where

@@ -1,5 +1,5 @@
 -- Tests that agree, and what a step answers by the first test that fails.
-use Prim.Native.Nat.{ℕ, zero, suc, _+_, _<_, _≤_}
+use Prim.Native.Nat.{ℕ, _+_, _<_, _≤_}
 use mathlib.Core.Path.{_≡_, refl, sym, ap, _∙_}
 use mathlib.Core.Bool.{Bool, true, false, not, _&&_, _||_}
 use mathlib.Core.List.{List, [], _∷_, _++_}
@@ -7,7 +7,6 @@ use lib.ListN.{length, take, getD}
 use lib.Dec.{leb, eqb}
 use lib.Seq.{take-suc}
 use native.Mathlib.Numerals.{add-one}
-use native.Mathlib.Omega.{arith}
 use borrow.Author.Tests.{le-leb, lt-leb, leb-true, leb-false}
 use Rattle.format.specs.declared.Fault.the-variants.{Limit, Output}
 use Rattle.format.specs.Result.{ok, no, pick}

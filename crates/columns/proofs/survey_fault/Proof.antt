@@ -1,7 +1,7 @@
 -- `columns::survey_fault` meets its contract: its tests are the definition's, in its order. Assumes nothing.
 use mathlib.Core.Path.{_≡_, ap₂, _∙_}
 use Rattle.steps.specs.Plans.{also}
-use Rattle.write.specs.Shown.{verdictOf}
+use Rattle.write.specs.Shared.{verdictOf}
 use mathlib.Core.Path.{refl}
 use borrow.Author.Needs.{needs}
 use Rattle.columns.proofs.survey_fault.Statement.{statement}

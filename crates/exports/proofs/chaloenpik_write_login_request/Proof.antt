@@ -1,5 +1,5 @@
 -- `exports::chaloenpik_write_login_request` meets its contract: what the login answers, packed. Assumes nothing.
-use Rattle.steps.specs.Steps.{loginRequest}
+use Rattle.steps.specs.Logins.{loginRequest}
 use Rattle.numbers.proofs.Kept.{wrote-login}
 use borrow.Author.Needs.{needs}
 use Rattle.exports.proofs.chaloenpik_write_login_request.Statement.{statement}

@@ -1,5 +1,5 @@
 -- `exports::chaloenpik_write_login_response` meets its contract: what the login answers, packed. Assumes nothing.
-use Rattle.steps.specs.Steps.{loginResponse}
+use Rattle.steps.specs.Logins.{loginResponse}
 use Rattle.login.specs.Told.{welcome}
 use Rattle.numbers.proofs.Kept.{wrote-login}
 use borrow.Author.Needs.{needs}

@@ -51,7 +51,7 @@ use Rattle.columns.specs.declared.Column.{Column}
 use Rattle.columns.specs.declared.Survey.{Survey}
 use Rattle.columns.specs.declared.Head.{Head}
 use Rattle.write.specs.declared.State.{State}
-use Rattle.write.specs.declared.Step.{Step as Came}
+use Rattle.write.specs.declared.Outcome.{Outcome}
 use Rattle.steps.specs.Steps.{openTable}
 use Rattle.write.specs.Shown.{Opened}
 use Rattle.columns.proofs.Column as T
@@ -59,8 +59,8 @@ use Rattle.columns.proofs.Survey as S
 use Rattle.columns.proofs.Survey.Laws as S′
 use Rattle.columns.proofs.Head as Q
 use Rattle.columns.proofs.Head.Laws as Q′
-use Rattle.write.proofs.Step as R
-use Rattle.write.proofs.Step.Laws as R′
+use Rattle.write.proofs.Outcome as R
+use Rattle.write.proofs.Outcome.Laws as R′
 use Rattle.write.proofs.State as VState
 use Rattle.write.proofs.State.Laws as VState′
 use Rattle.held.proofs.survey as two
@@ -92,7 +92,7 @@ stayed = (gave-slice (0 ∷ []) tt (plain (λ _. u8)), (stay-none (λ _. VState.
 abbrev Around : State → ℕ → Survey → List ℕ → Head → List ℕ → Type 0
 Around st status a ys h zs = (h ≡ headOf st a (headAnswer st a (length ys))) × (zs ≡ headOut st status a (headAnswer st a (length ys)) ys)
 
-abbrev All : List ℕ → List Column → List ℕ → List ℕ → Head → Came → List ℕ → List ℕ → Type 0
+abbrev All : List ℕ → List Column → List ℕ → List ℕ → Head → Outcome → List ℕ → List ℕ → Type 0
 All names es zs types h r zs′ ts′ = let p : Page = putAll names (record { out = zs; types = types; walk = h .walk }) es in (r ≡ h .step) × (zs′ ≡ p .out) × (ts′ ≡ p .types)
 
 none-bounded : (st : State) (z : Survey) → z ≡ noneAt (st .position) → Bounded z
@@ -186,7 +186,7 @@ module _ {M : Type 1} (𝓤 : URA M) (H : Heap 𝓤) (A : Atoms 𝓤) (W : Given
   abbrev KeptOut : Lft → GName → Fml
   KeptOut κ′ δ = LentAgain u8 κ0 κ′ q0 γ0 b0 o0 δ ys
 
-  exits : (r : Came) (u : Val) (zs ts : List ℕ) → Opened (openTable status (columnsOf es names)) st types ys r ts zs → length zs ≡ length ys
+  exits : (r : Outcome) (u : Val) (zs ts : List ℕ) → Opened (openTable status (columnsOf es names)) st types ys r ts zs → length zs ≡ length ys
       → ent 𝓤 (⋆ 𝓤 H A (‵ (R.the-row .own r (u ∷ [])) ∷ (‵ (flft κ0 q0) ⊛ ‵ (flft κ1 q1) ⊛ ‵ (flft κ2 q2) ⊛ ‵ (flft κ3 q3) ⊛ ‵ ftrue) ∷ ‵ (finally u8 γ0 zs) ∷ ‵ OwnSt ∷ ‵ (fres γ1 (Array u8 mostColumns .coded .code ts)) ∷ ‵ Own ∷ ‵ OwnN ∷ [])) (Post u)
   exits r u zs ts e l =
       qed W (‵ (R.the-row .own r (u ∷ [])) ∷ (‵ (flft κ0 q0) ⊛ ‵ (flft κ1 q1) ⊛ ‵ (flft κ2 q2) ⊛ ‵ (flft κ3 q3) ⊛ ‵ ftrue) ∷ ‵ (finally u8 γ0 zs) ∷ ‵ OwnSt ∷ ‵ (fres γ1 (Array u8 mostColumns .coded .code ts)) ∷ ‵ Own ∷ ‵ OwnN ∷ []) ∵
@@ -285,7 +285,7 @@ module _ {M : Type 1} (𝓤 : URA M) (H : Heap 𝓤) (A : Atoms 𝓤) (W : Given
         use2 W (raw (Four 𝓤 H A mem run .pre (to-four (ls .0) h u₃))) (goes-four (ls .0) h u₃ (opens-made st status names es ys types e₁ e₂ e₃ .0)) $
         calls-at ! (fmOf 𝓤 H (W .laws) 𝓣) (Four 𝓤 H A mem run) known-four (to-four (ls .0) h u₃)
         (and-then ! (load ! (from ! (stop !)) (look ! 9 refl)) (and-then ! (load ! (from ! (stop !)) (look ! 7 refl)) (and-then ! (load ! (from ! (stop !)) (look ! 17 refl)) (and-then ! (load ! (from ! (stop !)) (look ! 25 refl)) (and-then ! (load ! (from ! (stop !)) (look ! 23 refl)) (no-more !)))))) (λ u₄.
-        use1 W (later (some (λ (r : Came). ((‵ (flft κ0 q0) ⊛ ‵ (flft κ1 q1) ⊛ ‵ (flft κ2 q2) ⊛ ‵ (flft κ3 q3) ⊛ ‵ ftrue) ⊛ ‵ (R.the-row .own r (u₄ ∷ []))) ⊛ raw (ensured 𝓤 H A four.ended (four.clauses 𝓤 H A mem run) κs (four-args (ls .0) h) tt r)))) (id⊢ 𝓤 _) $ await ! tt $ pick ! (λ r.
+        use1 W (later (some (λ (r : Outcome). ((‵ (flft κ0 q0) ⊛ ‵ (flft κ1 q1) ⊛ ‵ (flft κ2 q2) ⊛ ‵ (flft κ3 q3) ⊛ ‵ ftrue) ⊛ ‵ (R.the-row .own r (u₄ ∷ []))) ⊛ raw (ensured 𝓤 H A four.ended (four.clauses 𝓤 H A mem run) κs (four-args (ls .0) h) tt r)))) (id⊢ 𝓤 _) $ await ! tt $ pick ! (λ r.
         split ! $ move ! (1 ∷ []) $ use1 W (some (λ (ms : List ℕ × (List ℕ × (Unit {0} × (Unit {0} × (Unit {0} × Unit {0}))))). ‵ (lasts four.ended κs (four-args (ls .0) h) ms) ⊛ raw (fact 𝓤 (All names es (ls .0) types h r (ms .0) (ms .1 .0))))) (id⊢ 𝓤 _) $ pick ! (λ ms.
         split ! $ move ! (1 ∷ []) $ heard ! (All names es (ls .0) types h r (ms .0) (ms .1 .0)) (λ e₄. fsplit ! $ fsplit ! $ move ! (1 ∷ []) $ feqL ! (λ l₄′.
         move ! (1 ∷ []) $ fsplit ! $ move ! (3 ∷ []) $ split ! $ move ! (1 ∷ []) $

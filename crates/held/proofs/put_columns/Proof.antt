@@ -57,15 +57,15 @@ use Rattle.columns.specs.Walks.{Fits, FitsAll, moved, columnOut, columnTypes, P
 use Rattle.columns.specs.declared.Column.{Column}
 use Rattle.columns.specs.declared.Walk.{Walk as Place}
 use Rattle.columns.specs.declared.Head.{Head}
-use Rattle.write.specs.declared.Step.{Step as Came}
+use Rattle.write.specs.declared.Outcome.{Outcome}
 use Rattle.columns.proofs.Column as T
 use Rattle.columns.proofs.Column.Laws as T′
 use Rattle.columns.proofs.Walk as P
 use Rattle.columns.proofs.Walk.Laws as P′
 use Rattle.columns.proofs.Head as Q
 use Rattle.columns.proofs.Head.Laws as Q′
-use Rattle.write.proofs.Step as R
-use Rattle.write.proofs.Step.Laws as R′
+use Rattle.write.proofs.Outcome as R
+use Rattle.write.proofs.Outcome.Laws as R′
 use Rattle.columns.proofs.walk_in as start
 use Rattle.columns.proofs.walk_in.Symbol as start-def
 use Rattle.columns.proofs.walk_in.Symbol.{name as #columns·walk-in}
@@ -252,7 +252,7 @@ module _ {M : Type 1} (𝓤 : URA M) (H : Heap 𝓤) (A : Atoms 𝓤) (W : Given
   abbrev KeptTypes : Lft → GName → List ℕ → Fml
   KeptTypes κ′ ε ts = thin.LentAgain (Array u8 mostColumns) κ1 κ′ q1 γ1 b1 o1 ε ts
 
-  exits : (r : Came) (u : Val) (zs ts : List ℕ) → r ≡ h .step → page zs ts (putAll names (page ys types (h .walk)) es .walk) ≡ putAll names (page ys types (h .walk)) es → length zs ≡ length ys
+  exits : (r : Outcome) (u : Val) (zs ts : List ℕ) → r ≡ h .step → page zs ts (putAll names (page ys types (h .walk)) es .walk) ≡ putAll names (page ys types (h .walk)) es → length zs ≡ length ys
       → ent 𝓤 (⋆ 𝓤 H A (‵ (R.the-row .own r (u ∷ [])) ∷ ‵ OwnH ∷ ‵ Own ∷ ‵ (flft κ2 q2) ∷ ‵ OwnN ∷ ‵ (flft κ3 q3) ∷ ‵ (OwnOut zs) ∷ ‵ (flft κ0 q0) ∷ ‵ (OwnTypes ts) ∷ ‵ (flft κ1 q1) ∷ [])) (Post u)
   exits r u zs ts e f l =
       qed W (‵ (R.the-row .own r (u ∷ [])) ∷ ‵ OwnH ∷ ‵ Own ∷ ‵ (flft κ2 q2) ∷ ‵ OwnN ∷ ‵ (flft κ3 q3) ∷ ‵ (OwnOut zs) ∷ ‵ (flft κ0 q0) ∷ ‵ (OwnTypes ts) ∷ ‵ (flft κ1 q1) ∷ []) ∵
@@ -277,7 +277,7 @@ module _ {M : Type 1} (𝓤 : URA M) (H : Heap 𝓤) (A : Atoms 𝓤) (W : Given
   goes-last : ent 𝓤 (⋆ 𝓤 H A (‵ OwnH ∷ [])) (Last 𝓤 H A mem run .pre to-last)
   goes-last = qed W (‵ OwnH ∷ []) ∵ nothing ! $ move ! (1 ∷ 0 ∷ []) $ fjoin ! $ nothing ! $ join ! $ frame ! $ done !
 
-  last-said : (r : Came) → ent 𝓤 (ensured 𝓤 H A last.ended (last.clauses 𝓤 H A mem run) tt (h, tt) tt r) (fact 𝓤 (r ≡ h .step))
+  last-said : (r : Outcome) → ent 𝓤 (ensured 𝓤 H A last.ended (last.clauses 𝓤 H A mem run) tt (h, tt) tt r) (fact 𝓤 (r ≡ h .step))
   last-said r = exE 𝓤 _ (λ ws. snd∗ 𝓤 (sem 𝓤 H A (lasts last.ended tt (h, tt) ws)) (fact 𝓤 (r ≡ h .step)))
 
   -- for the lifetimes ν and ν′, under the names δ and ε
@@ -380,7 +380,7 @@ module _ {M : Type 1} (𝓤 : URA M) (H : Heap 𝓤) (A : Atoms 𝓤) (W : Given
           (λ over. jumps ! $ exec ! (𝓣 .C) (𝓣 .Λ) En mir′.t-4 (atRet En Post) $
           move ! (39 ∷ []) $ use1 W (‵ OwnH ⊛ ‵ OwnH) (LL.copy Q.the-type Q′.the-copy 𝓤 H A W .twice h (vh ∷ [])) $ split ! $ use1 W (raw (Last 𝓤 H A mem run .pre to-last)) goes-last $
           calls-at ! (fmOf 𝓤 H (W .laws) 𝓣) (Last 𝓤 H A mem run) known-last to-last (and-then ! (load ! (from ! (stop !)) (look ! 27 refl)) (no-more !)) (λ u′.
-          use1 W (later (some (λ (r : Came). (‵ ftrue ⊛ ‵ (R.the-row .own r (u′ ∷ []))) ⊛ raw (ensured 𝓤 H A last.ended (last.clauses 𝓤 H A mem run) tt (h, tt) tt r)))) (id⊢ 𝓤 _) $ await ! tt $ pick ! (λ r.
+          use1 W (later (some (λ (r : Outcome). (‵ ftrue ⊛ ‵ (R.the-row .own r (u′ ∷ []))) ⊛ raw (ensured 𝓤 H A last.ended (last.clauses 𝓤 H A mem run) tt (h, tt) tt r)))) (id⊢ 𝓤 _) $ await ! tt $ pick ! (λ r.
           split ! $ move ! (1 ∷ []) $ use1 W (raw (fact 𝓤 (r ≡ h .step))) (last-said r) $ heard ! (r ≡ h .step) (λ e. split ! $ drop ! $
           -- [what the result owns; what head owns; what w owns; what cols owns; its token; _14 at 5; …]
           peeks ! R.the-row (Is R.the-row) (shows 𝓤 H A R.the-row) r (u′ ∷ []) (λ is.

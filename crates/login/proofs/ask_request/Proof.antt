@@ -2,8 +2,8 @@
 use mathlib.Core.Path.{refl, sym, _∙_}
 use mathlib.Core.Bool.{true}
 use Rattle.format.specs.Message.{aLoginRequest, messageBytes}
-use Rattle.steps.specs.Arguments.{requestFault, writtenRequest}
-use Rattle.steps.specs.Steps.{loginPlan, says}
+use Rattle.steps.specs.Steps.{says}
+use Rattle.steps.specs.Logins.{requestFault, writtenRequest, loginPlan}
 use Rattle.write.proofs.Taken.{answered}
 use Rattle.login.proofs.Parts.{is-fine, not-fine, request-limits, request-length-by}
 use borrow.Author.Needs.{needs}

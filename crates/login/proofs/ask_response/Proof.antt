@@ -2,8 +2,8 @@
 use mathlib.Core.Path.{refl, sym, ap₂, _∙_}
 use Rattle.format.specs.Message.{aLoginResponse, messageBytes}
 use Rattle.steps.specs.Plans.{also}
-use Rattle.steps.specs.Arguments.{responseFault, writtenResponse}
-use Rattle.steps.specs.Steps.{loginPlan, says}
+use Rattle.steps.specs.Steps.{says}
+use Rattle.steps.specs.Logins.{responseFault, writtenResponse, loginPlan}
 use Rattle.write.proofs.Taken.{answered}
 use Rattle.login.specs.Told.{welcome}
 use Rattle.login.proofs.Parts.{response-length-none, response-length-some, response-fault-none, response-fault-some}

@@ -8,8 +8,8 @@ use lib.ListN.{length}
 use Rattle.format.specs.Message.{aLoginRequest, messageBytes}
 use Rattle.put.specs.Put.{put, sized}
 use Rattle.put.proofs.Laws.{puts-number, puts-both, sized-some}
-use Rattle.steps.specs.Arguments.{requestFault, writtenRequest}
-use Rattle.steps.specs.Steps.{loginPlan, says, loginRequest}
+use Rattle.steps.specs.Steps.{says}
+use Rattle.steps.specs.Logins.{requestFault, writtenRequest, loginPlan, loginRequest}
 use Rattle.login.specs.Told.{hashPart}
 use Rattle.login.proofs.Parts.{whole, refused, taken, puts-whole, request-length, request-whole}
 use borrow.Author.Needs.{needs}

@@ -10,8 +10,8 @@ use Rattle.format.specs.Result.{pick}
 use Rattle.format.specs.Message.{aLoginResponse, messageBytes, server}
 use Rattle.put.specs.Put.{put}
 use Rattle.put.proofs.Laws.{puts-number, puts-both}
-use Rattle.steps.specs.Arguments.{responseFault, writtenResponse}
-use Rattle.steps.specs.Steps.{loginPlan, says, loginResponse}
+use Rattle.steps.specs.Steps.{says}
+use Rattle.steps.specs.Logins.{responseFault, writtenResponse, loginPlan, loginResponse}
 use Rattle.write.specs.Shown.{shownAnswer}
 use Rattle.login.specs.Told.{welcome, serverOf}
 use Rattle.login.proofs.Parts.{whole, refused, taken, puts-whole, same-answer, server-length, response-length, response-whole-none, response-whole-some}

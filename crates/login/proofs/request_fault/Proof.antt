@@ -2,7 +2,7 @@
 use Prim.Native.Nat.{ℕ}
 use mathlib.Core.Path.{ap, ap₂, _∙_}
 use Rattle.steps.specs.Plans.{also}
-use Rattle.steps.specs.Arguments.{hashFault, requestFault}
+use Rattle.steps.specs.Logins.{hashFault, requestFault}
 use borrow.Author.Needs.{needs}
 use Rattle.login.proofs.request_fault.Statement.{statement}
 use Rattle.login.proofs.request_fault.Tie as tie

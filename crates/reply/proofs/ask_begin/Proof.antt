@@ -5,7 +5,8 @@ use mathlib.Core.Path.{sym, ap, ap₂, _∙_}
 use mathlib.Core.Bool.{true}
 use Rattle.format.specs.Format.{Verdict}
 use Rattle.steps.specs.Steps.{answerAt}
-use Rattle.write.specs.Shown.{shownAnswer, verdictOf}
+use Rattle.write.specs.Shown.{shownAnswer}
+use Rattle.write.specs.Shared.{verdictOf}
 use Rattle.reply.specs.Opening.{beginSize}
 use Rattle.reply.proofs.Openings.{sizes-few, refuses}
 use borrow.Author.Needs.{needs}

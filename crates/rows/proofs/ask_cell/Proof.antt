@@ -6,7 +6,7 @@ use lib.Dec.{ltb, eqb}
 use Rattle.format.specs.declared.Fault.the-variants.{WireType}
 use Rattle.format.specs.Format.{Verdict}
 use Rattle.steps.specs.Plans.{also, test}
-use Rattle.write.specs.Shown.{verdictOf}
+use Rattle.write.specs.Shared.{verdictOf}
 use Rattle.write.proofs.Seen.{counted}
 use Rattle.format.specs.Message.{mostColumns}
 use lib.ListN.{length}

@@ -1,5 +1,4 @@
 -- `write::at_reply` meets its contract: part by part. Assumes nothing.
-use mathlib.Core.Path.{_≡_}
 use Rattle.steps.specs.State.{sound}
 use borrow.Author.Needs.{needs}
 use Rattle.write.proofs.at_reply.Statement.{statement}

@@ -1,19 +1,10 @@
 -- `write::body_fault` meets its contract: the type, the length's limit, then a geography's rule. Assumes nothing.
-use Prim.Native.Nat.{ℕ, _+_, _*_, _^_}
-use mathlib.Core.Path.{_≡_, refl, sym, ap, ap₂, _∙_}
-use mathlib.Core.Bool.{Bool, true, false, not, _||_}
-use mathlib.Core.Logic.{⊎-elim, inl, inr}
-use lib.ListN.{length}
-use lib.Dec.{leb, eqb}
-use borrow.Author.Tests.{ne-eqb, eq-eqb}
-use Rattle.format.specs.declared.Fault.the-variants.{Limit, WireType, Decimal, Point, Geography}
-use Rattle.format.specs.Result.{pick}
-use Rattle.format.specs.Format.{Verdict, fine}
-use Rattle.format.specs.Value.{isCounted, widthOf, fixedFine, decimalFine, pointFine, mostBytes, tDecimal}
+use mathlib.Core.Path.{sym, ap, ap₂, _∙_}
+use mathlib.Core.Bool.{Bool}
+use Rattle.format.specs.declared.Fault.the-variants.{WireType}
 use Rattle.steps.specs.Plans.{test, also}
 use Rattle.steps.specs.Arguments.{valueFault}
-use Rattle.write.specs.Shown.{emptyFault}
-use Rattle.write.proofs.Bytes.{text-limit, body-fault, empty-is}
+use Rattle.write.proofs.Bytes.{body-fault}
 use borrow.Author.Needs.{needs}
 use Rattle.write.proofs.body_fault.Statement.{statement}
 use Rattle.write.proofs.body_fault.Tie as tie

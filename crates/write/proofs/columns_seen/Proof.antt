@@ -1,7 +1,5 @@
 -- `write::columns_seen` meets its contract: by the test. Assumes nothing.
 use borrow.Author.Tests.{le-leb, lt-leb}
-use Rattle.format.specs.Message.{mostColumns}
-use borrow.Author.Needs.{needs}
 use Rattle.write.proofs.columns_seen.Statement.{statement}
 use Rattle.write.proofs.columns_seen.Tie as tie
 

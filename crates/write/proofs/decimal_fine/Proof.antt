@@ -1,5 +1,5 @@
 -- `write::decimal_fine` meets its contract: the upper half's sign is only a way to read its bits.
-use mathlib.Core.Path.{_≡_, ap, _∙_}
+use mathlib.Core.Path.{ap, _∙_}
 use Prim.Native.Nat.{ℕ, _+_, _*_, _^_}
 use mir.Syntax.{w64}
 use mir.ValLaws.{toZ-ofZ}

@@ -1,19 +1,8 @@
 -- `write::empty_fault` meets its contract: only a geography that is there has the rule. Assumes nothing.
-use Prim.Native.Nat.{ℕ, _+_, _*_, _^_}
-use mathlib.Core.Path.{_≡_, refl, sym, ap, ap₂, _∙_}
-use mathlib.Core.Bool.{Bool, true, false, not, _||_}
-use mathlib.Core.Logic.{⊎-elim, inl, inr}
-use lib.ListN.{length}
-use lib.Dec.{leb, eqb}
+use mathlib.Core.Path.{sym, _∙_}
 use borrow.Author.Tests.{ne-eqb, eq-eqb}
-use Rattle.format.specs.declared.Fault.the-variants.{Limit, WireType, Decimal, Point, Geography}
-use Rattle.format.specs.Result.{pick}
-use Rattle.format.specs.Format.{Verdict, fine}
-use Rattle.format.specs.Value.{isCounted, widthOf, fixedFine, decimalFine, pointFine, mostBytes, tDecimal}
-use Rattle.steps.specs.Plans.{test, also}
-use Rattle.steps.specs.Arguments.{valueFault}
-use Rattle.write.specs.Shown.{emptyFault}
-use Rattle.write.proofs.Bytes.{text-limit, body-fault, empty-is}
+use Rattle.steps.specs.Plans.{test}
+use Rattle.write.proofs.Bytes.{empty-is}
 use borrow.Author.Needs.{needs}
 use Rattle.write.proofs.empty_fault.Statement.{statement}
 use Rattle.write.proofs.empty_fault.Tie as tie

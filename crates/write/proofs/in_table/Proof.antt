@@ -1,5 +1,4 @@
 -- `write::in_table` meets its contract: the columns that are seen are counted. Assumes nothing.
-use mathlib.Core.Path.{_≡_}
 use borrow.Author.Needs.{needs}
 use Rattle.write.proofs.in_table.Statement.{statement}
 use Rattle.write.proofs.in_table.Tie as tie

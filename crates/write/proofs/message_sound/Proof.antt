@@ -1,5 +1,4 @@
 -- `write::message_sound` meets its contract: part by part. Assumes nothing.
-use mathlib.Core.Path.{_≡_}
 use Rattle.steps.specs.State.{messageSound}
 use borrow.Author.Needs.{needs}
 use Rattle.write.proofs.message_sound.Statement.{statement}

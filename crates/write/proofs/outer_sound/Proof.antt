@@ -1,5 +1,4 @@
 -- `write::outer_sound` meets its contract: part by part. Assumes nothing.
-use mathlib.Core.Path.{_≡_}
 use Rattle.steps.specs.State.{outerSound}
 use borrow.Author.Needs.{needs}
 use Rattle.write.proofs.outer_sound.Statement.{statement}

@@ -1,6 +1,6 @@
 -- `write::reach` meets its contract: test by test. Assumes nothing.
 use native.Mathlib.Omega.{arith}
-use mathlib.Core.Path.{_≡_, sym, ap, _∙_}
+use mathlib.Core.Path.{sym, ap, _∙_}
 use Rattle.write.specs.Shown.{shownAnswer}
 use Rattle.write.proofs.Tested.{too-far, no-room, there}
 use borrow.Author.Needs.{needs}

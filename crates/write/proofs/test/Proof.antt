@@ -1,6 +1,5 @@
 -- `write::test` meets its contract: by the test. Assumes nothing.
-use mathlib.Core.Path.{_≡_, sym, ap}
-use Rattle.write.specs.Shown.{verdictOf}
+use mathlib.Core.Path.{sym}
 use borrow.Author.Needs.{needs}
 use Rattle.write.proofs.test.Statement.{statement}
 use Rattle.write.proofs.test.Tie as tie
