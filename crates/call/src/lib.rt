@@ -17,6 +17,13 @@ ghost use Rattle.steps.specs.Plans.{answerOf};
 ghost use Rattle.steps.specs.Steps.{plan, beginCall, nullParam, oneParam, bytesParam, openArray, element, closeArray, finishCall};
 ghost use Rattle.write.specs.Shown.{zero, shownAnswer, Stepped};
 
+// The types that a step writes by itself.
+const NULL: u64 = format::NULL as u64;
+
+const TINYINT: u64 = format::TINYINT as u64;
+
+const ARRAY: u64 = format::ARRAY as u64;
+
 // Begins an invocation; its length and its count hold zeros until it is finished.
 pub fn begin_call(out: &mut [u8], version: u8, procedure: &[u8], client: &[u8; 8]) -> Outcome
     ensures { λ r. ⌜ Stepped (beginCall version (now (procedure .entry)) (now (client .entry))) zero [] (now (out .entry)) r (now (out .exit)) ⌝ }
@@ -39,7 +46,7 @@ pub fn null_param(out: &mut [u8], st: State) -> Outcome
             state: st,
         };
     };
-    put::number_at(out, at, 1, 1);
+    put::number_at(out, at, NULL, 1);
     let next = write::between(st, Stage::Call, n, st.count + 1);
     Outcome {
         answer: a,
@@ -63,7 +70,7 @@ pub fn open_array(out: &mut [u8], st: State, t: u8) -> Outcome
             state: st,
         };
     };
-    let mid = put::number_at(out, at, 157, 1);
+    let mid = put::number_at(out, at, ARRAY, 1);
     let count_at = put::number_at(out, mid, t as u64, 1);
     put::number_at(out, count_at, 0, 2);
     let next = write::in_array(st, Stage::Array, n, st.count + 1, n - 2, t, 0);
@@ -187,8 +194,8 @@ pub fn bytes_param(out: &mut [u8], st: State, s: &[u8]) -> Outcome
             state: st,
         };
     };
-    let kind = put::number_at(out, at, 157, 1);
-    let mid = put::number_at(out, kind, 3, 1);
+    let kind = put::number_at(out, at, ARRAY, 1);
+    let mid = put::number_at(out, kind, TINYINT, 1);
     put::text_at(out, mid, false, s);
     let next = write::between(st, Stage::Call, n, st.count + 1);
     Outcome {

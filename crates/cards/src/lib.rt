@@ -33,8 +33,6 @@ const MOST_POSITION: u8 = 63;
 
 const MOST_NAME: usize = 32;
 
-const MOST_BYTE: u8 = 127;
-
 // Where its parts stand: after the kind, the position, the type, the name's length and the name.
 const POSITION: usize = 1;
 
@@ -72,7 +70,11 @@ fn at_most_size(n: usize) -> usize
 fn name_byte(size: usize, k: usize, b: u8) -> bool
     ensures { λ r. ⌜ r ≡ nameByte size k b ⌝ }
 {
-    if k < size { b <= MOST_BYTE } else { b == 0 }
+    if k < size {
+        b <= format::HIGHEST_IN_NAME
+    } else {
+        b == 0
+    }
 }
 
 // The first byte of a name and the zeros after it that is wrong.

@@ -247,7 +247,7 @@ fn ascii_fault(at: usize, name: &[u8]) -> Check
 {
     let mut i = 0;
     while i < name.len() {
-        if 127 < name[i] {
+        if format::HIGHEST_IN_NAME < name[i] {
             return Check::Bad(Refusal {
                 fault: Fault::Name,
                 place: at,

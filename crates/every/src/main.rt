@@ -377,7 +377,7 @@ fn finish_reply(out: &mut [u8], types: &[u8; write::COLUMNS], step: Outcome) -> 
 fn open_table(out: &mut [u8], types: &mut [u8; write::COLUMNS]) -> Outcome {
     let head = Head {
         version: 1,
-        flags: 32 + 64 + 128,
+        flags: format::STATUS_STRING + format::EXCEPTION + format::APP_STRING,
         status: 253,
         status_null: false,
         app_status: 128,

@@ -14,7 +14,7 @@ use Rattle.format.specs.declared.Refusal.{Refusal}
 use Rattle.format.specs.Result.{Res, ok, no, pick}
 use Rattle.format.specs.Number.{numBytes}
 use Rattle.format.specs.Format.{Verdict, fine, bad, number, block, ruled, into, both, nothing, present, counted}
-use Rattle.format.specs.Value.{anything, mostBytes}
+use Rattle.format.specs.Value.{textRule, mostBytes}
 use Rattle.format.specs.Message.{edition, hashSize, server, noServer, loginRequest as requestFormat, loginResponse as responseFormat, aLoginRequest, aLoginResponse, contentOf, message, messageBytes}
 use Rattle.format.proofs.Numbers.{length-numBytes}
 use Rattle.put.specs.Put.{put, sized}
@@ -108,7 +108,7 @@ hash-at-most true h = go (eqb h 1)
     go false = omega arith
 hash-at-most false h = omega arith
 
-text-limit : (p : ℕ) (bs : List ℕ) → textFault anything p bs ≡ fine → length bs ≤ mostBytes
+text-limit : (p : ℕ) (bs : List ℕ) → textFault textRule p bs ≡ fine → length bs ≤ mostBytes
 text-limit p bs e = leb-true (length bs) mostBytes (test-fine (leb (length bs) mostBytes) _ p (also-fine (test (leb (length bs) mostBytes) _ p) fine e .0))
 
 pub request-limits : (version hashing : ℕ) (service user hash : List ℕ) → requestFault version hashing service user hash ≡ fine → (length service ≤ mostBytes) × (length user ≤ mostBytes) × (length hash ≤ 32)
@@ -116,8 +116,8 @@ unfolding requestFault
 request-limits version hashing service user hash e =
     let n = hashSize (pick (eqb version 1) (some hashing) none) in
     let f₁ = pick (eqb version 1) (test (leb hashing 1) Version 0) fine in
-    let f₂ = textFault anything 0 service in
-    let f₃ = textFault anything 0 user in
+    let f₂ = textFault textRule 0 service in
+    let f₃ = textFault textRule 0 user in
     let z₀ = also-fine (test (leb version 1) Version 0) (also f₁ (also f₂ (also f₃ (hashFault n hash)))) e in
     let z₁ = also-fine f₁ (also f₂ (also f₃ (hashFault n hash))) (z₀ .1) in
     let z₂ = also-fine f₂ (also f₃ (hashFault n hash)) (z₁ .1) in
@@ -211,7 +211,7 @@ pub response-fault-none : (version result : ℕ) (w : Welcome) → (result ≡ 0
 unfolding responseFault
 response-fault-none version result w n = rw (ne-eqb result 0 n) (also-none (test (leb version 1) Version 0))
 
-pub response-fault-some : (version result : ℕ) (w : Welcome) → result ≡ 0 → responseFault version result w ≡ also (test (leb version 1) Version 0) (textFault anything 0 (w .build))
+pub response-fault-some : (version result : ℕ) (w : Welcome) → result ≡ 0 → responseFault version result w ≡ also (test (leb version 1) Version 0) (textFault textRule 0 (w .build))
 unfolding responseFault
 response-fault-some version result w e = rw (eq-eqb result 0 e)
 
@@ -223,7 +223,7 @@ unfolding responseFault
 same-answer version result size w u e =
     let l : length (messageBytes 2 (says version (aLoginResponse (writtenResponse result w)))) ≡ length (messageBytes 2 (says version (aLoginResponse (writtenResponse result u)))) =
     response-length version result w ∙ ap (λ (x : List ℕ). 6 + pick (eqb result 0) (28 + length x) 0) e ∙ sym (response-length version result u) in
-    ap₂ (λ (x : List ℕ) (n : ℕ). answerAt true (also (test (leb version 1) Version 0) (pick (eqb result 0) (textFault anything 0 x) fine)) true 0 n size) e l
+    ap₂ (λ (x : List ℕ) (n : ℕ). answerAt true (also (test (leb version 1) Version 0) (pick (eqb result 0) (textFault textRule 0 x) fine)) true 0 n size) e l
 
 -- how long a response is, by its result
 pub response-length-none : (version result : ℕ) (w : Welcome) → (result ≡ 0 → ⊥) → length (messageBytes 2 (says version (aLoginResponse (writtenResponse result w)))) ≡ 6

@@ -161,9 +161,13 @@ fn hash_size(version: u8, hashing: u8) -> usize
     ensures { λ r. ⌜ r ≡ hashSize (pick (eqb version 1) (some hashing) none) ⌝ }
 {
     if version != 1 {
-        return 20;
+        return format::SHORT_HASH;
     }
-    if hashing == 1 { 32 } else { 20 }
+    if hashing == 1 {
+        format::LONG_HASH
+    } else {
+        format::SHORT_HASH
+    }
 }
 
 fn hash_fault(n: usize, hash: &[u8]) -> Check

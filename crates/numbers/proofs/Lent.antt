@@ -22,7 +22,7 @@ use Rattle.show.specs.declared.Cell.{Cell}
 use Rattle.show.proofs.Cell.{the-type}
 use Rattle.values.specs.declared.Fixed.{Fixed}
 use Rattle.values.specs.Fixed.{fixedOf}
-use Rattle.values.proofs.Twos.{wider}
+use Rattle.scan.proofs.Unsigned.{wider}
 use Rattle.numbers.specs.Packed.{packed, nothing}
 use Rattle.numbers.specs.Listed.{lent, cellNumbers}
 use Rattle.numbers.specs.Records.{there}

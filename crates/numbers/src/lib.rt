@@ -365,13 +365,13 @@ pub fn lend_argument(list: &mut [u64; 4], answer: Argued) -> u64
 fn wide8(z: i8) -> u64
     ensures { λ r. ⌜ r ≡ unsigned 8 z ⌝ }
 {
-    values::unsigned64(z as i64)
+    scan::unsigned64(z as i64)
 }
 
 fn wide32(z: i32) -> u64
     ensures { λ r. ⌜ r ≡ unsigned 8 z ⌝ }
 {
-    values::unsigned64(z as i64)
+    scan::unsigned64(z as i64)
 }
 
 // The number that 4 bytes are.
@@ -483,8 +483,8 @@ fn list_login_response(r: LoginResponseRecord) -> [u64; 9]
         wide8(r.version),
         wide8(r.result),
         wide32(r.host),
-        values::unsigned64(r.connection),
-        values::unsigned64(r.start),
+        scan::unsigned64(r.connection),
+        scan::unsigned64(r.start),
         number4(leader[0], leader[1], leader[2], leader[3]),
         there(text),
         build.start,

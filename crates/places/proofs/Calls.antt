@@ -13,7 +13,7 @@ use Rattle.format.specs.Result.{ok, pick}
 use Rattle.format.specs.Number.{numBytes, Bytes}
 use Rattle.format.specs.Format.{Format, number, block, nothing, ruled, into, both, each, counted}
 use Rattle.format.specs.Value.{value, fixed, isColumn, tNull, tArray, tTinyint}
-use Rattle.format.specs.Message.{first, second, list, text, columnType, mostItems, Items, bytes, values, bytes-of, values-of, items, Argument, null, one, array, one-of, array-of, argument, Param, param, Invocation, invocation, Message, contentOf, invocation-of, readMessage}
+use Rattle.format.specs.Message.{first, second, list, text, binary, columnType, mostItems, Items, bytes, values, bytes-of, values-of, items, Argument, null, one, array, one-of, array-of, argument, Param, param, Invocation, invocation, Message, contentOf, invocation-of, readMessage}
 use Rattle.format.proofs.Numbers.{length-numBytes}
 use Rattle.places.specs.Stands.{Stands}
 use Rattle.places.specs.Places.{paramsOf, reparamed, paramAt, elementAt, cutItems}
@@ -109,10 +109,6 @@ module _ {s : List ℕ} {at : ℕ} (t : ℕ) (a : Argument) (d : Stands (argumen
 abbrev pub widthFor : ℕ → ℕ
 widthFor t = pick (eqb t tTinyint) 4 2
 
-tiny-value : {s : List ℕ} {at : ℕ} (b : ℕ) → Stands (number 1 28) s at b → Stands (value 27 28 3) s at (fixed b)
-unfolding value into ruled number
-tiny-value b d = record { good = ((d .good, refl), refl); before = d .before; after = d .after; whole = d .whole; start = d .start }
-
 -- bytes as tinyints
 tiny-each : (k : ℕ) (bs : List ℕ) → Bytes bs → each second k (replicate (length bs) (value 27 28 3)) .Good (map fixed bs) × (each second k (replicate (length bs) (value 27 28 3)) .bytes (map fixed bs) ≡ bs)
 unfolding each nothing value into ruled number
@@ -134,7 +130,7 @@ pub record Listed (s : List ℕ) (at t : ℕ) (l : Items) : Type 0 where
   pub cut : (e : ℕ) → length (items t .bytes (cutItems l e)) ≡ widthFor t + total (value 27 28 t) (take e (valuesIn l))
 
 module _ {s : List ℕ} {at : ℕ} where
-  listed-some : (o : Option (List ℕ)) → Stands (text 26 28) s at o → Listed s at 3 (bytes o)
+  listed-some : (o : Option (List ℕ)) → Stands (binary 26 28) s at o → Listed s at 3 (bytes o)
   unfolding counted items into number
   listed-some none d = absurd (false≢true (d .good))
   listed-some (some bs) d =
@@ -155,7 +151,7 @@ module _ {s : List ℕ} {at : ℕ} where
   listed-bytes : (l : Items) → Stands (items 3) s at l → Listed s at 3 l
   unfolding items into
   listed-bytes l d =
-      let here : Stands (into bytes bytes-of (text 26 28)) s at l = d in
+      let here : Stands (into bytes bytes-of (binary 26 28)) s at l = d in
       rw (← here .good .1) (listed-some (bytes-of l) (stands-into bytes bytes-of here))
 
   listed-list : (t : ℕ) (l : Items) → eqb t 3 ≡ false → Stands (items t) s at l → Listed s at t l

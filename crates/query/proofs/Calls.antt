@@ -24,10 +24,10 @@ use Rattle.places.proofs.Layouts.{length-number}
 use Rattle.places.proofs.Calls.{callSize, name-stands, client-size, params-listed, param-place, call-stands, param-count-stands, params-stand, param-stands, type-stands, argument-stands, is-null, is-one, widthFor, Arrayed, arrayed, element-place, width-small}
 use Rattle.places.proofs.Values.{elementHere}
 use Rattle.query.specs.Answers.{Given, givenOf, ofParam}
-use Rattle.query.specs.Shown.{pastOf, numberIn, byteIn, cellIn, shownOf}
+use Rattle.query.specs.Shown.{pastOf, cellIn, shownOf}
 use Rattle.query.specs.declared.ShownCell.{ShownCell}
 use Rattle.scan.specs.declared.Next.{Next}
-use Rattle.scan.specs.Shown.{shownNext, shownNumber, shownByte}
+use Rattle.scan.specs.Shown.{shownNext, shownNumber, shownByte, numberIn, byteIn}
 use Rattle.scan.proofs.Params.{string-fields}
 use Rattle.scan.proofs.Values.{value-fields}
 use Rattle.show.specs.declared.Cell.{Cell}
@@ -42,8 +42,8 @@ module _ (m : List ℕ) (b : Bytes m) (v : Message) (accepted : readMessage 3 m 
   counted-is =
       let d = call-stands m b v accepted in
       let fit = stands-fits (params-listed d) in
-      let named = stands-read (lawful-counted false mostBytes anything 20 21 (lit< tt)) (name-stands d) in
-      let client-is : client ≡ 5 + callSize (invocation-of (v .content)) = e₁ ∙ rw (← string-fields m 5 false anything 20 21, named) in
+      let named = stands-read (lawful-counted false mostBytes textRule 20 21 (lit< tt)) (name-stands d) in
+      let client-is : client ≡ 5 + callSize (invocation-of (v .content)) = e₁ ∙ rw (← string-fields m 5 false textRule 20 21, named) in
       after-is m 8 client e₂ client-is (omega arith)
 
   pub params-is : {n : ℕ} → n ≡ numberIn (shownNumber (number 2 0 .read m counted)) → n ≡ length (paramsOf v)

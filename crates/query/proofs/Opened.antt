@@ -15,7 +15,7 @@ use Rattle.format.specs.Format.{number, each}
 use Rattle.format.specs.Message.{first, third, head, Table, table, Message, response-of, responseLayout, readMessage}
 use Rattle.format.proofs.Results.{ok-same, no-ok, bound}
 use Rattle.format.proofs.Formats.{lawful-head}
-use Rattle.scan.specs.Shown.{shownNext, shownNumber}
+use Rattle.scan.specs.Shown.{shownNext, shownNumber, numberIn}
 use Rattle.message.specs.declared.Verdict.{Verdict}
 use Rattle.message.specs.Verdict.{toldVerdict, verdictOf}
 use Rattle.places.specs.Stands.{Stands}
@@ -26,7 +26,7 @@ use Rattle.places.proofs.Lists.{entry-in, entry-past, entry-missing, sized}
 use Rattle.places.proofs.Layouts.{length-number, sized-table, name, names-from, names-stand, metadata-stands, type-place}
 use Rattle.places.proofs.Replies.{headSize, head-stands, table-place, response-stands, table-count-stands, tables-stand, table-stands}
 use Rattle.places.proofs.Values.{Shows, there}
-use Rattle.query.specs.Shown.{pastOf, numberIn, shownOf}
+use Rattle.query.specs.Shown.{pastOf, shownOf}
 use Rattle.query.specs.declared.ColumnLayout.{ColumnLayout}
 use Rattle.query.specs.Answers.{perhaps, ofPart, ofTable, layoutOf, columnOf, shownHere, partOf, toldPart}
 use Rattle.query.specs.declared.Part.{Part}

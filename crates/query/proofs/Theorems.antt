@@ -1,5 +1,5 @@
--- What the definitions of specs/Answers.antt amount to: an answer is decided by what it says, a search finds the first equal name, and a cell is the
--- bytes that stand at its place. (proofs/Listed.antt has the same beside the field list.)
+-- What the definitions of specs/Answers.antt amount to: an answer is decided by what it says, a search finds the first equal name, and a part of a cell is its
+-- body. (The crate `places` has that a cell is the bytes at its place, and is listed there.)
 use Prim.Native.Nat.{ℕ, zero, suc, _+_, _<_}
 use mathlib.Core.Path.{_≡_, refl, sym, _∙_, ap}
 use mathlib.Core.Bool.{Bool, true, false, false≢true, true≢false}
@@ -115,7 +115,7 @@ module _ (name : List ℕ) where
       by-name others false is h zero there = named-not n is there
       by-name others false is h (suc k) there = others h k there
 
--- ---- a cell, a parameter's value or an element is the bytes at its place, and a part of it is its body
+-- ---- a part of a cell, of a parameter's value or of an element is its body
 module _ (m : List ℕ) (h : Here) (w : Shows m h) where
   pub part-is-value : (p : ℕ × ℕ) → partOf (h .type-at) (shownHere h) ≡ ok (some p) → h .value ≡ body (some (partIn m (ok (some p))))
   part-is-value p e = part-stands (w .length-field) (w .body-field) (h .type) (h .type-at) (h .value) (w .stands) e .1

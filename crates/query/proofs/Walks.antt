@@ -11,7 +11,7 @@ use Rattle.format.specs.Format.{Format, Index, number, nothing, each, counted}
 use Rattle.format.specs.Message.{first, Table, metadata, row, table, second, third}
 use Rattle.format.proofs.Laws.{lawful-number, lawful-each, all-map, length-each}
 use Rattle.format.proofs.Formats.{lawful-value}
-use Rattle.scan.specs.Shown.{shownNext, shownNumber, shownByte}
+use Rattle.scan.specs.Shown.{shownNext, shownNumber, shownByte, numberIn, byteIn}
 use Rattle.scan.proofs.Params.{number-fields}
 use Rattle.scan.proofs.Values.{value-fields}
 use Rattle.format.proofs.Results.{ok-same}
@@ -25,7 +25,7 @@ use Rattle.places.proofs.Stands.{stands-read, stands-fits, stands-at}
 use Rattle.places.proofs.Lists.{Sized, sized, total, jump-lands, entry-in, stands-entry, stands-front, front-bytes}
 use Rattle.places.proofs.Layouts.{length-number, status-stands, columns-stand, types-stand, names-stand, metadata-stands, row-count-stands, rows-stand, type-place, name-place, row-place, sized-table, sized-metadata, sized-row, cells-stand, types-part, cell-place, sized-name, names-all, name, type-stands, name-length-stands}
 use Rattle.places.proofs.Values.{there}
-use Rattle.query.specs.Shown.{pastOf, numberIn, byteIn, cellIn, spotOf, shownOf}
+use Rattle.query.specs.Shown.{pastOf, cellIn, spotOf, shownOf}
 use Rattle.query.specs.Answers.{layoutOf, shownHere, columnOf}
 use Rattle.query.specs.declared.TableLayout.{TableLayout}
 use Rattle.query.specs.declared.Spot.{Spot}

@@ -2,8 +2,6 @@
 use Prim.Native.Nat.{ℕ}
 use Rattle.format.specs.Result.{Res, ok, no}
 use Rattle.scan.specs.declared.Next.{Next}
-use Rattle.scan.specs.declared.Number.{Number}
-use Rattle.scan.specs.declared.Byte.{Byte}
 use Rattle.show.specs.declared.Cell.{Cell}
 use Rattle.show.specs.declared.Shown.{Shown}
 use Rattle.places.specs.Entries.{Here}
@@ -12,18 +10,10 @@ use Rattle.query.specs.declared.ShownCell.{ShownCell}
 use Rattle.query.specs.declared.FoundCell.{FoundCell}
 use Rattle.query.specs.Answers.{shownHere}
 
--- where a reading ended, and the number that it gave; after an acceptance no reading here is refused, and what stands for a refusal is never used
+-- where a reading ended; after an acceptance no reading here is refused, and what stands for a refusal is never used
 abbrev pub pastOf : Next → ℕ
 pastOf (Next.At next) = next
 pastOf (Next.No r) = 0
-
-abbrev pub numberIn : Number → ℕ
-numberIn (Number.Is n next) = n
-numberIn (Number.No r) = 0
-
-abbrev pub byteIn : Byte → ℕ
-byteIn (Byte.Is b next) = b
-byteIn (Byte.No r) = 0
 
 abbrev pub cellIn : Shown → Cell
 cellIn (Shown.Is c next) = c

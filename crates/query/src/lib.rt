@@ -5,9 +5,7 @@ use format::Fault;
 use format::Refusal;
 use message::Verdict;
 use scan::Body;
-use scan::Byte;
 use scan::Next;
-use scan::Number;
 use show::Shown;
 ghost use mathlib.Core.Path.{_≡_};
 ghost use mathlib.Core.Bool.{false};
@@ -21,12 +19,12 @@ ghost use Rattle.format.specs.Result.{ok, bind, pick};
 ghost use Rattle.format.specs.Format.{number, each, counted};
 ghost use Rattle.format.specs.Value.{string, anything, ascii, value, tTinyint};
 ghost use Rattle.format.specs.Message.{first, third, unlimited, Message, readMessage, responseLayout, head, Table, table, Param, param};
-ghost use Rattle.scan.specs.Shown.{shownNext, shownNumber, shownByte, bodyEnd, refusal};
+ghost use Rattle.scan.specs.Shown.{shownNext, shownNumber, numberIn, refusal};
 ghost use Rattle.show.specs.Cells.{cellOf, shownAs};
 ghost use Rattle.places.specs.Stands.{Stands};
 ghost use Rattle.places.specs.Places.{tablesOf, tableAt, typeAt, nameAt, rowAt, paramsOf, paramAt};
 ghost use Rattle.places.specs.Entries.{entry, cellHere, valueHere, elementOf};
-ghost use Rattle.query.specs.Shown.{pastOf, numberIn, byteIn, cellIn, spotOf, shownOf, toldFound};
+ghost use Rattle.query.specs.Shown.{pastOf, cellIn, spotOf, shownOf, toldFound};
 ghost use Rattle.query.specs.Answers.{perhaps, ofTable, ofParam, layoutOf, columnOf, firstNamed, namedOf, partOf, partIn, givenOf, askTables, askTable, askColumn, askPlaced, askPosition, askNamed, askCell, askCellSpan, askParameter, askParameterSpan, askElement, askElementSpan, toldCount, toldTable, toldColumn, toldPlaced, toldPosition, toldNamed, toldCell, toldPart, toldArgument};
 
 // ---- What the questions are answered with.
@@ -123,25 +121,6 @@ fn past(a: Next) -> usize
     }
 }
 
-// The number that was read where that can't fail.
-fn number_in(a: Number) -> usize
-    ensures { λ r. ⌜ r ≡ numberIn a ⌝ }
-{
-    match a {
-        Number::Is(n, _) => n as usize,
-        Number::No(_) => 0,
-    }
-}
-
-fn byte_in(a: Byte) -> u8
-    ensures { λ r. ⌜ r ≡ byteIn a ⌝ }
-{
-    match a {
-        Byte::Is(b, _) => b,
-        Byte::No(_) => 0,
-    }
-}
-
 fn cell_in(a: Shown) -> show::Cell
     ensures { λ r. ⌜ r ≡ cellIn a ⌝ }
 {
@@ -162,14 +141,7 @@ fn after(m: &[u8], at: usize, n: usize) -> usize
 fn count_at(m: &[u8], at: usize, k: usize) -> usize
     ensures { λ r. ⌜ r ≡ numberIn (shownNumber (number (min k 8) 0 .read (now (m .entry)) at)) ⌝ }
 {
-    number_in(scan::read_number(m, at, k))
-}
-
-// The byte that is there.
-fn byte_at(m: &[u8], at: usize) -> u8
-    ensures { λ r. ⌜ r ≡ byteIn (shownByte (number 1 0 .read (now (m .entry)) at)) ⌝ }
-{
-    byte_in(scan::read_byte(m, at))
+    scan::number_at(m, at, k) as usize
 }
 
 fn value_at(m: &[u8], at: usize, t: u8) -> show::Cell
@@ -178,21 +150,11 @@ fn value_at(m: &[u8], at: usize, t: u8) -> show::Cell
     cell_in(show::read_value(m, at, t))
 }
 
-fn body_end(b: Body) -> Next
-    ensures { λ r. ⌜ r ≡ bodyEnd b ⌝ }
-{
-    match b {
-        Body::Is(_, end) => Next::At(end),
-        Body::Null(next) => Next::At(next),
-        Body::No(r) => Next::No(r),
-    }
-}
-
 // Past a thing that begins with its length, by that alone.
 fn skip_sized(s: &[u8], at: usize) -> Next
     ensures { λ r. ⌜ r ≡ shownNext (counted false unlimited anything 0 0 .read (now (s .entry)) at) ⌝ }
 {
-    body_end(scan::read_body(s, at, false, format::UNLIMITED))
+    scan::body_end(scan::read_body(s, at, false, format::UNLIMITED))
 }
 
 // Past n things that begin with their length, by their lengths alone.
@@ -266,7 +228,7 @@ fn layout_at(m: &[u8], at: usize) -> TableLayout
     let end = over(m, at, 1);
     let inner = after(m, at, 4);
     let described = after(m, inner, 4);
-    let status = byte_at(m, described);
+    let status = scan::byte_at(m, described);
     let counted = after(m, described, 1);
     let columns = count_at(m, counted, 2);
     let types = after(m, counted, 2);
@@ -323,7 +285,7 @@ fn column_at(m: &[u8], types: usize, names: usize, c: usize) -> ColumnLayout
         → c < length (b .metadata .types) → ok r ≡ columnOf at b c) ⌝ }
 {
     let type_at = after(m, types, c);
-    let wire_type = byte_at(m, type_at);
+    let wire_type = scan::byte_at(m, type_at);
     let named = over(m, names, c);
     let name_length = count_at(m, named, 4);
     let name = after(m, named, 4);
@@ -473,7 +435,7 @@ fn spot_at(m: &[u8], types: usize, rows: usize, k: usize, c: usize) -> Spot
         → k < length (b .rows) → c < length (b .metadata .types) → ok r ≡ bind (cellHere at b k c) (λ h. ok (spotOf h))) ⌝ }
 {
     let type_at = after(m, types, c);
-    let wire_type = byte_at(m, type_at);
+    let wire_type = scan::byte_at(m, type_at);
     let row = over(m, rows, k);
     let cells = after(m, row, 4);
     let at = past(skip_front(m, cells, types, c));
@@ -638,15 +600,15 @@ fn count_width(t: u8) -> usize
 fn argument_at(m: &[u8], at: usize) -> Argued
     ensures { λ r. ⌜ ((q : Param) → Stands param (now (m .entry)) at q → toldArgument r ≡ ok (givenOf at (q .type) (q .argument))) ⌝ }
 {
-    let t = byte_at(m, at);
+    let t = scan::byte_at(m, at);
     let inner = after(m, at, 1);
     if t == format::NULL {
         return Argued::Null;
     }
-    if t != 157 {
+    if t != format::ARRAY {
         return Argued::One(value_at(m, inner, t));
     }
-    let e = byte_at(m, inner);
+    let e = scan::byte_at(m, inner);
     let counted = after(m, inner, 1);
     Argued::Array(e, count_at(m, counted, count_width(e)))
 }
@@ -666,7 +628,7 @@ pub fn parameter(m: &[u8], p: usize) -> Argued
 fn one_at(m: &[u8], at: usize) -> FoundCell
     ensures { λ r. ⌜ ((q : Param) → Stands param (now (m .entry)) at q → toldFound r ≡ bind (valueHere at (q .type) (q .argument)) (λ h. ok (shownOf h))) ⌝ }
 {
-    let t = byte_at(m, at);
+    let t = scan::byte_at(m, at);
     if t == format::NULL {
         return FoundCell::No(wrong_type(at));
     }
@@ -705,11 +667,11 @@ pub fn parameter_part(m: &[u8], p: usize) -> &[u8]
 fn element_at(m: &[u8], at: usize, e: usize) -> FoundCell
     ensures { λ r. ⌜ ((q : Param) → Stands param (now (m .entry)) at q → toldFound r ≡ bind (elementOf at (q .argument) e) (λ h. ok (shownOf h))) ⌝ }
 {
-    if byte_at(m, at) != 157 {
+    if scan::byte_at(m, at) != format::ARRAY {
         return FoundCell::No(wrong_type(at));
     }
     let type_at = after(m, at, 1);
-    let t = byte_at(m, type_at);
+    let t = scan::byte_at(m, type_at);
     let counted = after(m, type_at, 1);
     let width = count_width(t);
     if count_at(m, counted, width) <= e {

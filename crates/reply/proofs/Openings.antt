@@ -14,7 +14,7 @@ use Rattle.format.specs.declared.Refusal.{Refusal}
 use Rattle.format.specs.Result.{pick}
 use Rattle.format.specs.Number.{numBytes}
 use Rattle.format.specs.Format.{Verdict, fine, number, block, ruled, both, present, nothing, into, counted}
-use Rattle.format.specs.Value.{anything, mostBytes}
+use Rattle.format.specs.Value.{anything, textRule, mostBytes}
 use Rattle.format.specs.Message.{nullText, text, flagged, head as headFormat, aResponse, message}
 use Rattle.format.proofs.Numbers.{length-numBytes}
 use Rattle.put.specs.Put.{put, optional, sized}
@@ -119,8 +119,8 @@ opening-limits : (h : Head) (status app exception : List ℕ) → beginFault h s
 unfolding openingFault
 opening-limits h status app exception e =
     let f₀ = test (eqb (h .flags % 32) 0) Flags 0 in
-    let f₁ = pick (flagged 32 (h .flags)) (nullTextFault anything 0 (optional (h .«status_null») status)) fine in
-    let f₂ = pick (flagged 128 (h .flags)) (nullTextFault anything 0 (optional (h .«app_null») app)) fine in
+    let f₁ = pick (flagged 32 (h .flags)) (nullTextFault textRule 0 (optional (h .«status_null») status)) fine in
+    let f₂ = pick (flagged 128 (h .flags)) (nullTextFault textRule 0 (optional (h .«app_null») app)) fine in
     let f₃ = pick (flagged 64 (h .flags)) (textFault anything 0 exception) fine in
     let z₀ = also-fine (test (leb (h .version) 1) Version 0) (also f₀ (also f₁ (also f₂ f₃))) e in
     let z₁ = also-fine f₀ (also f₁ (also f₂ f₃)) (z₀ .1) in

@@ -1,19 +1,21 @@
 // The steps that write a response.
+use format::APP_STRING;
+use format::EXCEPTION;
 use format::Fault;
+use format::STATUS_STRING;
 use steps::Stage;
 use write::Answer;
 use write::Check;
 use write::Outcome;
 use write::State;
 ghost use mathlib.Core.Path.{_≡_};
-ghost use Prim.Native.Nat.{_+_, _<_, _≤_};
+ghost use Prim.Native.Nat.{_+_, _≤_};
 ghost use mathlib.Core.Bool.{true};
 ghost use mathlib.Core.List.{[]};
 ghost use lib.ListN.{length};
 ghost use Rattle.format.specs.Result.{pick};
 ghost use Rattle.format.specs.Format.{fine};
 ghost use Rattle.format.specs.Value.{anything};
-ghost use Rattle.format.specs.Message.{flagged};
 ghost use Rattle.put.specs.Put.{put, optional};
 ghost use Rattle.steps.specs.Plans.{answerOf};
 ghost use Rattle.steps.specs.Arguments.{nullTextFault};
@@ -32,13 +34,6 @@ pub struct Head {
     pub app_null: bool,
     pub round_trip: u32,
 }
-
-// What each flag lets in.
-const STATUS_STRING: u8 = 32;
-
-const EXCEPTION: u8 = 64;
-
-const APP_STRING: u8 = 128;
 
 // Begins a response: all its fields before the table count, and the count's zeros. A string whose flag is not set is ignored.
 pub fn begin_reply(
@@ -97,9 +92,13 @@ fn ask_begin(h: Head, status: &[u8], app: &[u8], exception: &[u8], size: usize) 
     let Check::Fine = fault else {
         return write::judge(true, fault, true, 0, 0, size);
     };
-    let first = let_in_size(has_flag(h.flags, STATUS_STRING), h.status_null, status);
-    let second = let_in_size(has_flag(h.flags, APP_STRING), h.app_null, app);
-    let third = let_in_size(has_flag(h.flags, EXCEPTION), false, exception);
+    let first = let_in_size(
+        scan::has_flag(h.flags, STATUS_STRING),
+        h.status_null,
+        status,
+    );
+    let second = let_in_size(scan::has_flag(h.flags, APP_STRING), h.app_null, app);
+    let third = let_in_size(scan::has_flag(h.flags, EXCEPTION), false, exception);
     write::judge(true, fault, true, 0, 22 + (first + (second + third)), size)
 }
 
@@ -108,10 +107,14 @@ fn opening_fault(h: Head, status: &[u8], app: &[u8], exception: &[u8]) -> Check
     ensures { λ r. ⌜ verdictOf r ≡ beginFault h (now (status .entry)) (now (app .entry)) (now (exception .entry)) ⌝ }
 {
     let edition = write::test(h.version <= 1, Fault::Version, 0);
-    let flags = write::test(h.flags % 32 == 0, Fault::Flags, 0);
-    let first = let_in_fault(has_flag(h.flags, STATUS_STRING), h.status_null, status);
-    let second = let_in_fault(has_flag(h.flags, APP_STRING), h.app_null, app);
-    let third = let_in_fault(has_flag(h.flags, EXCEPTION), false, exception);
+    let flags = write::test(h.flags % STATUS_STRING == 0, Fault::Flags, 0);
+    let first = let_in_fault(
+        scan::has_flag(h.flags, STATUS_STRING),
+        h.status_null,
+        status,
+    );
+    let second = let_in_fault(scan::has_flag(h.flags, APP_STRING), h.app_null, app);
+    let third = let_in_fault(scan::has_flag(h.flags, EXCEPTION), false, exception);
     write::also(
         edition,
         write::also(flags, write::also(first, write::also(second, third))),
@@ -148,12 +151,18 @@ fn middle_at(out: &mut [u8], at: usize, h: Head, status: &[u8], app: &[u8]) -> u
     let first = let_in_at(
         out,
         at,
-        has_flag(h.flags, STATUS_STRING),
+        scan::has_flag(h.flags, STATUS_STRING),
         h.status_null,
         status,
     );
     let second = put::number_at(out, first, h.app_status as u64, 1);
-    let_in_at(out, second, has_flag(h.flags, APP_STRING), h.app_null, app)
+    let_in_at(
+        out,
+        second,
+        scan::has_flag(h.flags, APP_STRING),
+        h.app_null,
+        app,
+    )
 }
 
 // Writes the fields from the round trip on; the table count holds zeros.
@@ -162,18 +171,17 @@ fn end_at(out: &mut [u8], at: usize, h: Head, exception: &[u8]) -> usize
     ensures { λ r. ⌜ (r ≡ at + (4 + (length (exceptionPart h (now (exception .entry))) + 2))) × (now (out .exit) ≡ put (now (out .entry)) at (endBytes h (now (exception .entry)))) ⌝ }
 {
     let first = put::number_at(out, at, h.round_trip as u64, 4);
-    let second = let_in_at(out, first, has_flag(h.flags, EXCEPTION), false, exception);
+    let second = let_in_at(
+        out,
+        first,
+        scan::has_flag(h.flags, EXCEPTION),
+        false,
+        exception,
+    );
     put::number_at(out, second, 0, 2)
 }
 
 // Whether a flag is set, by its value.
-fn has_flag(flags: u8, bit: u8) -> bool
-    requires { ⌜ 0 < bit ⌝ }
-    ensures { λ r. ⌜ r ≡ flagged bit flags ⌝ }
-{
-    flags / bit % 2 == 1
-}
-
 // What is wrong with a string that its flag lets in.
 fn let_in_fault(there: bool, null: bool, s: &[u8]) -> Check
     ensures { λ r. ⌜ verdictOf r ≡ pick there (nullTextFault anything 0 (optional null (now (s .entry)))) fine ⌝ }

@@ -8,7 +8,7 @@ use lib.Dec.{leb, eqb}
 use Rattle.format.specs.declared.Fault.the-variants.{Limit, WireType, Decimal, Point, Flags, PastEnd}
 use Rattle.format.specs.Result.{pick}
 use Rattle.format.specs.Format.{Verdict, fine, bad}
-use Rattle.format.specs.Value.{Value, fixed, body, widthOf, isCounted, fixedFine, anything, notEmpty, ascii, mostBytes, tDecimal, tGeography}
+use Rattle.format.specs.Value.{Value, fixed, body, widthOf, isCounted, fixedFine, anything, textRule, ruleOf, ascii, mostBytes, tDecimal}
 use Rattle.format.specs.Message.{Response, Metadata, flagged}
 use Rattle.steps.specs.Plans.{also, test, placed}
 
@@ -21,7 +21,7 @@ nullTextFault rule p (some bs) = textFault rule p bs
 
 unfoldable pub valueFault : ℕ → ℕ → Value → Verdict
 valueFault p t (fixed n) = also (test (not (eqb (widthOf t) 0)) WireType p) (test (fixedFine t n) (pick (eqb t tDecimal) Decimal Point) p)
-valueFault p t (body b) = also (test (isCounted t) WireType p) (nullTextFault (pick (eqb t tGeography) notEmpty anything) p b)
+valueFault p t (body b) = also (test (isCounted t) WireType p) (nullTextFault (ruleOf t) p b)
 
 -- a column's type, and its name; none for an entry past the name buffer
 pub record Column : Type 0 where
@@ -72,6 +72,6 @@ opened o = record {
 unfoldable pub openingFault : Opening → Verdict
 openingFault o =
     also (test (eqb (o .flags % 32) 0) Flags 0)
-    (also (pick (flagged 32 (o .flags)) (nullTextFault anything 0 (o .statusString)) fine)
-    (also (pick (flagged 128 (o .flags)) (nullTextFault anything 0 (o .appString)) fine)
+    (also (pick (flagged 32 (o .flags)) (nullTextFault textRule 0 (o .statusString)) fine)
+    (also (pick (flagged 128 (o .flags)) (nullTextFault textRule 0 (o .appString)) fine)
     (pick (flagged 64 (o .flags)) (textFault anything 0 (o .exception)) fine)))

@@ -9,7 +9,7 @@ use Rattle.format.specs.declared.Fault.the-variants.{WireType, Decimal, Point}
 use Rattle.format.specs.Result.{ok, pick}
 use Rattle.format.specs.Number.{Bytes}
 use Rattle.format.specs.Format.{bad, number, ruled, into}
-use Rattle.format.specs.Value.{Value, fixed, body, number-of, body-of, value, string, widthOf, isColumn, isCounted, fixedFine, notEmpty, anything, tDecimal, tGeography}
+use Rattle.format.specs.Value.{Value, fixed, body, number-of, body-of, value, string, widthOf, isColumn, isCounted, fixedFine, ruleOf, tDecimal}
 use Rattle.format.proofs.Formats.{lawful-value}
 use Rattle.show.specs.declared.Cell.{Cell}
 use Rattle.show.specs.Cells.{cellOf, typeOf}
@@ -23,7 +23,7 @@ unfolding value into
 not-counted l b t n g = go (isCounted t) refl g
   where
     go : (k : Bool) → isCounted t ≡ k
-        → pick k (into body body-of (string true (pick (eqb t tGeography) notEmpty anything) l b)) (into fixed number-of (ruled (fixedFine t) (pick (eqb t tDecimal) Decimal Point) (number (widthOf t) b))) .Good (fixed n)
+        → pick k (into body body-of (string true (ruleOf t) l b)) (into fixed number-of (ruled (fixedFine t) (pick (eqb t tDecimal) Decimal Point) (number (widthOf t) b))) .Good (fixed n)
         → isCounted t ≡ false
     go true e g = let z : _≡_ {A = ℕ} 0 1 = cc in absurd (omega arith)
     go false e g = e

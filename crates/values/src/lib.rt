@@ -6,7 +6,6 @@ use write::State;
 ghost use mathlib.Core.Path.{_≡_};
 ghost use mathlib.Core.List.{[]};
 ghost use lib.Ieee.{binary64, toBits};
-ghost use Rattle.scan.specs.Signed.{unsigned};
 ghost use Rattle.steps.specs.Steps.{oneParam, element, cell};
 ghost use Rattle.write.specs.Shown.{Stepped};
 ghost use Rattle.values.specs.Fixed.{typeIn, valueIn, fixedOf};
@@ -47,14 +46,14 @@ pub fn fixed_of(c: Cell) -> Fixed
     ensures { λ r. ⌜ r ≡ fixedOf c ⌝ }
 {
     match c {
-        Cell::Tinyint(z) => made(format::TINYINT, 0, unsigned8(z)),
-        Cell::Smallint(z) => made(format::SMALLINT, 0, unsigned16(z)),
-        Cell::Integer(z) => made(format::INTEGER, 0, unsigned32(z)),
-        Cell::Bigint(z) => made(format::BIGINT, 0, unsigned64(z)),
-        Cell::Timestamp(z) => made(format::TIMESTAMP, 0, unsigned64(z)),
+        Cell::Tinyint(z) => made(format::TINYINT, 0, scan::unsigned8(z)),
+        Cell::Smallint(z) => made(format::SMALLINT, 0, scan::unsigned16(z)),
+        Cell::Integer(z) => made(format::INTEGER, 0, scan::unsigned32(z)),
+        Cell::Bigint(z) => made(format::BIGINT, 0, scan::unsigned64(z)),
+        Cell::Timestamp(z) => made(format::TIMESTAMP, 0, scan::unsigned64(z)),
         Cell::Float(x) => made(format::FLOAT, 0, float_bits(x)),
         Cell::FloatBits(bits) => made(format::FLOAT, 0, bits),
-        Cell::Decimal(upper, lower) => made(format::DECIMAL, unsigned64(upper), lower),
+        Cell::Decimal(upper, lower) => made(format::DECIMAL, scan::unsigned64(upper), lower),
         Cell::Point(x, y) => made(format::POINT, float_bits(x), float_bits(y)),
         _ => made(0, 0, 0),
     }
@@ -67,35 +66,6 @@ fn made(t: u8, upper: u64, lower: u64) -> Fixed
         wire_type: t,
         upper: upper,
         lower: lower,
-    }
-}
-
-// The bytes of a signed number, without its sign: 1, 2, 4 and 8 of them.
-fn unsigned8(z: i8) -> u64
-    ensures { λ r. ⌜ r ≡ unsigned 1 z ⌝ }
-{
-    unsigned64(z as i64) % 0x100
-}
-
-fn unsigned16(z: i16) -> u64
-    ensures { λ r. ⌜ r ≡ unsigned 2 z ⌝ }
-{
-    unsigned64(z as i64) % 0x1_0000
-}
-
-fn unsigned32(z: i32) -> u64
-    ensures { λ r. ⌜ r ≡ unsigned 4 z ⌝ }
-{
-    unsigned64(z as i64) % 0x1_0000_0000
-}
-
-pub fn unsigned64(z: i64) -> u64
-    ensures { λ r. ⌜ r ≡ unsigned 8 z ⌝ }
-{
-    if z < 0 {
-        0xffff_ffff_ffff_ffff - ((-1 - z) as u64)
-    } else {
-        z as u64
     }
 }
 

@@ -12,7 +12,7 @@ use Rattle.format.specs.declared.Fault.the-variants.{Limit}
 use Rattle.format.specs.Result.{pick}
 use Rattle.format.specs.Number.{numBytes}
 use Rattle.format.specs.Format.{Verdict, fine, bad, number, ruled, into, both, nothing, counted}
-use Rattle.format.specs.Value.{Value, fixed, body, value, string, widthOf, isCounted, isColumn, fixedFine, anything, notEmpty, mostBytes, tNull, tTinyint, tGeography, tArray}
+use Rattle.format.specs.Value.{Value, fixed, body, value, string, widthOf, isCounted, isColumn, fixedFine, anything, notEmpty, textRule, ruleOf, mostBytes, tNull, tTinyint, tString, tGeography, tArray}
 use Rattle.format.specs.Message.{one, array, bytes, items, argument, param}
 use Rattle.put.specs.Put.{optional, sized}
 use Rattle.steps.specs.Plans.{also, test, placed}
@@ -30,14 +30,15 @@ text-limit p bs = also-none (test (leb (length bs) mostBytes) Limit p)
 
 -- the length's limit comes first, then the rule of a geography
 pub body-fault : (p t : ℕ) (null : Bool) (bs : List ℕ)
-    → nullTextFault (pick (eqb t tGeography) notEmpty anything) p (optional null bs) ≡ also (nullTextFault anything p (optional null bs)) (emptyFault p t null bs)
-body-fault p t null bs = go null (eqb t tGeography)
+    → nullTextFault (ruleOf t) p (optional null bs) ≡ also (nullTextFault anything p (optional null bs)) (emptyFault p t null bs)
+body-fault p t null bs = go null (eqb t tGeography) (eqb t tString)
   where
-    go : (n g : Bool) → nullTextFault (pick g notEmpty anything) p (optional n bs) ≡ also (nullTextFault anything p (optional n bs)) (pick g (pick n fine (placed p (notEmpty bs))) fine)
-    go true true = refl
-    go true false = refl
-    go false true = ap (λ (v : Verdict). also v (placed p (notEmpty bs))) (sym (text-limit p bs))
-    go false false = sym (also-none (textFault anything p bs))
+    go : (n g s : Bool) → nullTextFault (pick g notEmpty (pick s textRule anything)) p (optional n bs) ≡ also (nullTextFault anything p (optional n bs)) (pick g (pick n fine (placed p (notEmpty bs))) fine)
+    go true true s = refl
+    go true false s = refl
+    go false true s = ap (λ (v : Verdict). also v (placed p (notEmpty bs))) (sym (text-limit p bs))
+    go false false true = sym (also-none (textFault textRule p bs))
+    go false false false = sym (also-none (textFault anything p bs))
 
 pub empty-is : (p : ℕ) (bs : List ℕ) → placed p (notEmpty bs) ≡ test (not (eqb (length bs) 0)) Rattle.format.specs.declared.Fault.the-variants.Geography p
 empty-is p [] = refl
@@ -59,14 +60,14 @@ fixed-bytes p x y t n e =
 pub body-bytes : (p x y t : ℕ) (b : Option (List ℕ)) → valueFault p t (body b) ≡ fine → value x y t .bytes (body b) ≡ sized b
 unfolding value valueFault into
 body-bytes p x y t b e =
-    let a = also-fine (test (isCounted t) _ p) (nullTextFault (pick (eqb t tGeography) notEmpty anything) p b) e in
+    let a = also-fine (test (isCounted t) _ p) (nullTextFault (ruleOf t) p b) e in
     let c = test-fine (isCounted t) _ p (a .0) in
-    rw c (text-bytes true (pick (eqb t tGeography) notEmpty anything) x y b)
+    rw c (text-bytes true (ruleOf t) x y b)
 
 fault-column : (p t : ℕ) (v : Value) → valueFault p t v ≡ fine → isColumn t ≡ true
 unfolding valueFault
 fault-column p t (fixed n) e = column-fixed t (test-fine _ _ p (also-fine (test (not (eqb (widthOf t) 0)) _ p) (test (fixedFine t n) _ p) e .0)) .1
-fault-column p t (body b) e = let c = test-fine (isCounted t) _ p (also-fine (test (isCounted t) _ p) (nullTextFault (pick (eqb t tGeography) notEmpty anything) p b) e .0) in rw c
+fault-column p t (body b) e = let c = test-fine (isCounted t) _ p (also-fine (test (isCounted t) _ p) (nullTextFault (ruleOf t) p b) e .0) in rw c
 
 -- parameters
 pub one-bytes : (p t : ℕ) (v : Value) → valueFault p t v ≡ fine → param .bytes (record { type = t; argument = one v }) ≡ numBytes 1 t ++ value 27 28 t .bytes v

@@ -3,7 +3,7 @@ use Prim.Native.Nat.{_^_, _<_}
 use native.Mathlib.Omega.{arith}
 use lib.Signed.{mag}
 use mir.Syntax.{w32}
-use Rattle.values.proofs.Twos.{wider}
+use Rattle.scan.proofs.Unsigned.{wider}
 use Rattle.numbers.proofs.Lent.{wide}
 use borrow.Author.Needs.{needs}
 use Rattle.numbers.proofs.wide32.Statement.{statement}

@@ -3,7 +3,7 @@ use mathlib.Core.Path.{ap, ap₂, _∙_}
 use mathlib.Core.Bool.{Bool, false}
 use Rattle.format.specs.Result.{pick}
 use Rattle.format.specs.Format.{fine}
-use Rattle.format.specs.Value.{anything}
+use Rattle.format.specs.Value.{anything, textRule}
 use Rattle.put.specs.Put.{optional}
 use Rattle.steps.specs.Plans.{also}
 use Rattle.steps.specs.Arguments.{nullTextFault, openingFault}
@@ -50,8 +50,8 @@ also-requires-4 c κs = search needs
 returns : tie.Need-returns
 unfolding openingFault
 returns c =
-    let first = c .before .before .before .before .before .before .before .before .let-in-fault .ensures ∙ ap (λ (t : Bool). pick t (nullTextFault anything 0 (optional (c .before .before .before .before .before .before .before .before .before .before .before .before .before .before .before .before .before .args .h .«status_null») (c .before .before .before .before .before .before .before .before .before .before .before .before .before .before .before .before .before .args .status .now))) fine) (c .before .before .before .before .before .before .before .before .before .has-flag .ensures) in
-    let second = c .before .before .before .before .before .before .let-in-fault2 .ensures ∙ ap (λ (t : Bool). pick t (nullTextFault anything 0 (optional (c .before .before .before .before .before .before .before .before .before .before .before .before .before .before .before .before .before .args .h .«app_null») (c .before .before .before .before .before .before .before .before .before .before .before .before .before .before .before .before .before .args .app .now))) fine) (c .before .before .before .before .before .before .before .has-flag2 .ensures) in
+    let first = c .before .before .before .before .before .before .before .before .let-in-fault .ensures ∙ ap (λ (t : Bool). pick t (nullTextFault textRule 0 (optional (c .before .before .before .before .before .before .before .before .before .before .before .before .before .before .before .before .before .args .h .«status_null») (c .before .before .before .before .before .before .before .before .before .before .before .before .before .before .before .before .before .args .status .now))) fine) (c .before .before .before .before .before .before .before .before .before .has-flag .ensures) in
+    let second = c .before .before .before .before .before .before .let-in-fault2 .ensures ∙ ap (λ (t : Bool). pick t (nullTextFault textRule 0 (optional (c .before .before .before .before .before .before .before .before .before .before .before .before .before .before .before .before .before .args .h .«app_null») (c .before .before .before .before .before .before .before .before .before .before .before .before .before .before .before .before .before .args .app .now))) fine) (c .before .before .before .before .before .before .before .has-flag2 .ensures) in
     let third = c .before .before .before .before .let-in-fault3 .ensures ∙ ap (λ (t : Bool). pick t (nullTextFault anything 0 (optional false (c .before .before .before .before .before .before .before .before .before .before .before .before .before .before .before .before .before .args .exception .now))) fine) (c .before .before .before .before .before .has-flag3 .ensures) in
     c .also4 .ensures
     ∙ ap₂ also (c .before .before .before .before .before .before .before .before .before .before .before .before .test .ensures) (c .before .also3 .ensures
