@@ -16,7 +16,7 @@ use Rattle.format.specs.Message.{one, array, bytes, values, param, mostItems}
 use Rattle.put.specs.Put.{sized}
 use Rattle.format.proofs.Numbers.{length-numBytes}
 use Rattle.format.proofs.Results.{and-true-both}
-use Rattle.write.specs.declared.Answer.{Answer}
+use Rattle.format.specs.declared.Answer.{Answer}
 use Rattle.steps.specs.declared.Stage.the-variants.{Call, Array}
 use Rattle.steps.specs.State.{State, isElement, atStage}
 use Rattle.steps.specs.Plans.{answerOf, also, test}

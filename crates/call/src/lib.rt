@@ -1,7 +1,7 @@
 // The steps that write an invocation.
+use format::Answer;
 use format::Fault;
 use steps::Stage;
-use write::Answer;
 use write::Check;
 use write::Outcome;
 use write::State;
@@ -40,7 +40,7 @@ pub fn null_param(out: &mut [u8], st: State) -> Outcome
     let permitted = write::at_call(st, size);
     let more = write::one_more(st.count, write::MOST_ITEMS);
     let a = write::judge(permitted, Check::Fine, more, at, 1, size);
-    let Answer::Reached(n) = a else {
+    let Answer::Is(n) = a else {
         return Outcome {
             answer: a,
             state: st,
@@ -64,7 +64,7 @@ pub fn open_array(out: &mut [u8], st: State, t: u8) -> Outcome
     let fault = write::test(write::is_element(t), Fault::WireType, at);
     let more = write::one_more(st.count, write::MOST_ITEMS);
     let a = write::judge(permitted, fault, more, at, 4, size);
-    let Answer::Reached(n) = a else {
+    let Answer::Is(n) = a else {
         return Outcome {
             answer: a,
             state: st,
@@ -88,7 +88,7 @@ pub fn close_array(out: &mut [u8], st: State) -> Outcome
     let size = out.len();
     let permitted = write::at_array(st, size);
     let a = write::judge(permitted, Check::Fine, true, at, 0, size);
-    let Answer::Reached(n) = a else {
+    let Answer::Is(n) = a else {
         return Outcome {
             answer: a,
             state: st,
@@ -110,7 +110,7 @@ pub fn finish_call(out: &mut [u8], st: State) -> Outcome
     let size = out.len();
     let permitted = write::at_call(st, size);
     let a = write::judge(permitted, Check::Fine, true, at, 0, size);
-    let Answer::Reached(n) = a else {
+    let Answer::Is(n) = a else {
         return Outcome {
             answer: a,
             state: st,
@@ -136,7 +136,7 @@ pub fn fixed_param(out: &mut [u8], st: State, t: u8, upper: u64, lower: u64) -> 
     let more = write::one_more(st.count, write::MOST_ITEMS);
     let bytes = 1 + scan::width_of(t);
     let a = write::judge(permitted, fault, more, at, bytes, size);
-    let Answer::Reached(n) = a else {
+    let Answer::Is(n) = a else {
         return Outcome {
             answer: a,
             state: st,
@@ -162,7 +162,7 @@ pub fn body_param(out: &mut [u8], st: State, t: u8, null: bool, s: &[u8]) -> Out
     let more = write::one_more(st.count, write::MOST_ITEMS);
     let bytes = 1 + put::text_size(null, s);
     let a = write::judge(permitted, fault, more, at, bytes, size);
-    let Answer::Reached(n) = a else {
+    let Answer::Is(n) = a else {
         return Outcome {
             answer: a,
             state: st,
@@ -188,7 +188,7 @@ pub fn bytes_param(out: &mut [u8], st: State, s: &[u8]) -> Outcome
     let more = write::one_more(st.count, write::MOST_ITEMS);
     let bytes = 2 + put::text_size(false, s);
     let a = write::judge(permitted, fault, more, at, bytes, size);
-    let Answer::Reached(n) = a else {
+    let Answer::Is(n) = a else {
         return Outcome {
             answer: a,
             state: st,
@@ -215,7 +215,7 @@ pub fn fixed_element(out: &mut [u8], st: State, t: u8, upper: u64, lower: u64) -
     let fault = write::also(kind, write::fixed_fault(at, t, upper, lower));
     let more = write::one_more(st.inner_count, write::MOST_ITEMS);
     let a = write::judge(permitted, fault, more, at, scan::width_of(t), size);
-    let Answer::Reached(n) = a else {
+    let Answer::Is(n) = a else {
         return Outcome {
             answer: a,
             state: st,
@@ -249,7 +249,7 @@ pub fn body_element(out: &mut [u8], st: State, t: u8, null: bool, s: &[u8]) -> O
     let more = write::one_more(st.inner_count, write::MOST_ITEMS);
     let bytes = put::text_size(null, s);
     let a = write::judge(permitted, fault, more, at, bytes, size);
-    let Answer::Reached(n) = a else {
+    let Answer::Is(n) = a else {
         return Outcome {
             answer: a,
             state: st,
@@ -277,7 +277,7 @@ fn begin(out: &mut [u8], version: u8, procedure: &[u8], client: &[u8]) -> Outcom
     ensures { λ r. ⌜ Stepped (beginCall version (now (procedure .entry)) (now (client .entry))) zero [] (now (out .entry)) r (now (out .exit)) ⌝ }
 {
     let a = ask_begin(version, procedure, client, out.len());
-    let Answer::Reached(n) = a else {
+    let Answer::Is(n) = a else {
         return Outcome {
             answer: a,
             state: write::nothing_open(),

@@ -9,6 +9,7 @@ use lib.Seq.{take-at, drop-at, length-take-le}
 use lib.Dec.{ltb, eqb}
 use native.Mathlib.Omega.{arith}
 use borrow.Author.Tests.{leb-true, ltb-true, le-leb, lt-leb}
+use Rattle.format.specs.declared.Answer.{Answer}
 use Rattle.format.specs.declared.Fault.{Fault}
 use Rattle.format.specs.declared.Fault.the-variants.{Stale, Name, Limit, Output}
 use Rattle.format.specs.declared.Refusal.{Refusal}
@@ -27,7 +28,6 @@ use Rattle.places.proofs.Lists.{entry-below, stands-entry}
 use Rattle.places.proofs.Layouts.{name, metadata-stands, types-stand, names-stand, names-all, name-place}
 use Rattle.places.proofs.Replies.{table-stands}
 use Rattle.query.specs.declared.ColumnLayout.{ColumnLayout}
-use Rattle.query.specs.declared.Position.{Position}
 use Rattle.query.specs.Answers.{perhaps, ofTable, same, columnOf, firstNamed, namedOf, askNamed}
 use Rattle.query.proofs.Opened.{found, found-asked, retold, some-ok}
 use Rattle.query.proofs.Theorems.{finds-first}
@@ -194,10 +194,10 @@ module _ (m : List ℕ) (t : ℕ) (wanted : List ℕ) where
       carded-as first layout (record { near = c .near; deep = omega arith; is = is })
 
 -- ---- what is made
-pub made-as : {r s : Res Card} {x : Position} {before after : List ℕ} → r ≡ s → Made r x before after → Made s x before after
+pub made-as : {r s : Res Card} {x : Answer} {before after : List ℕ} → r ≡ s → Made r x before after → Made s x before after
 made-as e w = rw (← e) w
 
-pub not-made : {r : Res Card} {x : Refusal} {out : List ℕ} → r ≡ no (x .fault) (x .place) → Made r (Position.No x) out out
+pub not-made : {r : Res Card} {x : Refusal} {out : List ℕ} → r ≡ no (x .fault) (x .place) → Made r (Answer.No x) out out
 not-made e = rw e (record { answer = refl; buffer = refl })
 
 module _ (place : ℕ) (c : Card) (room : ℕ) where

@@ -10,20 +10,21 @@ use lib.Seq.{take-at, drop-at}
 use lib.Dec.{leb, ltb, eqb}
 use native.Mathlib.Omega.{arith}
 use borrow.Author.Tests.{leb-true, eqb-true, ltb-true, ltb-false, eq-eqb}
+use Rattle.format.specs.declared.Answer.{Answer}
 use Rattle.format.specs.declared.Fault.the-variants.{Stale, Limit, Output}
-use Rattle.format.specs.Result.{Res, ok, no, bind, pick}
+use Rattle.format.specs.Result.{Res, ok, no, bind, pick, toldAnswer}
 use Rattle.format.specs.Number.{Bytes}
 use Rattle.format.specs.Message.{Table, Message, readMessage}
+use Rattle.format.proofs.Decides.{answer-once}
 use Rattle.format.proofs.Results.{ok-same, bound, passed, and-true-both}
 use Rattle.places.specs.Places.{tablesOf, tableAt, nameAt}
 use Rattle.places.specs.Entries.{entry}
 use Rattle.places.proofs.Lists.{entry-below, entry-past}
 use Rattle.places.proofs.Layouts.{metadata-stands}
 use Rattle.places.proofs.Replies.{table-stands}
-use Rattle.query.specs.declared.Position.{Position}
-use Rattle.query.specs.Answers.{same, isNamed, firstNamed, toldPosition}
+use Rattle.query.specs.Answers.{same, isNamed, firstNamed}
 use Rattle.query.proofs.Names.{same-yes, same-true}
-use Rattle.query.proofs.Theorems.{position-once, First, finds-first}
+use Rattle.query.proofs.Theorems.{First, finds-first}
 use Rattle.cards.specs.Card.{Card, aCard, cardForm, cardBytes, cardSize, mostName, GoodCard}
 use Rattle.cards.specs.Answers.{fitting, fits, opened, askOpen, askCard, askMade, written, Made}
 use Rattle.cards.proofs.Forms.{card-size, encodes→form}
@@ -107,7 +108,7 @@ made-opens m all t wanted c e =
     fits→opens m t (cardBytes c) (s .accepted) (encodes→form c (s .good)) (s .there) (s .type) (s .first .there ∙ ap (λ (z : List ℕ). ok (some z)) (sym (s .name)))
 
 -- what was written is such a card, and no byte past it has changed
-module _ (m : List ℕ) (all : Bytes m) (t : ℕ) (wanted : List ℕ) (x : Position) (before after : List ℕ) where
+module _ (m : List ℕ) (all : Bytes m) (t : ℕ) (wanted : List ℕ) (x : Answer) (before after : List ℕ) where
   pub written-opens : (c : Card) → askMade m t wanted (length before) ≡ ok c → Made (ok c) x before after → askOpen m t (take cardSize after) ≡ ok (c .position)
   written-opens c e w =
       let a = bound (askCard m t wanted) e in
@@ -150,8 +151,8 @@ module _ (m l : List ℕ) (t u : ℕ) (bs : List ℕ) {r s : Message} {c : Card}
       comes-to m t bs r-accepted formed a-there ∙ ap (λ (z : Bool). pick z (ok (c .position)) (no Stale 0)) same-fit ∙ sym (comes-to l u bs s-accepted formed b-there)
 
 -- ---- the statements decide: two answers to one question are the same, and so are two buffers
-pub open-once : (m : List ℕ) (t : ℕ) (bs : List ℕ) (a b : Position) → toldPosition a ≡ askOpen m t bs → toldPosition b ≡ askOpen m t bs → a ≡ b
-open-once m t bs a b e f = position-once a b (e ∙ sym f)
+pub open-once : (m : List ℕ) (t : ℕ) (bs : List ℕ) (a b : Answer) → toldAnswer a ≡ askOpen m t bs → toldAnswer b ≡ askOpen m t bs → a ≡ b
+open-once m t bs a b e f = answer-once a b (e ∙ sym f)
 
-pub made-once : (r : Res Card) (a b : Position) (before after other : List ℕ) → Made r a before after → Made r b before other → (a ≡ b) × (after ≡ other)
-made-once r a b before after other w v = (position-once a b (w .answer ∙ sym (v .answer)), w .buffer ∙ sym (v .buffer))
+pub made-once : (r : Res Card) (a b : Answer) (before after other : List ℕ) → Made r a before after → Made r b before other → (a ≡ b) × (after ≡ other)
+made-once r a b before after other w v = (answer-once a b (w .answer ∙ sym (v .answer)), w .buffer ∙ sym (v .buffer))

@@ -6,13 +6,13 @@ use mathlib.Core.List.{List, _++_}
 use mathlib.Core.Option.{Option}
 use lib.ListN.{length, drop}
 use lib.Dec.{leb, eqb}
+use Rattle.format.specs.declared.Answer.{Answer}
 use Rattle.format.specs.declared.Fault.the-variants.{Limit, Output, Stale}
-use Rattle.format.specs.Result.{Res, ok, no, bind, pick}
+use Rattle.format.specs.Result.{Res, ok, no, bind, pick, toldAnswer}
 use Rattle.format.specs.Message.{Table, readMessage}
 use Rattle.places.specs.Places.{tablesOf, nameAt}
 use Rattle.places.specs.Entries.{entry}
-use Rattle.query.specs.declared.Position.{Position}
-use Rattle.query.specs.Answers.{ofTable, isNamed, firstNamed, toldPosition}
+use Rattle.query.specs.Answers.{ofTable, isNamed, firstNamed}
 use Rattle.cards.specs.Card.{Card, aCard, cardForm, cardBytes, cardSize, mostName}
 
 -- whether a column's type and name are the card's
@@ -56,6 +56,6 @@ written (ok c) out = cardBytes c ++ drop cardSize out
 written (no f p) out = out
 
 -- a card, or the refusal of one, as it is answered (by the column's position) and written
-pub record Made (r : Res Card) (x : Position) (before after : List ℕ) : Type 0 where
-  pub answer : toldPosition x ≡ bind r (λ c. ok (c .position))
+pub record Made (r : Res Card) (x : Answer) (before after : List ℕ) : Type 0 where
+  pub answer : toldAnswer x ≡ bind r (λ c. ok (c .position))
   pub buffer : after ≡ written r before

@@ -1,12 +1,12 @@
 // Shortcut cards: a column kept by its position, type and name, to be opened again without a search. A call accepts the message once; a refusal is
 // the message's own, then the card's form (12), a table past the end (11), no such column (9), a card that doesn't fit (10), a name too long (3), no room (8).
+use format::Answer;
 use format::Fault;
 use format::Refusal;
 use message::Verdict;
 use query::ColumnLayout;
 use query::Named;
 use query::Placed;
-use query::Position;
 use scan::Found;
 ghost use mathlib.Core.Path.{_≡_};
 ghost use mathlib.Core.Bool.{_&&_};
@@ -15,10 +15,10 @@ ghost use Prim.Native.Nat.{_+_, _≤_, min};
 ghost use lib.ListN.{length, getD, take, drop};
 ghost use lib.Dec.{eqb};
 ghost use Rattle.format.specs.declared.Fault.the-variants.{CardForm};
-ghost use Rattle.format.specs.Result.{no, bind};
+ghost use Rattle.format.specs.Result.{no, bind, toldAnswer};
 ghost use Rattle.format.specs.Message.{readMessage, responseLayout};
 ghost use Rattle.scan.specs.Shown.{refusal};
-ghost use Rattle.query.specs.Answers.{ofTable, same, toldPosition};
+ghost use Rattle.query.specs.Answers.{ofTable, same};
 ghost use Rattle.cards.specs.Card.{aCard, nameByte, wrongFrom, cardBody, cardForm, cardBytes, cardSize, mostPosition, mostName};
 ghost use Rattle.cards.specs.Answers.{opened, askOpen, shortNamed, roomFor, askMade, Made};
 ghost use Rattle.cards.specs.Shown.{shownWrong, shownForm};
@@ -174,37 +174,37 @@ fn is_alike(m: &[u8], column: ColumnLayout, wire_type: u8, name: &[u8]) -> bool
 }
 
 // Opens a card that says this, in a response with its round trip or without.
-fn open_at(m: &[u8], timed: bool, t: usize, position: usize, wire_type: u8, name: &[u8]) -> Position
-    ensures { λ r. ⌜ toldPosition r ≡ ofTable timed (now (m .entry)) t (λ at b. opened b (aCard position «wire_type» (now (name .entry)))) ⌝ }
+fn open_at(m: &[u8], timed: bool, t: usize, position: usize, wire_type: u8, name: &[u8]) -> Answer
+    ensures { λ r. ⌜ toldAnswer r ≡ ofTable timed (now (m .entry)) t (λ at b. opened b (aCard position «wire_type» (now (name .entry)))) ⌝ }
 {
     let placed = query::find_placed(m, timed, t, position);
     match placed {
-        Placed::No(r) => Position::No(r),
-        Placed::Past => Position::No(STALE),
+        Placed::No(r) => Answer::No(r),
+        Placed::Past => Answer::No(STALE),
         Placed::Is(column) => {
             if is_alike(m, column, wire_type, name) {
-                Position::At(position)
+                Answer::Is(position)
             } else {
-                Position::No(STALE)
+                Answer::No(STALE)
             }
         }
     }
 }
 
 // A refusal that the message's own comes before.
-fn after_message(m: &[u8], timed: bool, r: Refusal) -> Position
-    ensures { λ x. ⌜ toldPosition x ≡ bind (readMessage (responseLayout timed) (now (m .entry))) (λ p. no (r .fault) (r .place)) ⌝ }
+fn after_message(m: &[u8], timed: bool, r: Refusal) -> Answer
+    ensures { λ x. ⌜ toldAnswer x ≡ bind (readMessage (responseLayout timed) (now (m .entry))) (λ p. no (r .fault) (r .place)) ⌝ }
 {
     let verdict = message::accept_layout(format::response_layout(timed), m);
     match verdict {
-        Verdict::No(own) => Position::No(own),
-        Verdict::Fine => Position::No(r),
+        Verdict::No(own) => Answer::No(own),
+        Verdict::Fine => Answer::No(r),
     }
 }
 
 // The column of table t that a card stands for, by its position, if it still has the card's type and name.
-pub fn open_card(m: &[u8], t: usize, card: &[u8]) -> Position
-    ensures { λ r. ⌜ toldPosition r ≡ askOpen (now (m .entry)) t (now (card .entry)) ⌝ }
+pub fn open_card(m: &[u8], t: usize, card: &[u8]) -> Answer
+    ensures { λ r. ⌜ toldAnswer r ≡ askOpen (now (m .entry)) t (now (card .entry)) ⌝ }
 {
     let form = read_card(card);
     match form {
@@ -248,33 +248,33 @@ fn write_card(out: &mut [u8], position: u8, wire_type: u8, name: &[u8])
 }
 
 // Makes the card of a column whose name's length stands at a place, if the name is short enough and there is room.
-fn put_card(out: &mut [u8], place: usize, position: usize, wire_type: u8, name: &[u8]) -> Position
+fn put_card(out: &mut [u8], place: usize, position: usize, wire_type: u8, name: &[u8]) -> Answer
     requires { ⌜ position ≤ mostPosition ⌝ }
     ensures { λ r. ⌜ Made (bind (shortNamed place (aCard position «wire_type» (now (name .entry)))) (roomFor (length (now (out .entry))))) r (now (out .entry)) (now (out .exit)) ⌝ }
 {
     if MOST_NAME < name.len() {
-        return Position::No(Refusal {
+        return Answer::No(Refusal {
             fault: Fault::Limit,
             place,
         });
     }
     if out.len() < SIZE {
-        return Position::No(Refusal {
+        return Answer::No(Refusal {
             fault: Fault::Output,
             place: SIZE,
         });
     }
     write_card(out, position as u8, wire_type, name);
-    Position::At(position)
+    Answer::Is(position)
 }
 
 // Makes the card of the first column of a name in table t, at the start of the buffer, and says the column's position.
-pub fn make_card(m: &[u8], t: usize, name: &[u8], out: &mut [u8]) -> Position
+pub fn make_card(m: &[u8], t: usize, name: &[u8], out: &mut [u8]) -> Answer
     ensures { λ r. ⌜ Made (askMade (now (m .entry)) t (now (name .entry)) (length (now (out .entry)))) r (now (out .entry)) (now (out .exit)) ⌝ }
 {
     let named = query::named_column(m, t, name);
     match named {
-        Named::No(r) => Position::No(r),
+        Named::No(r) => Answer::No(r),
         Named::At(position, column) => {
             put_card(
                 out,

@@ -12,8 +12,8 @@ use Rattle.format.specs.Result.{Res, ok, no}
 use Rattle.format.specs.Number.{numBytes}
 use Rattle.format.specs.Message.{mostColumns, mostItems}
 use Rattle.put.specs.Put.{put}
-use Rattle.write.specs.declared.Answer.{Answer}
-use Rattle.write.specs.declared.Answer.the-variants.{Reached, No}
+use Rattle.format.specs.declared.Answer.{Answer}
+use Rattle.format.specs.declared.Answer.the-variants.{Is, No}
 use Rattle.steps.specs.declared.Stage.the-variants.{Reply}
 use Rattle.write.specs.declared.State.{State as Code}
 use Rattle.write.specs.declared.Outcome.{Outcome}
@@ -29,12 +29,12 @@ use Rattle.columns.specs.declared.Walk.{Walk}
 use Rattle.columns.specs.declared.Head.{Head}
 use Rattle.columns.specs.Walks.{surveyFault, headAnswer, headBytes, openedAt, headOf, headOut}
 
-shown-ok : (r : Res ℕ) {a : Answer} {n : ℕ} → a ≡ shownAnswer r → a ≡ Reached n → r ≡ ok n
+shown-ok : (r : Res ℕ) {a : Answer} {n : ℕ} → a ≡ shownAnswer r → a ≡ Is n → r ≡ ok n
 shown-ok (ok m) e f = cc
-shown-ok (no g p) e f = let z : Reached _ ≡ No _ = sym f ∙ e in cc
+shown-ok (no g p) e f = let z : Is _ ≡ No _ = sym f ∙ e in cc
 
 shown-no : (r : Res ℕ) {a : Answer} {x : Refusal} → a ≡ shownAnswer r → a ≡ No x → r ≡ no (x .fault) (x .place)
-shown-no (ok m) e f = let z : No _ ≡ Reached _ = sym f ∙ e in cc
+shown-no (ok m) e f = let z : No _ ≡ Is _ = sym f ∙ e in cc
 shown-no (no g p) e f = let z : No _ ≡ No _ = sym f ∙ e in cc
 
 module _ (st : Code) (s : Survey) (size : ℕ) where
@@ -59,7 +59,7 @@ module _ (st : Code) (s : Survey) (size : ℕ) where
     next = λ n. closed n;
   }
 
-  pub taken : {a : Answer} {n : ℕ} → a ≡ shownAnswer (headAnswer st s size) → a ≡ Reached n → Taken n
+  pub taken : {a : Answer} {n : ℕ} → a ≡ shownAnswer (headAnswer st s size) → a ≡ Is n → Taken n
   taken {a} {n} e f =
       let r = shown-ok (headAnswer st s size) e f in
       let l : length {A = ℕ} (replicate (15 + (s .n + s .size)) 0) ≡ 15 + (s .n + s .size) = length-replicate (15 + (s .n + s .size)) 0 in
@@ -84,6 +84,6 @@ module _ (st : Code) (s : Survey) (status : ℕ) (b : List ℕ) where
       (sym (rw r (ap {B = Head} (λ (y : Answer). record { step = record { answer = y; state = st }; walk = nowhere }) (sym f))), sym (rw r))
 
   pub head-taken : {n k : ℕ} {next : Code} {c : List ℕ} → Taken st s (length b) n → next ≡ openedAt st n (s .n) → k ≡ st .position + 11 → c ≡ put (put b (st .position) (headBytes status s)) (n - 4) (numBytes 4 0)
-      → (_≡_ {A = Head} (record { step = record { answer = Reached n; state = next }; walk = record { left = s .n; i = 0; «kind_at» = k; «name_at» = k + s .n } }) (headOf st s (headAnswer st s (length b)))) × (c ≡ headOut st status s (headAnswer st s (length b)) b)
+      → (_≡_ {A = Head} (record { step = record { answer = Is n; state = next }; walk = record { left = s .n; i = 0; «kind_at» = k; «name_at» = k + s .n } }) (headOf st s (headAnswer st s (length b)))) × (c ≡ headOut st status s (headAnswer st s (length b)) b)
   head-taken {n} {k} {next} {c} t e f g =
-      (rw (t .is) (ap₂ {C = Head} (λ (x : Code) (y : ℕ). record { step = record { answer = Reached n; state = x }; walk = record { left = s .n; i = 0; «kind_at» = y; «name_at» = y + s .n } }) e f), rw (t .is) g)
+      (rw (t .is) (ap₂ {C = Head} (λ (x : Code) (y : ℕ). record { step = record { answer = Is n; state = x }; walk = record { left = s .n; i = 0; «kind_at» = y; «name_at» = y + s .n } }) e f), rw (t .is) g)

@@ -18,7 +18,7 @@ use Rattle.format.specs.Message.{metadata, mostColumns, mostItems}
 use Rattle.format.proofs.Numbers.{length-numBytes}
 use Rattle.put.specs.Put.{put}
 use Rattle.put.proofs.Laws.{put-length, twice}
-use Rattle.write.specs.declared.Answer.the-variants.{Reached, No}
+use Rattle.format.specs.declared.Answer.the-variants.{Is, No}
 use Rattle.write.specs.declared.State.{State as Code}
 use Rattle.write.specs.declared.Outcome.{Outcome}
 use Rattle.steps.specs.State.{State, allColumns}

@@ -11,7 +11,7 @@ use Rattle.format.specs.Format.{Verdict, fine, bad}
 use Rattle.format.specs.Value.{isColumn, mostBytes}
 use Rattle.format.specs.Message.{mostColumns, mostItems}
 use Rattle.put.specs.Put.{put}
-use Rattle.write.specs.declared.Answer.the-variants.{Reached, No}
+use Rattle.format.specs.declared.Answer.the-variants.{Is, No}
 use Rattle.write.specs.declared.Check.{Check}
 use Rattle.write.specs.declared.Check.the-variants.{Fine, Bad}
 use Rattle.steps.specs.declared.Stage.the-variants.{Reply, Table}
@@ -93,7 +93,7 @@ openedAt st position n = record {
 -- types stand side by side, and the names behind them
 abbrev pub headOf : Code → Survey → Res ℕ → Head
 headOf st s (ok n) = record {
-  step = record { answer = Reached n; state = openedAt st n (s .n) };
+  step = record { answer = Is n; state = openedAt st n (s .n) };
   walk = record { left = s .n; i = 0; «kind_at» = st .position + 11; «name_at» = st .position + 11 + s .n };
 }
 headOf st s (no f p) = record {

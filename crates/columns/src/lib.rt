@@ -1,9 +1,9 @@
 // The step that opens a table. Its columns are entries, each with a type and a name's place in a name buffer. They are looked at one by one,
 // then what stands around them is written, and then they are, one by one again: so a table costs what its columns cost, wherever they are lent.
+use format::Answer;
 use format::Fault;
 use format::Refusal;
 use steps::Stage;
-use write::Answer;
 use write::COLUMNS;
 use write::Check;
 use write::Outcome;
@@ -119,7 +119,7 @@ pub fn open_head(out: &mut [u8], st: State, status: u8, s: Survey) -> Head
     ensures { λ r. ⌜ (r ≡ headOf st s (headAnswer st s (length (now (out .entry))))) × (now (out .exit) ≡ headOut st status s (headAnswer st s (length (now (out .entry)))) (now (out .entry))) ⌝ }
 {
     let a = ask_open_table(st, s, out.len());
-    let Answer::Reached(n) = a else {
+    let Answer::Is(n) = a else {
         let step = Outcome {
             answer: a,
             state: st,

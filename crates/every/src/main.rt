@@ -1,5 +1,6 @@
 // One message of each kind, with every wire type, is written step by step, read back, compared and listed.
 // What must be printed is made by the second encoder and the second reader alone: tests/second/every.py.
+use format::Answer;
 use libc::STDOUT_FILENO;
 use message::Verdict;
 use query::Argued;
@@ -8,7 +9,6 @@ use query::Part;
 use reply::Head;
 use show::Cell;
 use values::Fixed;
-use write::Answer;
 use write::Outcome;
 ghost use Prim.Native.Nat.{_<_};
 
@@ -169,7 +169,7 @@ fn response_from(draft: &[u8]) -> bool {
 fn frame_in(buffer: &[u8; ROOM], answer: Answer) -> &[u8] {
     let whole: &[u8] = buffer;
     match answer {
-        Answer::Reached(n) => {
+        Answer::Is(n) => {
             if whole.len() <= n {
                 return &whole[0..0];
             }

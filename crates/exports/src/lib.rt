@@ -14,8 +14,8 @@ ghost use Rattle.format.specs.Result.{ok, bind};
 ghost use Rattle.format.specs.Message.{readMessage, kindLayout};
 ghost use Rattle.tour.specs.Tour.{fieldsOf};
 ghost use Rattle.fields.specs.Questions.{ownerOf, windowCount, windowOut};
-ghost use Rattle.fields.specs.Told.{toldCounted, toldOwned, toldWritten};
-ghost use Rattle.query.specs.Answers.{ofTable, layoutOf, columnOf, firstNamed, toldCount, toldTable, toldColumn, toldPosition};
+ghost use Rattle.fields.specs.Told.{toldOwned};
+ghost use Rattle.query.specs.Answers.{ofTable, layoutOf, columnOf, firstNamed, toldTable, toldColumn};
 ghost use Rattle.places.specs.Places.{tablesOf};
 ghost use Rattle.steps.specs.Steps.{openTable, beginCall, beginReply, cell, nullParam, oneParam, bytesParam, openArray, element, closeArray, finishCall, openRow, closeRow, closeTable, finishReply};
 ghost use Rattle.steps.specs.Logins.{loginRequest, loginResponse};
@@ -49,7 +49,7 @@ pub extern "C" fn chaloenpik_accept(kind: u8, m: &[u8]) -> u64
 pub extern "C" fn chaloenpik_field_count(kind: u8, m: &[u8]) -> u64
     ensures { λ r. ⌜ r ≡ packed itself (bind (fieldsOf (kindLayout kind) (now (m .entry))) (λ es. ok (length es))) ⌝ }
 {
-    numbers::pack_counted(fields::count(kind, m))
+    numbers::pack_answer(fields::count(kind, m))
 }
 
 // The entries of the field list from number `first` on, six numbers for each, as many as fit a lent list.
@@ -57,7 +57,7 @@ pub extern "C" fn chaloenpik_field_count(kind: u8, m: &[u8]) -> u64
 pub extern "C" fn chaloenpik_fields(kind: u8, m: &[u8], first: usize, out: &mut [u64]) -> u64
     ensures { λ r. ⌜ (r ≡ packed itself (bind (fieldsOf (kindLayout kind) (now (m .entry))) (λ es. windowCount es first (length (now (out .entry)))))) × (now (out .exit) ≡ windowOut (fieldsOf (kindLayout kind) (now (m .entry))) first (now (out .entry))) ⌝ }
 {
-    numbers::pack_written(fields::window(kind, m, first, out))
+    numbers::pack_answer(fields::window(kind, m, first, out))
 }
 
 // The number in the field list of the entry that owns a byte.
@@ -73,7 +73,7 @@ pub extern "C" fn chaloenpik_owner(kind: u8, m: &[u8], offset: usize) -> u64
 pub extern "C" fn chaloenpik_tables(m: &[u8]) -> u64
     ensures { λ r. ⌜ r ≡ packed itself (bind (readMessage 4 (now (m .entry))) (λ p. ok (length (tablesOf p)))) ⌝ }
 {
-    numbers::pack_count(query::tables(m))
+    numbers::pack_answer(query::tables(m))
 }
 
 // How many rows table t of a response has.
@@ -105,7 +105,7 @@ pub extern "C" fn chaloenpik_column_type(m: &[u8], t: usize, c: usize) -> u64
 pub extern "C" fn chaloenpik_find_column(m: &[u8], t: usize, name: &[u8]) -> u64
     ensures { λ r. ⌜ r ≡ packed itself (ofTable true (now (m .entry)) t (λ at b. firstNamed (now (name .entry)) (b .metadata .names) 0)) ⌝ }
 {
-    numbers::pack_position(query::find_column(m, t, name))
+    numbers::pack_answer(query::find_column(m, t, name))
 }
 
 // Makes the shortcut card of the first column of a name in table t of a response, at the start of the buffer, and answers the column's position.
@@ -113,7 +113,7 @@ pub extern "C" fn chaloenpik_find_column(m: &[u8], t: usize, name: &[u8]) -> u64
 pub extern "C" fn chaloenpik_make_card(m: &[u8], t: usize, name: &[u8], out: &mut [u8]) -> u64
     ensures { λ r. ⌜ (r ≡ packed itself (bind (askMade (now (m .entry)) t (now (name .entry)) (length (now (out .entry)))) (λ c. ok (c .position)))) × (now (out .exit) ≡ written (askMade (now (m .entry)) t (now (name .entry)) (length (now (out .entry)))) (now (out .entry))) ⌝ }
 {
-    numbers::pack_position(cards::make_card(m, t, name, out))
+    numbers::pack_answer(cards::make_card(m, t, name, out))
 }
 
 // The position of the column of table t of a response that a card stands for.
@@ -121,7 +121,7 @@ pub extern "C" fn chaloenpik_make_card(m: &[u8], t: usize, name: &[u8], out: &mu
 pub extern "C" fn chaloenpik_open_card(m: &[u8], t: usize, card: &[u8]) -> u64
     ensures { λ r. ⌜ r ≡ packed itself (askOpen (now (m .entry)) t (now (card .entry))) ⌝ }
 {
-    numbers::pack_position(cards::open_card(m, t, card))
+    numbers::pack_answer(cards::open_card(m, t, card))
 }
 
 // The cell at a row and column c of table t of a response, as four numbers (numbers/specs/Listed.antt).

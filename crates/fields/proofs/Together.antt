@@ -16,19 +16,18 @@ use Rattle.format.specs.Number.{Bytes}
 use Rattle.format.specs.Format as format
 use Rattle.format.specs.Format.{Entry}
 use Rattle.format.specs.Message.{Message, readMessage, messageFields}
+use Rattle.format.proofs.Decides.{once, answer}
 use Rattle.format.proofs.Results.{ok-same, no-ok}
 use Rattle.format.proofs.Took.{Tiles}
 use Rattle.format.proofs.Owner.{Owns, Owner}
 use Rattle.format.proofs.Demands.{accepted→encodes, fields-tile, field-owner}
 use Rattle.tour.specs.Task.{six}
 use Rattle.fields.specs.declared.Entry as fields
-use Rattle.fields.specs.declared.Counted.{Counted}
 use Rattle.fields.specs.declared.Listed.{Listed}
 use Rattle.fields.specs.declared.Owned.{Owned}
-use Rattle.fields.specs.declared.Written.{Written}
 use Rattle.fields.specs.Questions.{nth, ownerFrom, ownerOf, windowOf, windowOut, sixes, over, entryAt}
 use Rattle.fields.proofs.Listing.{length-sixes}
-use Rattle.fields.specs.Told.{toldCounted, toldListed, toldOwned, toldWritten}
+use Rattle.fields.specs.Told.{toldListed, toldOwned}
 
 -- the entries got by n windows, each from where the one before ended; the i-th has room for so many numbers
 pub gathered : (ℕ → ℕ) → ℕ → ℕ → List Entry → ℕ → List Entry
@@ -164,46 +163,8 @@ module _ (kind : ℕ) (m : List ℕ) (by : Bytes m) (r : Message) (accepted : re
 abbrev entry : format.Entry → fields.Entry
 entry e = record { offset = e .at; size = e .size; field = e .field; i = e .index .i; j = e .index .j; k = e .index .k }
 
-abbrev countedBy : Res ℕ → Counted
-countedBy (ok n) = Counted.Is n
-countedBy (refused f p) = Counted.No (record { fault = f; place = p })
-
-counted-back : (a : Counted) → countedBy (toldCounted a) ≡ a
-counted-back (Counted.Is n) = refl
-counted-back (Counted.No r) = refl
-
-pub counted-once : (a b : Counted) → toldCounted a ≡ toldCounted b → a ≡ b
-counted-once a b e = sym (counted-back a) ∙ ap countedBy e ∙ counted-back b
-
-abbrev listedBy : Res format.Entry → Listed
-listedBy (ok x) = Listed.Is (entry x)
-listedBy (refused f p) = Listed.No (record { fault = f; place = p })
-
-listed-back : (a : Listed) → listedBy (toldListed a) ≡ a
-listed-back (Listed.Is x) = refl
-listed-back (Listed.No r) = refl
-
 pub listed-once : (a b : Listed) → toldListed a ≡ toldListed b → a ≡ b
-listed-once a b e = sym (listed-back a) ∙ ap listedBy e ∙ listed-back b
-
-abbrev ownedBy : Res (format.Entry × ℕ) → Owned
-ownedBy (ok w) = Owned.By (entry (w .0)) (w .1)
-ownedBy (refused f p) = Owned.No (record { fault = f; place = p })
-
-owned-back : (a : Owned) → ownedBy (toldOwned a) ≡ a
-owned-back (Owned.By x n) = refl
-owned-back (Owned.No r) = refl
+listed-once = once toldListed (answer (λ x. Listed.Is (entry x)) Listed.No) (elim [ Listed.Is x ↦ refl | Listed.No r ↦ refl ])
 
 pub owned-once : (a b : Owned) → toldOwned a ≡ toldOwned b → a ≡ b
-owned-once a b e = sym (owned-back a) ∙ ap ownedBy e ∙ owned-back b
-
-abbrev writtenBy : Res ℕ → Written
-writtenBy (ok n) = Written.Is n
-writtenBy (refused f p) = Written.No (record { fault = f; place = p })
-
-written-back : (a : Written) → writtenBy (toldWritten a) ≡ a
-written-back (Written.Is n) = refl
-written-back (Written.No r) = refl
-
-pub written-once : (a b : Written) → toldWritten a ≡ toldWritten b → a ≡ b
-written-once a b e = sym (written-back a) ∙ ap writtenBy e ∙ written-back b
+owned-once = once toldOwned (answer (λ w. Owned.By (entry (w .0)) (w .1)) Owned.No) (elim [ Owned.By x n ↦ refl | Owned.No r ↦ refl ])

@@ -3,14 +3,8 @@ use Prim.Native.Nat.{ℕ}
 use Rattle.format.specs.Result.{Res, ok, no}
 use Rattle.format.specs.Format as format
 use Rattle.fields.specs.declared.Entry.{Entry}
-use Rattle.fields.specs.declared.Counted.{Counted}
 use Rattle.fields.specs.declared.Listed.{Listed}
 use Rattle.fields.specs.declared.Owned.{Owned}
-use Rattle.fields.specs.declared.Written.{Written}
-
-abbrev pub toldCounted : Counted → Res ℕ
-toldCounted (Counted.Is n) = ok n
-toldCounted (Counted.No r) = no (r .fault) (r .place)
 
 abbrev pub toldEntry : Entry → format.Entry
 toldEntry e = record { at = e .offset; size = e .size; field = e .field; index = record { i = e .i; j = e .j; k = e .k } }
@@ -22,7 +16,3 @@ toldListed (Listed.No r) = no (r .fault) (r .place)
 abbrev pub toldOwned : Owned → Res (format.Entry × ℕ)
 toldOwned (Owned.By e n) = ok (toldEntry e, n)
 toldOwned (Owned.No r) = no (r .fault) (r .place)
-
-abbrev pub toldWritten : Written → Res ℕ
-toldWritten (Written.Is n) = ok n
-toldWritten (Written.No r) = no (r .fault) (r .place)

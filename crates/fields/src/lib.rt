@@ -1,15 +1,16 @@
 // The field list of a message: how many fields it has, the n-th, the owner of a byte, and windows of the list.
+use format::Answer;
 use format::Fault;
 use format::Refusal;
 use tour::Toured;
 ghost use mathlib.Core.Path.{_≡_};
 ghost use lib.ListN.{length};
 ghost use Rattle.format.specs.declared.Fault.the-variants.{PastEnd};
-ghost use Rattle.format.specs.Result.{ok, bind};
+ghost use Rattle.format.specs.Result.{ok, bind, toldAnswer};
 ghost use Rattle.format.specs.Message.{kindLayout};
 ghost use Rattle.tour.specs.Tour.{fieldsOf};
 ghost use Rattle.fields.specs.Questions.{nth, ownerOf, windowCount, windowOut, entryAt};
-ghost use Rattle.fields.specs.Told.{toldEntry, toldCounted, toldListed, toldOwned, toldWritten};
+ghost use Rattle.fields.specs.Told.{toldEntry, toldListed, toldOwned};
 
 // A field: where it stands, how long it is, its number and its three indices.
 pub struct Entry {
@@ -19,12 +20,6 @@ pub struct Entry {
     pub i: usize,
     pub j: usize,
     pub k: usize,
-}
-
-// How many fields there are.
-pub enum Counted {
-    Is(usize),
-    No(Refusal),
 }
 
 // A field of the list.
@@ -39,24 +34,18 @@ pub enum Owned {
     No(Refusal),
 }
 
-// How many fields were written.
-pub enum Written {
-    Is(usize),
-    No(Refusal),
-}
-
 // How many fields a message of a kind has.
-pub fn count(kind: u8, m: &[u8]) -> Counted
-    ensures { λ r. ⌜ toldCounted r ≡ bind (fieldsOf (kindLayout kind) (now (m .entry))) (λ es. ok (length es)) ⌝ }
+pub fn count(kind: u8, m: &[u8]) -> Answer
+    ensures { λ r. ⌜ toldAnswer r ≡ bind (fieldsOf (kindLayout kind) (now (m .entry))) (λ es. ok (length es)) ⌝ }
 {
     let layout = format::kind_layout(kind);
     let mut six: [u64; 6] = [0; 6];
     let asked = tour::list_task(0, 0);
     let toured = tour::visit_all(layout, m, &mut six, asked);
     let Toured::Done(task) = toured else {
-        return Counted::No(tour::toured_refusal(toured));
+        return Answer::No(tour::toured_refusal(toured));
     };
-    Counted::Is(task.seen)
+    Answer::Is(task.seen)
 }
 
 // The entry of a number in the list, from 0 on.
@@ -95,19 +84,19 @@ pub fn owner(kind: u8, m: &[u8], offset: usize) -> Owned
 }
 
 // The entries from a number on, six numbers for each, as many whole entries as fit a lent list; how many were written.
-pub fn window(kind: u8, m: &[u8], first: usize, out: &mut [u64]) -> Written
-    ensures { λ r. ⌜ (toldWritten r ≡ bind (fieldsOf (kindLayout kind) (now (m .entry))) (λ es. windowCount es first (length (now (out .entry))))) × (now (out .exit) ≡ windowOut (fieldsOf (kindLayout kind) (now (m .entry))) first (now (out .entry))) ⌝ }
+pub fn window(kind: u8, m: &[u8], first: usize, out: &mut [u64]) -> Answer
+    ensures { λ r. ⌜ (toldAnswer r ≡ bind (fieldsOf (kindLayout kind) (now (m .entry))) (λ es. windowCount es first (length (now (out .entry))))) × (now (out .exit) ≡ windowOut (fieldsOf (kindLayout kind) (now (m .entry))) first (now (out .entry))) ⌝ }
 {
     let layout = format::kind_layout(kind);
     let asked = tour::list_task(first, 0);
     let toured = tour::visit_all(layout, m, out, asked);
     let Toured::Done(task) = toured else {
-        return Written::No(tour::toured_refusal(toured));
+        return Answer::No(tour::toured_refusal(toured));
     };
     if task.seen <= first {
-        return Written::No(past_end());
+        return Answer::No(past_end());
     }
-    Written::Is(task.taken)
+    Answer::Is(task.taken)
 }
 
 fn past_end() -> Refusal

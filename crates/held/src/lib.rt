@@ -3,18 +3,19 @@
 use columns::Column;
 use columns::Head;
 use columns::Survey;
+use format::Answer;
 use query::CellAnswer;
 use query::ColumnAnswer;
 use query::Part;
-use query::Position;
 use query::TableAnswer;
 use write::COLUMNS;
 use write::Outcome;
 use write::State;
 ghost use mathlib.Core.Path.{_≡_};
 ghost use lib.ListN.{length};
+ghost use Rattle.format.specs.Result.{toldAnswer};
 ghost use Rattle.cards.specs.Answers.{askOpen};
-ghost use Rattle.query.specs.Answers.{toldTable, askTable, toldColumn, askColumn, toldPosition, askPosition, toldCell, askCell, toldPart, askCellSpan, partIn};
+ghost use Rattle.query.specs.Answers.{toldTable, askTable, toldColumn, askColumn, askPosition, toldCell, askCell, toldPart, askCellSpan, partIn};
 ghost use Rattle.steps.specs.Steps.{openTable};
 ghost use Rattle.write.specs.Shown.{Opened};
 ghost use Rattle.columns.specs.Entries.{columnsOf};
@@ -48,15 +49,15 @@ pub fn column<'a>(r: TableReader<'a>, c: usize) -> ColumnAnswer
 }
 
 // The position of the first column of a name.
-pub fn find<'a, 'b>(r: TableReader<'a>, name: &'b [u8]) -> Position
-    ensures { λ a. ⌜ toldPosition a ≡ askPosition (now (r .entry .msg)) (r .entry .table) (now (name .entry)) ⌝ }
+pub fn find<'a, 'b>(r: TableReader<'a>, name: &'b [u8]) -> Answer
+    ensures { λ a. ⌜ toldAnswer a ≡ askPosition (now (r .entry .msg)) (r .entry .table) (now (name .entry)) ⌝ }
 {
     query::find_column(r.msg, r.table, name)
 }
 
 // The position of the column that a card was made from.
-pub fn opened<'a, 'b>(r: TableReader<'a>, card: &'b [u8]) -> Position
-    ensures { λ a. ⌜ toldPosition a ≡ askOpen (now (r .entry .msg)) (r .entry .table) (now (card .entry)) ⌝ }
+pub fn opened<'a, 'b>(r: TableReader<'a>, card: &'b [u8]) -> Answer
+    ensures { λ a. ⌜ toldAnswer a ≡ askOpen (now (r .entry .msg)) (r .entry .table) (now (card .entry)) ⌝ }
 {
     cards::open_card(r.msg, r.table, card)
 }

@@ -2,10 +2,10 @@
 // A card is made from the first reply and opened over each of them. Where it opens a column, the engine's limit is printed with
 // its place in the message and the field that owns its first byte; where it doesn't fit any more, the refusal is.
 use fields::Owned;
+use format::Answer;
 use frames::Frame;
 use libc::STDOUT_FILENO;
 use query::CellAnswer;
-use query::Position;
 use query::TableAnswer;
 use show::Cell;
 ghost use Prim.Native.Nat.{_+_, _≤_};
@@ -44,7 +44,7 @@ fn make_card(card: &mut [u8]) -> bool {
     };
     let reply = &frame[..n];
     let made = cards::make_card(reply, 0, b"THROTTLE_LIMIT", card);
-    if let Position::No(refusal) = made {
+    if let Answer::No(refusal) = made {
         listing::print_refusal(refusal);
         return false;
     }
@@ -66,8 +66,8 @@ fn open_next(card: &[u8]) -> bool {
 fn open(reply: &[u8], card: &[u8]) {
     let opened = cards::open_card(reply, 0, card);
     match opened {
-        Position::At(column) => print_limit(reply, column),
-        Position::No(refusal) => {
+        Answer::Is(column) => print_limit(reply, column),
+        Answer::No(refusal) => {
             io::write_all(STDOUT_FILENO, b"card ");
             listing::print_refusal(refusal);
         }
@@ -96,8 +96,8 @@ fn engine_row(reply: &[u8]) -> usize {
     let rows = row_count(reply);
     let found = query::find_column(reply, 0, b"ENGINE_ID");
     match found {
-        Position::At(column) => first_row(reply, column, rows),
-        Position::No(_) => rows,
+        Answer::Is(column) => first_row(reply, column, rows),
+        Answer::No(_) => rows,
     }
 }
 

@@ -11,7 +11,7 @@ ghost use Rattle.message.specs.Verdict.{toldVerdict};
 ghost use Rattle.io.specs.Counts.{Counts};
 ghost use Rattle.listing.specs.Listing.{listingOf};
 ghost use Rattle.listing.specs.Text.{spelled, behindOf, wordsOf};
-use fields::Written;
+use format::Answer;
 use format::Fault;
 use format::Refusal;
 use libc::STDOUT_FILENO;
@@ -102,7 +102,7 @@ fn print_fields(input: &[u8]) {
 fn print_window(kind: u8, m: &[u8], first: usize) -> bool {
     let mut numbers = [0u64; WINDOW * NUMBERS];
     let answer = fields::window(kind, m, first, &mut numbers);
-    let Written::Is(n) = answer else {
+    let Answer::Is(n) = answer else {
         return false;
     };
     print_entries(&numbers, n);

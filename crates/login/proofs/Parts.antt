@@ -19,8 +19,8 @@ use Rattle.format.specs.Message.{edition, hashSize, server, noServer, loginRequ
 use Rattle.format.proofs.Numbers.{length-numBytes}
 use Rattle.put.specs.Put.{put, sized}
 use Rattle.put.proofs.Laws.{Puts, puts, sized-some}
-use Rattle.write.specs.declared.Answer.{Answer}
-use Rattle.write.specs.declared.Answer.the-variants.{Reached, No}
+use Rattle.format.specs.declared.Answer.{Answer}
+use Rattle.format.specs.declared.Answer.the-variants.{Is, No}
 use Rattle.write.specs.declared.Check.{Check}
 use Rattle.write.specs.declared.Check.the-variants.{Fine, Bad}
 use Rattle.steps.specs.State.{State, closed}
@@ -183,19 +183,19 @@ module _ (p : Plan State) (b : List ℕ) where
   refused e f = go (answerOf p (length b)) e f
     where
       go : (r : Res ℕ) {a : Answer} {x : Refusal} → a ≡ shownAnswer r → a ≡ No x → Told (outOf r p (closed 0) b) a b
-      go (ok n) e f = let z : No _ ≡ Reached _ = sym f ∙ e in let y : _≡_ {A = ℕ} 0 1 = cc in absurd (omega arith)
+      go (ok n) e f = let z : No _ ≡ Is _ = sym f ∙ e in let y : _≡_ {A = ℕ} 0 1 = cc in absurd (omega arith)
       go (no g q) e f = (e, refl)
 
-  pub taken : {a : Answer} {n : ℕ} {c : List ℕ} → a ≡ shownAnswer (answerOf p (length b)) → a ≡ Reached n → c ≡ fillAll (p .fills) (put b (p .at) (p .bytes)) → Told (carry p (closed 0) b) (Reached n) c
+  pub taken : {a : Answer} {n : ℕ} {c : List ℕ} → a ≡ shownAnswer (answerOf p (length b)) → a ≡ Is n → c ≡ fillAll (p .fills) (put b (p .at) (p .bytes)) → Told (carry p (closed 0) b) (Is n) c
   unfolding carry
   taken e f h = go (answerOf p (length b)) e f h
     where
-      go : (r : Res ℕ) {a : Answer} {n : ℕ} {c : List ℕ} → a ≡ shownAnswer r → a ≡ Reached n → c ≡ fillAll (p .fills) (put b (p .at) (p .bytes)) → Told (outOf r p (closed 0) b) (Reached n) c
+      go : (r : Res ℕ) {a : Answer} {n : ℕ} {c : List ℕ} → a ≡ shownAnswer r → a ≡ Is n → c ≡ fillAll (p .fills) (put b (p .at) (p .bytes)) → Told (outOf r p (closed 0) b) (Is n) c
       go (ok n) e f h = (sym f ∙ e, h)
-      go (no g q) e f h = let z : Reached _ ≡ No _ = sym f ∙ e in let y : _≡_ {A = ℕ} 0 1 = cc in absurd (omega arith)
+      go (no g q) e f h = let z : Is _ ≡ No _ = sym f ∙ e in let y : _≡_ {A = ℕ} 0 1 = cc in absurd (omega arith)
 
 -- where a login that is taken ends
-pub whole : (v : Verdict) (bs b : List ℕ) (total : ℕ) {a : Answer} {n : ℕ} → length bs ≡ total → a ≡ shownAnswer (answerOf (loginPlan v bs) (length b)) → a ≡ Reached n → Whole n total (length b)
+pub whole : (v : Verdict) (bs b : List ℕ) (total : ℕ) {a : Answer} {n : ℕ} → length bs ≡ total → a ≡ shownAnswer (answerOf (loginPlan v bs) (length b)) → a ≡ Is n → Whole n total (length b)
 whole v bs b total l e f =
     let t = accepts (loginPlan v bs) zero b [] e f .accepted in
     record { is = t .reached ∙ zero-add (length bs) ∙ l; room = t .fits }

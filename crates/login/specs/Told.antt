@@ -7,7 +7,7 @@ use lib.Dec.{eqb}
 use Rattle.format.specs.Result.{pick}
 use Rattle.format.specs.Format.{present}
 use Rattle.format.specs.Message.{edition, Server}
-use Rattle.write.specs.declared.Answer.{Answer}
+use Rattle.format.specs.declared.Answer.{Answer}
 use Rattle.steps.specs.State.{State}
 use Rattle.steps.specs.Plans.{Out}
 use Rattle.steps.specs.Logins.{Welcome}

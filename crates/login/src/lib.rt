@@ -1,6 +1,6 @@
 // The logins, each written in one call, from the buffer's start and with no state.
+use format::Answer;
 use format::Fault;
-use write::Answer;
 use write::Check;
 ghost use mathlib.Core.Path.{_≡_};
 ghost use Prim.Native.Nat.{_+_, _≤_};
@@ -32,7 +32,7 @@ pub fn login_request(
     ensures { λ r. ⌜ Told (loginRequest version hashing (now (service .entry)) (now (user .entry)) (now (hash .entry)) (now (out .entry))) r (now (out .exit)) ⌝ }
 {
     let a = ask_request(version, hashing, service, user, hash, out.len());
-    let Answer::Reached(n) = a else {
+    let Answer::Is(n) = a else {
         return a;
     };
     let front = put::number_at(out, 0, (n - 4) as u64, 4);
@@ -58,7 +58,7 @@ pub fn login_response(
     ensures { λ r. ⌜ Told (loginResponse version result (welcome host connection start leader (now (build .entry))) (now (out .entry))) r (now (out .exit)) ⌝ }
 {
     let a = ask_response(version, result, build, out.len());
-    let Answer::Reached(n) = a else {
+    let Answer::Is(n) = a else {
         return a;
     };
     let front = put::number_at(out, 0, (n - 4) as u64, 4);

@@ -2,16 +2,16 @@
 use Prim.Native.Nat.{ℕ}
 use mathlib.Core.Path.{_≡_, refl, _∙_, ap, subst}
 use mathlib.Core.List.{List, []}
-use Rattle.format.specs.Result.{Res, ok, no}
+use Rattle.format.specs.Result.{Res, ok, no, toldAnswer}
 use Rattle.write.specs.declared.State.{State}
-use Rattle.write.specs.declared.Answer.{Answer}
+use Rattle.format.specs.declared.Answer.{Answer}
 use Rattle.write.specs.declared.Outcome.{Outcome}
 use Rattle.steps.specs.State as definition
 use Rattle.steps.specs.Plans.{Out}
 use Rattle.steps.specs.Steps.{Step, step}
 use Rattle.write.specs.Shown.{seen, shownAnswer, answered, came, typesAfter, Stepped, Opened}
 use Rattle.numbers.specs.Packed.{packed, itself}
-use Rattle.numbers.specs.Stored.{stateOf, toldAnswer, kept, listed, WroteFrom, Wrote, WroteAll, WroteLogin}
+use Rattle.numbers.specs.Stored.{stateOf, kept, listed, WroteFrom, Wrote, WroteAll, WroteLogin}
 
 -- by the answer
 answer-packed : (old : State) (a : Res ℕ) (s : definition.State) → packed itself (toldAnswer (answered old a s .answer)) ≡ packed itself a

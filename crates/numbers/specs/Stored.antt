@@ -9,8 +9,8 @@ use Rattle.steps.specs.declared.Stage.{Stage}
 use Rattle.steps.specs.declared.Stage.the-variants.{Closed, Call, Array, Reply, Table, Row}
 use Rattle.write.specs.declared.State.{State}
 use Rattle.steps.specs.State as definition
-use Rattle.write.specs.declared.Answer.{Answer}
-use Rattle.write.specs.declared.Answer.the-variants.{Reached, No}
+use Rattle.format.specs.declared.Answer.{Answer}
+use Rattle.format.specs.declared.Answer.the-variants.{Is, No}
 use Rattle.steps.specs.State.{stageNumber}
 use Rattle.steps.specs.Plans.{Out}
 use Rattle.steps.specs.Steps.{Step, step}
@@ -45,13 +45,8 @@ numbersOf s =
     stageNumber (s .stage) ∷ s .position ∷ s .«count_at» ∷ s .count ∷ s .«inner_at» ∷ s .«inner_type» ∷ s .«inner_count»
     ∷ s .«table_at» ∷ s .«rows_at» ∷ s .rows ∷ s .columns ∷ []
 
--- what a step's answer says, and the numbers after it: a refusal keeps them
-abbrev pub toldAnswer : Answer → Res ℕ
-toldAnswer (Reached n) = ok n
-toldAnswer (No r) = no (r .fault) (r .place)
-
 abbrev pub kept : List ℕ → Answer → State → List ℕ
-kept ns (Reached n) s = numbersOf s
+kept ns (Is n) s = numbersOf s
 kept ns (No r) s = ns
 
 abbrev pub listed : List ℕ → Res ℕ → definition.State → List ℕ

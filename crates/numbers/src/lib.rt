@@ -2,16 +2,13 @@
 use columns::Column;
 use columns::Head;
 use columns::Survey;
-use fields::Counted;
 use fields::Owned;
-use fields::Written;
+use format::Answer;
 use format::Refusal;
 use message::Verdict;
 use query::Argued;
 use query::CellAnswer;
 use query::ColumnAnswer;
-use query::Count;
-use query::Position;
 use query::TableAnswer;
 use record::Edition;
 use record::InvocationRecord;
@@ -25,18 +22,18 @@ use record::ResponseShown;
 use record::Span;
 use show::Cell;
 use steps::Stage;
-use write::Answer;
 use write::COLUMNS;
 use write::Outcome;
 use write::State;
 ghost use mathlib.Core.Path.{_≡_};
 ghost use mathlib.Core.List.{[], _∷_};
 ghost use Prim.Native.Nat.{_+_, _*_, _<_};
+ghost use Rattle.format.specs.Result.{toldAnswer};
 ghost use Rattle.format.specs.Number.{numAt};
 ghost use Rattle.scan.specs.Signed.{unsigned};
 ghost use Rattle.message.specs.Verdict.{toldVerdict};
-ghost use Rattle.fields.specs.Told.{toldCounted, toldOwned, toldWritten};
-ghost use Rattle.query.specs.Answers.{toldCount, toldTable, toldColumn, toldPosition, toldCell, toldArgument};
+ghost use Rattle.fields.specs.Told.{toldOwned};
+ghost use Rattle.query.specs.Answers.{toldTable, toldColumn, toldCell, toldArgument};
 ghost use Rattle.steps.specs.State.{stageNumber};
 ghost use Prim.Native.Nat.{_+_, _≤_};
 ghost use lib.ListN.{length};
@@ -46,7 +43,7 @@ ghost use Rattle.columns.specs.Entries.{columnsOf as entriesWith};
 ghost use Rattle.columns.specs.Walks.{Bounded, addAll, putAll, FitsAll};
 ghost use Rattle.numbers.specs.Entries.{entryAt, entriesOf};
 ghost use Rattle.numbers.specs.Packed.{above, packed, packedNo, nothing, itself, numberIn, rowsOf, columnsOf, typeOf};
-ghost use Rattle.numbers.specs.Stored.{stageOf, byteOf, stateOf, numbersOf, toldAnswer, kept};
+ghost use Rattle.numbers.specs.Stored.{stageOf, byteOf, stateOf, numbersOf, kept};
 ghost use Rattle.numbers.specs.Listed.{lent, cellNumbers, givenNumbers};
 ghost use Rattle.numbers.specs.Records.{form, startOf, sizeOf, there, hasEdition, editionNumber, loginRequestNumbers, loginResponseNumbers, invocationNumbers, responseNumbers};
 
@@ -65,48 +62,12 @@ pub fn refused(refusal: Refusal) -> u64
     above(place) + format::number_of(fault) as u64
 }
 
-pub fn pack_counted(answer: Counted) -> u64
-    ensures { λ r. ⌜ r ≡ packed itself (toldCounted answer) ⌝ }
-{
-    match answer {
-        Counted::Is(n) => above(n),
-        Counted::No(refusal) => refused(refusal),
-    }
-}
-
-pub fn pack_written(answer: Written) -> u64
-    ensures { λ r. ⌜ r ≡ packed itself (toldWritten answer) ⌝ }
-{
-    match answer {
-        Written::Is(n) => above(n),
-        Written::No(refusal) => refused(refusal),
-    }
-}
-
 pub fn pack_owned(answer: Owned) -> u64
     ensures { λ r. ⌜ r ≡ packed numberIn (toldOwned answer) ⌝ }
 {
     match answer {
         Owned::By(_, n) => above(n),
         Owned::No(refusal) => refused(refusal),
-    }
-}
-
-pub fn pack_count(answer: Count) -> u64
-    ensures { λ r. ⌜ r ≡ packed itself (toldCount answer) ⌝ }
-{
-    match answer {
-        Count::Is(n) => above(n),
-        Count::No(refusal) => refused(refusal),
-    }
-}
-
-pub fn pack_position(answer: Position) -> u64
-    ensures { λ r. ⌜ r ≡ packed itself (toldPosition answer) ⌝ }
-{
-    match answer {
-        Position::At(n) => above(n),
-        Position::No(refusal) => refused(refusal),
     }
 }
 
@@ -216,7 +177,7 @@ pub fn keep(numbers: &mut [u64; 11], step: Outcome) -> u64
     let answer = step.answer;
     let state = step.state;
     match answer {
-        Answer::Reached(n) => {
+        Answer::Is(n) => {
             save(numbers, state);
             above(n)
         }
@@ -229,7 +190,7 @@ pub fn pack_answer(answer: Answer) -> u64
     ensures { λ r. ⌜ r ≡ packed itself (toldAnswer answer) ⌝ }
 {
     match answer {
-        Answer::Reached(n) => above(n),
+        Answer::Is(n) => above(n),
         Answer::No(refusal) => refused(refusal),
     }
 }

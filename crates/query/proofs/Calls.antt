@@ -11,7 +11,7 @@ use Rattle.format.specs.declared.Fault.the-variants.{PastEnd, WireType}
 use Rattle.format.specs.Result.{Res, ok, no, bind}
 use Rattle.format.specs.Number.{Bytes}
 use Rattle.format.specs.Format.{number, nothing, each, counted}
-use Rattle.format.specs.Value.{Value, value, string, anything, mostBytes}
+use Rattle.format.specs.Value.{Value, value, string, anything, textRule, mostBytes}
 use Rattle.format.specs.Message.{first, second, list, Argument, one-of, argument, Param, param, Message, message, invocation-of, readMessage}
 use Rattle.format.proofs.Lengths.{lawful-counted}
 use Rattle.format.proofs.Formats.{lawful-value, lawful-param}

@@ -10,45 +10,29 @@ use Rattle.format.specs.declared.Fault.{Fault}
 use Rattle.format.specs.declared.Refusal.{Refusal}
 use Rattle.format.specs.Result.{Res, ok, no, pick}
 use Rattle.format.specs.Value.{value, body}
+use Rattle.format.proofs.Decides.{once, answer}
 use Rattle.format.proofs.Results.{ok-same, no-ok}
 use Rattle.scan.specs.Shown.{refusal}
 use Rattle.places.specs.Entries.{Here, entry}
 use Rattle.places.proofs.Values.{Shows}
-use Rattle.query.specs.declared.Count.{Count}
 use Rattle.query.specs.declared.TableAnswer.{TableAnswer}
 use Rattle.query.specs.declared.ColumnLayout.{ColumnLayout}
 use Rattle.query.specs.declared.ColumnAnswer.{ColumnAnswer}
 use Rattle.query.specs.declared.Placed.{Placed}
-use Rattle.query.specs.declared.Position.{Position}
 use Rattle.query.specs.declared.Named.{Named}
 use Rattle.query.specs.declared.CellAnswer.{CellAnswer}
 use Rattle.query.specs.declared.Part.{Part}
 use Rattle.query.specs.declared.Argued.{Argued}
-use Rattle.query.specs.Answers.{Given, same, isNamed, firstNamed, shownHere, partOf, partIn, toldCount, toldTable, toldColumn, toldPlaced, toldPosition, toldNamed, toldCell, toldPart, toldArgument}
+use Rattle.query.specs.Answers.{Given, same, isNamed, firstNamed, shownHere, partOf, partIn, toldTable, toldColumn, toldPlaced, toldNamed, toldCell, toldPart, toldArgument}
 use Rattle.query.proofs.Names.{same-yes, same-true}
 use Rattle.query.proofs.Parts.{part-stands}
 
--- ---- two answers that say the same are the same: what each says can be told back
-module _ {A B : Type 0} (told : A → B) (back : B → A) (is : (a : A) → back (told a) ≡ a) where
-  once : (a b : A) → told a ≡ told b → a ≡ b
-  once a b e = sym (is a) ∙ ap back e ∙ is b
-
-module _ {A B : Type 0} (yes : B → A) (not : Refusal → A) where
-  abbrev answer : Res B → A
-  answer (ok b) = yes b
-  answer (no f p) = not (refusal f p)
-
-pub count-once : (a b : Count) → toldCount a ≡ toldCount b → a ≡ b
-count-once = once toldCount (answer Count.Is Count.No) (elim [ Count.Is n ↦ refl | Count.No r ↦ refl ])
-
+-- ---- two answers that say the same are the same
 pub table-once : (a b : TableAnswer) → toldTable a ≡ toldTable b → a ≡ b
 table-once = once toldTable (answer TableAnswer.Is TableAnswer.No) (elim [ TableAnswer.Is l ↦ refl | TableAnswer.No r ↦ refl ])
 
 pub column-once : (a b : ColumnAnswer) → toldColumn a ≡ toldColumn b → a ≡ b
 column-once = once toldColumn (answer ColumnAnswer.Is ColumnAnswer.No) (elim [ ColumnAnswer.Is l ↦ refl | ColumnAnswer.No r ↦ refl ])
-
-pub position-once : (a b : Position) → toldPosition a ≡ toldPosition b → a ≡ b
-position-once = once toldPosition (answer Position.At Position.No) (elim [ Position.At i ↦ refl | Position.No r ↦ refl ])
 
 abbrev placed : Option ColumnLayout → Placed
 placed none = Placed.Past

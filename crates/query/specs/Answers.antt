@@ -13,13 +13,11 @@ use Rattle.show.specs.declared.Cell.{Cell}
 use Rattle.show.specs.Cells.{cellOf}
 use Rattle.places.specs.Places.{tablesOf, tableAt, typeAt, nameAt, nameBytes, rowAt, paramsOf, paramAt, argumentAt}
 use Rattle.places.specs.Entries.{entry, Here, cellHere, valueHere, valuesIn, elementOf}
-use Rattle.query.specs.declared.Count.{Count}
 use Rattle.query.specs.declared.TableLayout.{TableLayout}
 use Rattle.query.specs.declared.TableAnswer.{TableAnswer}
 use Rattle.query.specs.declared.ColumnLayout.{ColumnLayout}
 use Rattle.query.specs.declared.ColumnAnswer.{ColumnAnswer}
 use Rattle.query.specs.declared.Placed.{Placed}
-use Rattle.query.specs.declared.Position.{Position}
 use Rattle.query.specs.declared.Named.{Named}
 use Rattle.query.specs.declared.CellAnswer.{CellAnswer}
 use Rattle.query.specs.declared.Part.{Part}
@@ -160,10 +158,6 @@ abbrev pub askElementSpan : List ℕ → ℕ → ℕ → Res (Option (ℕ × ℕ
 askElementSpan m p e = ofParam m p (λ at q. bind (elementOf at (q .argument) e) (λ h. partOf (h .type-at) (shownHere h)))
 
 -- ---- the answers
-abbrev pub toldCount : Count → Res ℕ
-toldCount (Count.Is a) = ok a
-toldCount (Count.No r) = no (r .fault) (r .place)
-
 abbrev pub toldTable : TableAnswer → Res TableLayout
 toldTable (TableAnswer.Is a) = ok a
 toldTable (TableAnswer.No r) = no (r .fault) (r .place)
@@ -176,10 +170,6 @@ abbrev pub toldPlaced : Placed → Res (Option ColumnLayout)
 toldPlaced (Placed.Is a) = ok (some a)
 toldPlaced Placed.Past = ok none
 toldPlaced (Placed.No r) = no (r .fault) (r .place)
-
-abbrev pub toldPosition : Position → Res ℕ
-toldPosition (Position.At i) = ok i
-toldPosition (Position.No r) = no (r .fault) (r .place)
 
 abbrev pub toldNamed : Named → Res (ℕ × ColumnLayout)
 toldNamed (Named.At i a) = ok (i, a)

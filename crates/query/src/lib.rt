@@ -1,6 +1,7 @@
 // Questions about a message: how many tables it has, what a table, a column, a cell, a parameter or an array's element is, and where it stands.
 // Each call accepts the message once and then jumps by lengths: nothing that it passes is read again. A refusal is the message's own, then the
 // question's: past the end (11), another type (6), no such column (9).
+use format::Answer;
 use format::Fault;
 use format::Refusal;
 use message::Verdict;
@@ -15,7 +16,7 @@ ghost use Prim.Native.Nat.{ℕ, _+_, _<_, _≤_, min};
 ghost use lib.ListN.{length, replicate, take, drop};
 ghost use lib.Dec.{eqb};
 ghost use Rattle.format.specs.declared.Fault.the-variants.{WireType};
-ghost use Rattle.format.specs.Result.{ok, bind, pick};
+ghost use Rattle.format.specs.Result.{ok, bind, pick, toldAnswer};
 ghost use Rattle.format.specs.Format.{number, each, counted};
 ghost use Rattle.format.specs.Value.{string, anything, ascii, value, tTinyint};
 ghost use Rattle.format.specs.Message.{first, third, unlimited, Message, readMessage, responseLayout, head, Table, table, Param, param};
@@ -25,15 +26,9 @@ ghost use Rattle.places.specs.Stands.{Stands};
 ghost use Rattle.places.specs.Places.{tablesOf, tableAt, typeAt, nameAt, rowAt, paramsOf, paramAt};
 ghost use Rattle.places.specs.Entries.{entry, cellHere, valueHere, elementOf};
 ghost use Rattle.query.specs.Shown.{pastOf, cellIn, spotOf, shownOf, toldFound};
-ghost use Rattle.query.specs.Answers.{perhaps, ofTable, ofParam, layoutOf, columnOf, firstNamed, namedOf, partOf, partIn, givenOf, askTables, askTable, askColumn, askPlaced, askPosition, askNamed, askCell, askCellSpan, askParameter, askParameterSpan, askElement, askElementSpan, toldCount, toldTable, toldColumn, toldPlaced, toldPosition, toldNamed, toldCell, toldPart, toldArgument};
+ghost use Rattle.query.specs.Answers.{perhaps, ofTable, ofParam, layoutOf, columnOf, firstNamed, namedOf, partOf, partIn, givenOf, askTables, askTable, askColumn, askPlaced, askPosition, askNamed, askCell, askCellSpan, askParameter, askParameterSpan, askElement, askElementSpan, toldTable, toldColumn, toldPlaced, toldNamed, toldCell, toldPart, toldArgument};
 
 // ---- What the questions are answered with.
-
-// How many there are.
-pub enum Count {
-    Is(usize),
-    No(Refusal),
-}
 
 // What a table says of itself: its status, how many columns and rows it has, and where it and its parts stand.
 pub struct TableLayout {
@@ -66,12 +61,6 @@ pub struct ColumnLayout {
 // A column's layout.
 pub enum ColumnAnswer {
     Is(ColumnLayout),
-    No(Refusal),
-}
-
-// The position of a column.
-pub enum Position {
-    At(usize),
     No(Refusal),
 }
 
@@ -204,19 +193,19 @@ fn tables_counted(m: &[u8], timed: bool) -> usize
     past(message::skip_head(m, 5, timed))
 }
 
-fn count_tables(m: &[u8], timed: bool) -> Count
-    ensures { λ r. ⌜ toldCount r ≡ bind (readMessage (responseLayout timed) (now (m .entry))) (λ p. ok (length (tablesOf p))) ⌝ }
+fn count_tables(m: &[u8], timed: bool) -> Answer
+    ensures { λ r. ⌜ toldAnswer r ≡ bind (readMessage (responseLayout timed) (now (m .entry))) (λ p. ok (length (tablesOf p))) ⌝ }
 {
     let verdict = message::accept_layout(format::response_layout(timed), m);
     match verdict {
-        Verdict::No(r) => Count::No(r),
-        Verdict::Fine => Count::Is(count_at(m, tables_counted(m, timed), 2)),
+        Verdict::No(r) => Answer::No(r),
+        Verdict::Fine => Answer::Is(count_at(m, tables_counted(m, timed), 2)),
     }
 }
 
 // How many tables a response has.
-pub fn tables(m: &[u8]) -> Count
-    ensures { λ r. ⌜ toldCount r ≡ askTables (now (m .entry)) ⌝ }
+pub fn tables(m: &[u8]) -> Answer
+    ensures { λ r. ⌜ toldAnswer r ≡ askTables (now (m .entry)) ⌝ }
 {
     count_tables(m, true)
 }
@@ -334,16 +323,16 @@ pub fn column(m: &[u8], t: usize, c: usize) -> ColumnAnswer
 }
 
 // The first of some names, from a place on, that is equal to a name.
-fn search(m: &[u8], from: usize, count: usize, name: &[u8]) -> Position
+fn search(m: &[u8], from: usize, count: usize, name: &[u8]) -> Answer
     ensures { λ r. ⌜ ((names : List (Option (List ℕ))) → Stands (each third 0 (replicate count (string false ascii 46 47))) (now (m .entry)) from names
-        → toldPosition r ≡ firstNamed (now (name .entry)) names 0) ⌝ }
+        → toldAnswer r ≡ firstNamed (now (name .entry)) names 0) ⌝ }
 {
     let mut at = from;
     let mut i = 0;
     'columns: while i < count {
         let body = scan::read_body(m, at, false, format::UNLIMITED);
         let Body::Is(start, end) = body else {
-            return Position::No(Refusal {
+            return Answer::No(Refusal {
                 fault: Fault::NoColumn,
                 place: 0,
             });
@@ -367,9 +356,9 @@ fn search(m: &[u8], from: usize, count: usize, name: &[u8]) -> Position
         i += 1;
     }
     if i < count {
-        Position::At(i)
+        Answer::Is(i)
     } else {
-        Position::No(Refusal {
+        Answer::No(Refusal {
             fault: Fault::NoColumn,
             place: 0,
         })
@@ -377,12 +366,12 @@ fn search(m: &[u8], from: usize, count: usize, name: &[u8]) -> Position
 }
 
 // The position of the first column of table t whose name is equal, bytes compared exactly.
-pub fn find_column(m: &[u8], t: usize, name: &[u8]) -> Position
-    ensures { λ r. ⌜ toldPosition r ≡ askPosition (now (m .entry)) t (now (name .entry)) ⌝ }
+pub fn find_column(m: &[u8], t: usize, name: &[u8]) -> Answer
+    ensures { λ r. ⌜ toldAnswer r ≡ askPosition (now (m .entry)) t (now (name .entry)) ⌝ }
 {
     let answer = find_table(m, true, t);
     match answer {
-        TableAnswer::No(r) => Position::No(r),
+        TableAnswer::No(r) => Answer::No(r),
         TableAnswer::Is(layout) => search(m, layout.names, layout.columns, name),
     }
 }
@@ -394,8 +383,8 @@ fn named_in(m: &[u8], types: usize, names: usize, count: usize, name: &[u8]) -> 
 {
     let found = search(m, names, count, name);
     match found {
-        Position::No(r) => Named::No(r),
-        Position::At(c) => Named::At(c, column_at(m, types, names, c)),
+        Answer::No(r) => Named::No(r),
+        Answer::Is(c) => Named::At(c, column_at(m, types, names, c)),
     }
 }
 
@@ -567,24 +556,24 @@ pub fn cell_part(m: &[u8], t: usize, k: usize, c: usize) -> &[u8]
 // ---- Parameters, and the elements of those that are arrays.
 
 // The place of parameter p of an accepted invocation.
-fn param_in(m: &[u8], p: usize) -> Position
-    ensures { λ r. ⌜ ((v : Message) → readMessage 3 (now (m .entry)) ≡ ok v → toldPosition r ≡ bind (entry (paramsOf v) p) (λ q. ok (paramAt v p))) ⌝ }
+fn param_in(m: &[u8], p: usize) -> Answer
+    ensures { λ r. ⌜ ((v : Message) → readMessage 3 (now (m .entry)) ≡ ok v → toldAnswer r ≡ bind (entry (paramsOf v) p) (λ q. ok (paramAt v p))) ⌝ }
 {
     let client = past(scan::skip_body(m, 5, false));
     let counted = after(m, client, 8);
     if count_at(m, counted, 2) <= p {
-        return Position::No(PAST_END);
+        return Answer::No(PAST_END);
     }
     let first = after(m, counted, 2);
-    Position::At(past(scan::skip_params(m, first, p)))
+    Answer::Is(past(scan::skip_params(m, first, p)))
 }
 
-fn find_param(m: &[u8], p: usize) -> Position
-    ensures { λ r. ⌜ toldPosition r ≡ ofParam (now (m .entry)) p (λ at q. ok at) ⌝ }
+fn find_param(m: &[u8], p: usize) -> Answer
+    ensures { λ r. ⌜ toldAnswer r ≡ ofParam (now (m .entry)) p (λ at q. ok at) ⌝ }
 {
     let verdict = message::accept(3, m);
     match verdict {
-        Verdict::No(r) => Position::No(r),
+        Verdict::No(r) => Answer::No(r),
         Verdict::Fine => param_in(m, p),
     }
 }
@@ -619,8 +608,8 @@ pub fn parameter(m: &[u8], p: usize) -> Argued
 {
     let place = find_param(m, p);
     match place {
-        Position::No(r) => Argued::No(r),
-        Position::At(at) => argument_at(m, at),
+        Answer::No(r) => Argued::No(r),
+        Answer::Is(at) => argument_at(m, at),
     }
 }
 
@@ -644,8 +633,8 @@ fn find_value(m: &[u8], p: usize) -> FoundCell
 {
     let place = find_param(m, p);
     match place {
-        Position::No(r) => FoundCell::No(r),
-        Position::At(at) => one_at(m, at),
+        Answer::No(r) => FoundCell::No(r),
+        Answer::Is(at) => one_at(m, at),
     }
 }
 
@@ -687,8 +676,8 @@ fn find_element(m: &[u8], p: usize, e: usize) -> FoundCell
 {
     let place = find_param(m, p);
     match place {
-        Position::No(r) => FoundCell::No(r),
-        Position::At(at) => element_at(m, at, e),
+        Answer::No(r) => FoundCell::No(r),
+        Answer::Is(at) => element_at(m, at, e),
     }
 }
 

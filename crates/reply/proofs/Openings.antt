@@ -20,8 +20,8 @@ use Rattle.format.proofs.Numbers.{length-numBytes}
 use Rattle.put.specs.Put.{put, optional, sized}
 use Rattle.put.proofs.Laws.{Puts, puts, sized-null, sized-some}
 use Rattle.write.specs.declared.State.{State as Code}
-use Rattle.write.specs.declared.Answer.{Answer}
-use Rattle.write.specs.declared.Answer.the-variants.{Reached, No}
+use Rattle.format.specs.declared.Answer.{Answer}
+use Rattle.format.specs.declared.Answer.the-variants.{Is, No}
 use Rattle.write.specs.declared.Check.{Check}
 use Rattle.write.specs.declared.Check.the-variants.{Bad}
 use Rattle.steps.specs.Plans.{answerOf, also, test}
@@ -151,7 +151,7 @@ pub record Whole (n sum size : ℕ) : Type 0 where
   pub room : n ≤ size
 
 pub begin-ends : (h : Head) (client status app exception b : List ℕ) {a : Answer} {n : ℕ} → length client ≡ 8
-    → a ≡ shownAnswer (answerAt true (beginFault h status app exception) true 0 (beginSize h status app exception) (length b)) → a ≡ Reached n → Whole n (beginSize h status app exception) (length b)
+    → a ≡ shownAnswer (answerAt true (beginFault h status app exception) true 0 (beginSize h status app exception) (length b)) → a ≡ Is n → Whole n (beginSize h status app exception) (length b)
 begin-ends h client status app exception b eight e f =
     let t = step-accepted (beginReply (h .version) (openingOf h client status app exception)) zero b [] (begin-answer h client status app exception (length b) eight e) f in
     record { is = t .reached ∙ zero-add _ ∙ begin-length h client status app exception eight; room = t .fits }

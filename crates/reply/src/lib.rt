@@ -1,10 +1,10 @@
 // The steps that write a response.
 use format::APP_STRING;
+use format::Answer;
 use format::EXCEPTION;
 use format::Fault;
 use format::STATUS_STRING;
 use steps::Stage;
-use write::Answer;
 use write::Check;
 use write::Outcome;
 use write::State;
@@ -49,7 +49,7 @@ pub fn begin_reply(
     // as a slice, so that its length is known from here on
     let data: &[u8] = client;
     let a = ask_begin(h, status, app, exception, out.len());
-    let Answer::Reached(n) = a else {
+    let Answer::Is(n) = a else {
         let none = write::nothing_open();
         return Outcome {
             answer: a,
@@ -69,7 +69,7 @@ pub fn finish_reply(out: &mut [u8], st: State) -> Outcome
     ensures { λ r. ⌜ Stepped finishReply st [] (now (out .entry)) r (now (out .exit)) ⌝ }
 {
     let a = ask_finish_reply(st, out.len());
-    let Answer::Reached(n) = a else {
+    let Answer::Is(n) = a else {
         return Outcome {
             answer: a,
             state: st,

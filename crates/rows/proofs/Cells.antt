@@ -17,7 +17,7 @@ use Rattle.format.specs.Message.{mostColumns, mostRow}
 use Rattle.format.proofs.Numbers.{length-numBytes}
 use Rattle.format.proofs.Results.{and-true-both}
 use Rattle.put.specs.Put.{sized}
-use Rattle.write.specs.declared.Answer.{Answer}
+use Rattle.format.specs.declared.Answer.{Answer}
 use Rattle.steps.specs.declared.Stage.the-variants.{Row}
 use Rattle.write.specs.declared.State.{State as Code}
 use Rattle.steps.specs.State.{State, atStage}

@@ -1,7 +1,7 @@
 // The steps that write the rows of a table, and the one that closes it.
+use format::Answer;
 use format::Fault;
 use steps::Stage;
-use write::Answer;
 use write::COLUMNS;
 use write::Check;
 use write::Outcome;
@@ -24,7 +24,7 @@ pub fn open_row(out: &mut [u8], st: State, types: &[u8; COLUMNS]) -> Outcome
     // as a slice, so that its length is known from here on
     let lent: &[u8] = types;
     let a = ask_open_row(st, types, out.len());
-    let Answer::Reached(n) = a else {
+    let Answer::Is(n) = a else {
         return Outcome {
             answer: a,
             state: st,
@@ -53,7 +53,7 @@ pub fn fixed_cell(
     let lent: &[u8] = types;
     let fault = write::fixed_fault(st.position, t, upper, lower);
     let a = ask_cell(st, types, t, fault, scan::width_of(t), out.len());
-    let Answer::Reached(n) = a else {
+    let Answer::Is(n) = a else {
         return Outcome {
             answer: a,
             state: st,
@@ -82,7 +82,7 @@ pub fn body_cell(
     let lent: &[u8] = types;
     let fault = write::body_fault(st.position, t, null, s);
     let a = ask_cell(st, types, t, fault, put::text_size(null, s), out.len());
-    let Answer::Reached(n) = a else {
+    let Answer::Is(n) = a else {
         return Outcome {
             answer: a,
             state: st,
@@ -103,7 +103,7 @@ pub fn close_row(out: &mut [u8], st: State, types: &[u8; COLUMNS]) -> Outcome
     // as a slice, so that its length is known from here on
     let lent: &[u8] = types;
     let a = ask_close_row(st, types, out.len());
-    let Answer::Reached(n) = a else {
+    let Answer::Is(n) = a else {
         return Outcome {
             answer: a,
             state: st,
@@ -127,7 +127,7 @@ pub fn close_table(out: &mut [u8], st: State, types: &[u8; COLUMNS]) -> Outcome
     ensures { λ r. ⌜ Stepped closeTable st (now (types .entry)) (now (out .entry)) r (now (out .exit)) ⌝ }
 {
     let a = ask_close_table(st, types, out.len());
-    let Answer::Reached(n) = a else {
+    let Answer::Is(n) = a else {
         return Outcome {
             answer: a,
             state: st,

@@ -16,7 +16,7 @@ use Rattle.format.specs.Message.{mostColumns, unlimited}
 use Rattle.format.proofs.Results.{and-true-both}
 use Rattle.put.specs.Put.{put}
 use Rattle.write.specs.declared.State.{State as Code}
-use Rattle.write.specs.declared.Answer.the-variants.{Reached, No}
+use Rattle.format.specs.declared.Answer.the-variants.{Is, No}
 use Rattle.write.specs.declared.Outcome.{Outcome}
 use Rattle.steps.specs.declared.Stage.the-variants.{Table, Row}
 use Rattle.steps.specs.State.{State, stageNumber, allColumns, messageSound, outerSound, sound, atStage}
@@ -76,7 +76,7 @@ pub record Call (s : Step) (st : Code) (types b : List ℕ) : Type 0 where
   pub b′ : List ℕ
   pub reached : ℕ
   pub called : Called s st types b came types′ b′
-  pub accepted : came .answer ≡ Reached reached
+  pub accepted : came .answer ≡ Is reached
 
 -- calls one after the other, each accepted, to a position and a buffer
 unfoldable pub Chain : List Step → Code → List ℕ → List ℕ → ℕ → List ℕ → Type 0
@@ -211,12 +211,12 @@ left-same closeTable types n x b c = refl
 left-same finishReply types n x b c = refl
 
 -- an accepted call is a step that is accepted
-came-ok : (old : Code) (o : Out State) (n : ℕ) → came old o .answer ≡ Reached n → o .answer ≡ ok n
+came-ok : (old : Code) (o : Out State) (n : ℕ) → came old o .answer ≡ Is n → o .answer ≡ ok n
 came-ok old o n = go (o .answer)
   where
-    go : (r : Res ℕ) → answered old r (o .state) .answer ≡ Reached n → r ≡ ok n
+    go : (r : Res ℕ) → answered old r (o .state) .answer ≡ Is n → r ≡ ok n
     go (ok m) e = cc
-    go (no f p) e = let z : No _ ≡ Reached n = e in cc
+    go (no f p) e = let z : No _ ≡ Is n = e in cc
 
 -- of an accepted plan the state that it began in is forgotten
 plan-ok : {S : Type 0} (p : Plan S) (x y : S) (b : List ℕ) (n : ℕ) → carry p x b .answer ≡ ok n → carry p x b ≡ carry p y b

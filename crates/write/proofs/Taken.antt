@@ -13,8 +13,8 @@ use Rattle.format.specs.Result.{Res, ok, no}
 use Rattle.format.specs.Format.{Verdict, fine, bad}
 use Rattle.put.specs.Put.{put}
 use Rattle.write.specs.declared.State.{State as Code}
-use Rattle.write.specs.declared.Answer.{Answer}
-use Rattle.write.specs.declared.Answer.the-variants.{Reached, No}
+use Rattle.format.specs.declared.Answer.{Answer}
+use Rattle.format.specs.declared.Answer.the-variants.{Is, No}
 use Rattle.write.specs.declared.Outcome.{Outcome}
 use Rattle.steps.specs.State.{State}
 use Rattle.steps.specs.Plans.{Plan, answerWithin, answerOf, carry, fillAll}
@@ -33,12 +33,12 @@ answered p size {permitted} {limits} {v} {n} {a} e f g h = e ∙ rw (f, g) (go (
     go true (bad x q) h = refl
     go false w h = refl
 
-shown-ok : (r : Res ℕ) {a : Answer} {n : ℕ} → a ≡ shownAnswer r → a ≡ Reached n → r ≡ ok n
+shown-ok : (r : Res ℕ) {a : Answer} {n : ℕ} → a ≡ shownAnswer r → a ≡ Is n → r ≡ ok n
 shown-ok (ok m) e f = cc
-shown-ok (no g p) e f = let z : Reached _ ≡ No _ = sym f ∙ e in cc
+shown-ok (no g p) e f = let z : Is _ ≡ No _ = sym f ∙ e in cc
 
 shown-no : (r : Res ℕ) {a : Answer} {x : Refusal} → a ≡ shownAnswer r → a ≡ No x → r ≡ no (x .fault) (x .place)
-shown-no (ok m) e f = let z : No _ ≡ Reached _ = sym f ∙ e in cc
+shown-no (ok m) e f = let z : No _ ≡ Is _ = sym f ∙ e in cc
 shown-no (no g p) e f = let z : No _ ≡ No _ = sym f ∙ e in cc
 
 module _ (p : Plan State) (st : Code) (b : List ℕ) (types : List ℕ) where
@@ -53,10 +53,10 @@ module _ (p : Plan State) (st : Code) (b : List ℕ) (types : List ℕ) where
   -- what comes of one that is taken
   pub record Taken (n : ℕ) : Type 0 where
     pub accepted : Accepted p (length b) n
-    pub came-is : came st (carry p (seen st types) b) ≡ record { answer = Reached n; state = shown (p .next n) }
+    pub came-is : came st (carry p (seen st types) b) ≡ record { answer = Is n; state = shown (p .next n) }
     pub wrote : carry p (seen st types) b .buffer ≡ fillAll (p .fills) (put b (p .at) (p .bytes))
 
-  pub taken : {a : Answer} {n : ℕ} → a ≡ shownAnswer (answerOf p (length b)) → a ≡ Reached n → Taken n
+  pub taken : {a : Answer} {n : ℕ} → a ≡ shownAnswer (answerOf p (length b)) → a ≡ Is n → Taken n
   unfolding carry
   taken {a} {n} e f =
       let r = shown-ok (answerOf p (length b)) e f in
@@ -68,11 +68,11 @@ module _ (s : Step) (st : Code) (b : List ℕ) (types : List ℕ) where
   unfolding step
   step-refused e f = refused (plan s (seen st types) (length b)) st b types e f
 
-  pub step-accepted : {a : Answer} {n : ℕ} → let p = plan s (seen st types) (length b) in a ≡ shownAnswer (answerOf p (length b)) → a ≡ Reached n → Accepted p (length b) n
+  pub step-accepted : {a : Answer} {n : ℕ} → let p = plan s (seen st types) (length b) in a ≡ shownAnswer (answerOf p (length b)) → a ≡ Is n → Accepted p (length b) n
   step-accepted e f = taken (plan s (seen st types) (length b)) st b types e f .accepted
 
-  pub step-taken : {a : Answer} {n : ℕ} {next : Code} {c : List ℕ} → let p = plan s (seen st types) (length b) in a ≡ shownAnswer (answerOf p (length b)) → a ≡ Reached n
-      → next ≡ shown (p .next n) → c ≡ fillAll (p .fills) (put b (p .at) (p .bytes)) → Stepped s st types b (record { answer = Reached n; state = next }) c
+  pub step-taken : {a : Answer} {n : ℕ} {next : Code} {c : List ℕ} → let p = plan s (seen st types) (length b) in a ≡ shownAnswer (answerOf p (length b)) → a ≡ Is n
+      → next ≡ shown (p .next n) → c ≡ fillAll (p .fills) (put b (p .at) (p .bytes)) → Stepped s st types b (record { answer = Is n; state = next }) c
   unfolding step
   step-taken {a} {n} {next} e f g h =
       let t = taken (plan s (seen st types) (length b)) st b types e f in

@@ -8,11 +8,11 @@ use Rattle.exports.proofs.chaloenpik_field_count.Tie as tie
 count-requires : tie.Need-count-requires
 count-requires c κs = search needs
 
-pack-counted-requires : tie.Need-pack-counted-requires
-pack-counted-requires c κs = search needs
+pack-answer-requires : tie.Need-pack-answer-requires
+pack-answer-requires c κs = search needs
 
 returns : tie.Need-returns
-returns c = c .pack-counted .ensures ∙ ap (packed itself) (c .before .count .ensures)
+returns c = c .pack-answer .ensures ∙ ap (packed itself) (c .before .count .ensures)
 
 pub chaloenpik-field-count-spec : {M : Type 1} → statement M
-chaloenpik-field-count-spec = tie.close (tie.spec count-requires pack-counted-requires returns)
+chaloenpik-field-count-spec = tie.close (tie.spec count-requires pack-answer-requires returns)

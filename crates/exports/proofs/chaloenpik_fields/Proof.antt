@@ -8,15 +8,15 @@ use Rattle.exports.proofs.chaloenpik_fields.Tie as tie
 window-requires : tie.Need-window-requires
 window-requires c κs = search needs
 
-pack-written-requires : tie.Need-pack-written-requires
-pack-written-requires c κs = search needs
+pack-answer-requires : tie.Need-pack-answer-requires
+pack-answer-requires c κs = search needs
 
 same-length : tie.Need-same-length
 same-length c = search needs
 
 returns : tie.Need-returns
-returns c = (c .pack-written .ensures ∙ ap (packed itself) (c .before .before .before .window .ensures .0), c .before .before .before .window .ensures .1)
+returns c = (c .pack-answer .ensures ∙ ap (packed itself) (c .before .before .before .window .ensures .0), c .before .before .before .window .ensures .1)
 
 pub chaloenpik-fields-spec : {M : Type 1} → statement M
 chaloenpik-fields-spec =
-    tie.close (tie.spec window-requires pack-written-requires same-length returns)
+    tie.close (tie.spec window-requires pack-answer-requires same-length returns)

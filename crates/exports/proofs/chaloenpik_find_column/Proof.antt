@@ -8,12 +8,12 @@ use Rattle.exports.proofs.chaloenpik_find_column.Tie as tie
 find-column-requires : tie.Need-find-column-requires
 find-column-requires c κs = search needs
 
-pack-position-requires : tie.Need-pack-position-requires
-pack-position-requires c κs = search needs
+pack-answer-requires : tie.Need-pack-answer-requires
+pack-answer-requires c κs = search needs
 
 returns : tie.Need-returns
-returns c = c .pack-position .ensures ∙ ap (packed itself) (c .before .find-column .ensures)
+returns c = c .pack-answer .ensures ∙ ap (packed itself) (c .before .find-column .ensures)
 
 pub chaloenpik-find-column-spec : {M : Type 1} → statement M
 chaloenpik-find-column-spec =
-    tie.close (tie.spec find-column-requires pack-position-requires returns)
+    tie.close (tie.spec find-column-requires pack-answer-requires returns)

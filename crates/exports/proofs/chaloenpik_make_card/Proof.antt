@@ -8,15 +8,15 @@ use Rattle.exports.proofs.chaloenpik_make_card.Tie as tie
 make-card-requires : tie.Need-make-card-requires
 make-card-requires c κs = search needs
 
-pack-position-requires : tie.Need-pack-position-requires
-pack-position-requires c κs = search needs
+pack-answer-requires : tie.Need-pack-answer-requires
+pack-answer-requires c κs = search needs
 
 same-length : tie.Need-same-length
 same-length c = search needs
 
 returns : tie.Need-returns
-returns c = let made = c .before .before .before .make-card .ensures in (c .pack-position .ensures ∙ ap (packed itself) (made .answer), made .buffer)
+returns c = let made = c .before .before .before .make-card .ensures in (c .pack-answer .ensures ∙ ap (packed itself) (made .answer), made .buffer)
 
 pub chaloenpik-make-card-spec : {M : Type 1} → statement M
 chaloenpik-make-card-spec =
-    tie.close (tie.spec make-card-requires pack-position-requires same-length returns)
+    tie.close (tie.spec make-card-requires pack-answer-requires same-length returns)

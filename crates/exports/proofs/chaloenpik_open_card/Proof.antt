@@ -8,12 +8,12 @@ use Rattle.exports.proofs.chaloenpik_open_card.Tie as tie
 open-card-requires : tie.Need-open-card-requires
 open-card-requires c κs = search needs
 
-pack-position-requires : tie.Need-pack-position-requires
-pack-position-requires c κs = search needs
+pack-answer-requires : tie.Need-pack-answer-requires
+pack-answer-requires c κs = search needs
 
 returns : tie.Need-returns
-returns c = c .pack-position .ensures ∙ ap (packed itself) (c .before .open-card .ensures)
+returns c = c .pack-answer .ensures ∙ ap (packed itself) (c .before .open-card .ensures)
 
 pub chaloenpik-open-card-spec : {M : Type 1} → statement M
 chaloenpik-open-card-spec =
-    tie.close (tie.spec open-card-requires pack-position-requires returns)
+    tie.close (tie.spec open-card-requires pack-answer-requires returns)

@@ -8,11 +8,11 @@ use Rattle.exports.proofs.chaloenpik_tables.Tie as tie
 tables-requires : tie.Need-tables-requires
 tables-requires c κs = search needs
 
-pack-count-requires : tie.Need-pack-count-requires
-pack-count-requires c κs = search needs
+pack-answer-requires : tie.Need-pack-answer-requires
+pack-answer-requires c κs = search needs
 
 returns : tie.Need-returns
-returns c = c .pack-count .ensures ∙ ap (packed itself) (c .before .tables .ensures)
+returns c = c .pack-answer .ensures ∙ ap (packed itself) (c .before .tables .ensures)
 
 pub chaloenpik-tables-spec : {M : Type 1} → statement M
-chaloenpik-tables-spec = tie.close (tie.spec tables-requires pack-count-requires returns)
+chaloenpik-tables-spec = tie.close (tie.spec tables-requires pack-answer-requires returns)

@@ -2,8 +2,10 @@
 -- The struct and the slices are Copy: what each owns is had twice, one is kept for the exit, and the other goes to the callee, beside the lifetimes' tokens, which come back. What a number owns is made anew.
 -- Assumes nothing.
 use mathlib.Core.Path.{_≡_, refl}
+use Rattle.format.specs.declared.Answer.{Answer}
+use Rattle.format.specs.Result.{toldAnswer}
 use Rattle.cards.specs.Answers.{askOpen}
-use Rattle.query.specs.Answers.{toldTable, askTable, toldColumn, askColumn, toldPosition, askPosition, toldCell, askCell, toldPart, askCellSpan, partIn}
+use Rattle.query.specs.Answers.{toldTable, askTable, toldColumn, askColumn, askPosition, toldCell, askCell, toldPart, askCellSpan, partIn}
 use Prim.Native.Nat.{ℕ, _<_, _^_}
 use mathlib.Core.List.{List, [], _∷_}
 use lib.ListN.{length}
@@ -44,13 +46,12 @@ use denote.Triple.Walked.{says, needs, Stays, stay-none, stay-none-slice, walkOf
 use denote.Exit.{yes}
 use denote.Triple.Clauses.{ensured, lasts}
 use Rattle.held.specs.declared.TableReader.{TableReader}
-use Rattle.query.specs.declared.Position.{Position}
 use denote.Enum.Laws as EL
 use denote.Struct.Laws as LL
 use Rattle.held.proofs.TableReader as T
 use Rattle.held.proofs.TableReader.Laws as T′
-use Rattle.query.proofs.Position as S
-use Rattle.query.proofs.Position.Laws as S′
+use Rattle.format.proofs.Answer as S
+use Rattle.format.proofs.Answer.Laws as S′
 use Rattle.cards.proofs.open_card as callee
 use Rattle.cards.proofs.open_card.Symbol as callee-def
 use Rattle.cards.proofs.open_card.Symbol.{name as #cards·open-card}
@@ -84,8 +85,8 @@ module _ {M : Type 1} (𝓤 : URA M) (H : Heap 𝓤) (A : Atoms 𝓤) (W : Given
   v0 = (sliceVal (x0 .ptr) (length (x0 .now)))
 
   -- what is said of the result
-  abbrev Said : Position → Type 0
-  Said res = toldPosition res ≡ askOpen (now (d .msg)) (d .table) (now (x0))
+  abbrev Said : Answer → Type 0
+  Said res = toldAnswer res ≡ askOpen (now (d .msg)) (d .table) (now (x0))
 
   abbrev at : Vals fn.signature (κ0, (κ1, tt))
   at = (mach ∷ [], (v0 ∷ [], tt))
@@ -127,10 +128,10 @@ module _ {M : Type 1} (𝓤 : URA M) (H : Heap 𝓤) (A : Atoms 𝓤) (W : Given
       use1 W (given (mach ∷ [] ≡ mach ∷ []) (‵ (all-own (D .parts) L vd))) (own-open 𝓤 H A W D L vd mach) $ learn ! (λ _. use1 W (‵ (ownAt (D .parts) L 0 (d .msg)) ⊛ ‵ (rest (D .parts) L 0 vd)) (own-out 𝓤 H A W (D .parts) L 0 vd) $ split ! $ move ! (1 ∷ []) $ discard ! $ nothing ! $ move ! (3 ∷ 0 ∷ []) $ fjoin ! $ owned ! usize (Is usize) (uint-makes 𝓤 H A W w64) (d .table) _ (refl, f1) $ fjoin ! $ move ! (1 ∷ 0 ∷ []) $ fjoin ! $ move ! (3 ∷ 0 ∷ []) $ use2 W (raw (Cited 𝓤 H A mem run .pre to)) asked $ frame ! $ done !)
 
   -- of the callee's `ensured`, the clause alone: it has no `&mut`, so what is said of last values is dropped
-  said : (res : Position) → ent 𝓤 (ensured 𝓤 H A callee.ended (callee.clauses 𝓤 H A mem run) (κ0, (κ1, tt)) (d .msg, (d .table, (x0, tt))) tt res) (fact 𝓤 (Said res))
+  said : (res : Answer) → ent 𝓤 (ensured 𝓤 H A callee.ended (callee.clauses 𝓤 H A mem run) (κ0, (κ1, tt)) (d .msg, (d .table, (x0, tt))) tt res) (fact 𝓤 (Said res))
   said res = exE 𝓤 _ (λ ws. snd∗ 𝓤 (sem 𝓤 H A (lasts callee.ended (κ0, (κ1, tt)) (d .msg, (d .table, (x0, tt))) ws)) (fact 𝓤 (Said res)))
 
-  exits : (res : Position) (u : Val) → Said res → ent 𝓤 (⋆ 𝓤 H A (‵ (S.the-row .own res (u ∷ [])) ∷ (‵ (flft κ0 q0) ⊛ ‵ (flft κ1 q1) ⊛ ‵ ftrue) ∷ (‵ Own ⊛ ‵ Own0) ∷ [])) (Post u)
+  exits : (res : Answer) (u : Val) → Said res → ent 𝓤 (⋆ 𝓤 H A (‵ (S.the-row .own res (u ∷ [])) ∷ (‵ (flft κ0 q0) ⊛ ‵ (flft κ1 q1) ⊛ ‵ ftrue) ∷ (‵ Own ⊛ ‵ Own0) ∷ [])) (Post u)
   exits res u e =
       qed W (‵ (S.the-row .own res (u ∷ [])) ∷ (‵ (flft κ0 q0) ⊛ ‵ (flft κ1 q1) ⊛ ‵ ftrue) ∷ (‵ Own ⊛ ‵ Own0) ∷ []) ∵
       suffices ! _ (ends-at 𝓤 H A fn.ended stayed (fn.clauses 𝓤 H A mem run) W (((κ0, (κ1, tt)), (q0, (q1, tt)), tt, (d, (x0, tt)), at), tt) u res (tt, (tt, tt)) (tt, (tt, tt))) $ says ! e $
@@ -147,7 +148,7 @@ module _ {M : Type 1} (𝓤 : URA M) (H : Heap 𝓤) (A : Atoms 𝓤) (W : Given
         move ! (10 ∷ []) $ use1 W (raw (Cited 𝓤 H A mem run .pre to) ⊛ (‵ Own ⊛ ‵ Own0)) (apart (wt .1 .1 .0 .fits)) $ split ! $
         -- [what the callee asks; what is kept; the locals, the last first]
         calls-at ! fm (Cited 𝓤 H A mem run) known to (and-then ! (load ! (from ! (stop !)) (look ! 4 refl)) (and-then ! (load ! (from ! (stop !)) (look ! 2 refl)) (and-then ! (load ! (from ! (stop !)) (look ! 6 refl)) (no-more !)))) (λ u.
-        use1 W (later (some (λ (res : Position). ((‵ (flft κ0 q0) ⊛ ‵ (flft κ1 q1) ⊛ ‵ ftrue) ⊛ ‵ (S.the-row .own res (u ∷ []))) ⊛ raw (ensured 𝓤 H A callee.ended (callee.clauses 𝓤 H A mem run) (κ0, (κ1, tt)) (d .msg, (d .table, (x0, tt))) tt res)))) (id⊢ 𝓤 _) $ await ! tt $ pick ! (λ res.
+        use1 W (later (some (λ (res : Answer). ((‵ (flft κ0 q0) ⊛ ‵ (flft κ1 q1) ⊛ ‵ ftrue) ⊛ ‵ (S.the-row .own res (u ∷ []))) ⊛ raw (ensured 𝓤 H A callee.ended (callee.clauses 𝓤 H A mem run) (κ0, (κ1, tt)) (d .msg, (d .table, (x0, tt))) tt res)))) (id⊢ 𝓤 _) $ await ! tt $ pick ! (λ res.
         split ! $ move ! (1 ∷ []) $ use1 W (raw (fact 𝓤 (Said res))) (said res) $ heard ! (Said res) (λ e. split ! $ move ! (1 ∷ []) $
         -- [the result; the tokens; what is kept; the locals, the last first]
         peeks ! S.the-row (Is S.the-row) (shows 𝓤 H A S.the-row) res (u ∷ []) (λ is.

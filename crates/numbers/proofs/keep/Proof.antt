@@ -2,9 +2,10 @@
 use Prim.Native.Nat.{ℕ}
 use mathlib.Core.Path.{_≡_, sym, ap, _∙_}
 use mathlib.Core.List.{List}
-use Rattle.write.specs.declared.Answer.{Answer}
+use Rattle.format.specs.Result.{toldAnswer}
+use Rattle.format.specs.declared.Answer.{Answer}
 use Rattle.numbers.specs.Packed.{packed, itself}
-use Rattle.numbers.specs.Stored.{toldAnswer, kept}
+use Rattle.numbers.specs.Stored.{kept}
 use borrow.Author.Needs.{needs}
 use Rattle.numbers.proofs.keep.Statement.{statement}
 use Rattle.numbers.proofs.keep.Tie as tie

@@ -1,8 +1,8 @@
 -- `numbers::pack_answer` meets its contract, case by case.
 use mathlib.Core.Path.{sym, ap, _∙_}
-use Rattle.write.specs.declared.Answer.{Answer}
+use Rattle.format.specs.Result.{toldAnswer}
+use Rattle.format.specs.declared.Answer.{Answer}
 use Rattle.numbers.specs.Packed.{packed, itself}
-use Rattle.numbers.specs.Stored.{toldAnswer}
 use borrow.Author.Needs.{needs}
 use Rattle.numbers.proofs.pack_answer.Statement.{statement}
 use Rattle.numbers.proofs.pack_answer.Tie as tie

@@ -1,10 +1,9 @@
 -- `query::find_element` meets its contract: the refusal of the place, or the element there.
 use mathlib.Core.Path.{_∙_, sym, ap}
 use native.Mathlib.Omega.{arith}
-use Rattle.format.specs.Result.{ok, bind}
+use Rattle.format.specs.Result.{ok, bind, toldAnswer}
 use Rattle.places.specs.Places.{paramsOf, paramAt}
 use Rattle.places.specs.Entries.{elementOf}
-use Rattle.query.specs.Answers.{toldPosition}
 use Rattle.query.specs.Shown.{shownOf}
 use Rattle.query.proofs.Opened.{bytes-all, not-found}
 use Rattle.query.proofs.Calls.{param-asked}
@@ -27,12 +26,12 @@ element-at-requires c κs = search needs
 returns : tie.Need-returns
 returns c =
     let a = c .before .before .before .before .before .args in
-    not-found 3 paramsOf paramAt (a .m .now) (a .p) (λ at q. at) (λ at q. bind (elementOf at (q .argument) (a .e)) (λ h. ok (shownOf h))) (sym (ap toldPosition (c .before .place .given .1)) ∙ c .before .before .before .find-param .ensures)
+    not-found 3 paramsOf paramAt (a .m .now) (a .p) (λ at q. at) (λ at q. bind (elementOf at (q .argument) (a .e)) (λ h. ok (shownOf h))) (sym (ap toldAnswer (c .before .place .given .1)) ∙ c .before .before .before .find-param .ensures)
 
 returns-2 : tie.Need-returns-2
 returns-2 c =
     let a = c .before .before .before .before .before .before .args in
-    param-asked (a .m .now) (bytes-all (a .m .now) (λ k. omega (arith, c .before .before .before .before .before .shared-slice-known .given k))) (a .p) (λ at q. bind (elementOf at (q .argument) (a .e)) (λ h. ok (shownOf h))) (sym (ap toldPosition (c .before .before .place2 .given .1)) ∙ c .before .before .before .before .find-param .ensures) (c .element-at .ensures)
+    param-asked (a .m .now) (bytes-all (a .m .now) (λ k. omega (arith, c .before .before .before .before .before .shared-slice-known .given k))) (a .p) (λ at q. bind (elementOf at (q .argument) (a .e)) (λ h. ok (shownOf h))) (sym (ap toldAnswer (c .before .before .place2 .given .1)) ∙ c .before .before .before .before .find-param .ensures) (c .element-at .ensures)
 
 pub find-element-spec : {M : Type 1} → statement M
 find-element-spec =
