@@ -1,3 +1,4 @@
-pub mod Card
+-- `Answers` is what the public contracts cite: what making and opening a card come to. `Card` is a card's form and bytes; `Shown` is for inner functions alone.
 pub mod Answers
+pub mod Card
 pub mod Shown

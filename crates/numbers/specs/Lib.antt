@@ -1,3 +1,5 @@
+-- What the contracts of the C interface cite: an answer as one number (Packed), the writer's state as numbers (Stored), columns as numbers (Entries), a value
+-- and a record in a lent list (Listed, Records).
 pub mod Packed
 pub mod Stored
 pub mod Entries
