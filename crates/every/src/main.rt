@@ -8,7 +8,7 @@ use query::CellAnswer;
 use query::Part;
 use reply::Head;
 use show::Cell;
-use values::Fixed;
+use show::Fixed;
 use write::Outcome;
 ghost use Prim.Native.Nat.{_<_};
 
@@ -649,7 +649,7 @@ fn shows(answer: CellAnswer, v: Fixed) -> bool {
 }
 
 fn cell_is(cell: Cell, v: Fixed) -> bool {
-    let read = values::fixed_of(cell);
+    let read = show::fixed_of(cell);
     read.wire_type == v.wire_type && read.upper == v.upper && read.lower == v.lower
 }
 

@@ -29,7 +29,6 @@ use Rattle.format.specs.Message.{
   response,
   newest,
   isLayout,
-  responseLayout,
   mostMessage,
   filled,
   readMessage,
@@ -109,12 +108,6 @@ module _ (s : List ℕ) (at layout version : ℕ) where
   pub content-4 : (layout ≡ 1 → ⊥) → (layout ≡ 2 → ⊥) → (layout ≡ 3 → ⊥) → Ends (response (eqb layout 4) .read s at)
   unfolding contentOf
   content-4 a b c = rw (ne-eqb layout 1 a, ne-eqb layout 2 b, ne-eqb layout 3 c) (sym (into-ends aResponse response-of (response (eqb layout 4)) s at))
-
--- that of a response, with its round trip or without
-pub content-response : (timed : Bool) (version : ℕ) → contentOf (responseLayout timed) version ≡ into aResponse response-of (response timed)
-unfolding contentOf
-content-response true version = refl
-content-response false version = refl
 
 -- the version, which is at most the newest that the layout has
 abbrev pub versioned : ℕ → Format ℕ

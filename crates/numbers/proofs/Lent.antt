@@ -20,8 +20,8 @@ use Rattle.record.specs.declared.Span.{Span}
 use Rattle.record.proofs.Span.{the-type as span-type}
 use Rattle.show.specs.declared.Cell.{Cell}
 use Rattle.show.proofs.Cell.{the-type}
-use Rattle.values.specs.declared.Fixed.{Fixed}
-use Rattle.values.specs.Fixed.{fixedOf}
+use Rattle.show.specs.declared.Fixed.{Fixed}
+use Rattle.show.specs.Fixed.{fixedOf}
 use Rattle.scan.proofs.Unsigned.{wider}
 use Rattle.numbers.specs.Packed.{packed, nothing}
 use Rattle.numbers.specs.Listed.{lent, cellNumbers}

@@ -8,7 +8,7 @@ use Rattle.format.specs.Value.{tNull, tArray}
 use Rattle.show.specs.declared.Cell.{Cell}
 use Rattle.show.specs.Cells.{typeOf}
 use Rattle.query.specs.Answers.{Given, partOf}
-use Rattle.values.specs.Fixed.{numberIn}
+use Rattle.show.specs.Fixed.{numberIn}
 
 module _ {A : Type 0} where
   -- a lent list after an answer: what was found, in numbers; a refusal leaves the list as it was

@@ -278,7 +278,7 @@ fn list_cell(c: Cell) -> [u64; 4]
         Cell::NullBinary => four(format::VARBINARY, 2, 0, 0),
         Cell::NullGeography => four(format::GEOGRAPHY, 2, 0, 0),
         _ => {
-            let v = values::fixed_of(c);
+            let v = show::fixed_of(c);
             four(v.wire_type, 0, v.upper, v.lower)
         }
     }

@@ -6,12 +6,14 @@ use scan::Halves;
 use scan::Number;
 ghost use mathlib.Core.Path.{_≡_};
 ghost use mathlib.Core.Bool.{true};
+ghost use lib.Ieee.{binary64, toBits};
 ghost use Prim.Native.Nat.{_+_, _*_, _^_, min};
 ghost use Rattle.format.specs.declared.Fault.the-variants.{Decimal, Point};
 ghost use Rattle.format.specs.Format.{number, ruled};
 ghost use Rattle.format.specs.Value.{value, string, ruleOf, decimalFine, pointFine};
 ghost use Rattle.scan.specs.Shown.{shownBody};
 ghost use Rattle.show.specs.Cells.{floatCell, plainCell, decimalCell, pointCell, partCell, nullCell, bodyCell, cellOf, shownAs};
+ghost use Rattle.show.specs.Fixed.{fixedOf};
 
 // A value of a wire type. Text, varbinary and geography are where their bytes start and how many they are, or null.
 pub enum Cell {
@@ -167,5 +169,51 @@ pub fn read_value(s: &[u8], at: usize, t: u8) -> Shown
         format::DECIMAL => read_decimal(s, at),
         format::POINT => read_point(s, at),
         _ => read_plain(s, at, t, 0),
+    }
+}
+
+// A value of a fixed size: its wire type, and its upper and lower 64 bits.
+pub struct Fixed {
+    pub wire_type: u8,
+    pub upper: u64,
+    pub lower: u64,
+}
+
+// The bits of a shown value. Text, binary values and nulls have no fixed size: their type is 0, which is no type.
+pub fn fixed_of(c: Cell) -> Fixed
+    ensures { λ r. ⌜ r ≡ fixedOf c ⌝ }
+{
+    match c {
+        Cell::Tinyint(z) => made(format::TINYINT, 0, scan::unsigned8(z)),
+        Cell::Smallint(z) => made(format::SMALLINT, 0, scan::unsigned16(z)),
+        Cell::Integer(z) => made(format::INTEGER, 0, scan::unsigned32(z)),
+        Cell::Bigint(z) => made(format::BIGINT, 0, scan::unsigned64(z)),
+        Cell::Timestamp(z) => made(format::TIMESTAMP, 0, scan::unsigned64(z)),
+        Cell::Float(x) => made(format::FLOAT, 0, float_bits(x)),
+        Cell::FloatBits(bits) => made(format::FLOAT, 0, bits),
+        Cell::Decimal(upper, lower) => made(format::DECIMAL, scan::unsigned64(upper), lower),
+        Cell::Point(x, y) => made(format::POINT, float_bits(x), float_bits(y)),
+        _ => made(0, 0, 0),
+    }
+}
+
+fn made(t: u8, upper: u64, lower: u64) -> Fixed
+    ensures { λ r. ⌜ r ≡ record { «wire_type» = t; upper = upper; lower = lower } ⌝ }
+{
+    Fixed {
+        wire_type: t,
+        upper: upper,
+        lower: lower,
+    }
+}
+
+// The bits of a float; a NaN has the quiet pattern.
+fn float_bits(x: f64) -> u64
+    ensures { λ r. ⌜ r ≡ toBits binary64 x ⌝ }
+{
+    if x == x {
+        f64::to_bits(x)
+    } else {
+        0x7ff8_0000_0000_0000
     }
 }

@@ -16,7 +16,7 @@ use Rattle.show.specs.Cells.{cellOf, typeOf}
 use Rattle.show.proofs.Kept.{fixed-kept}
 use Rattle.steps.specs.Arguments.{valueFault}
 use Rattle.steps.specs.Steps.{Step}
-use Rattle.values.specs.Fixed.{typeIn, valueIn}
+use Rattle.show.specs.Fixed.{typeIn, valueIn}
 
 not-counted : (l b t n : ℕ) → value l b t .Good (fixed n) → isCounted t ≡ false
 unfolding value into

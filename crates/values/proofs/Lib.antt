@@ -1,4 +1,3 @@
--- The proofs. Floats by their bits (Floats), what a shown value is to a step (Written), and that it is the same value (Again).
-pub mod Floats
+-- The proofs. What a shown value is to a step (Written), and that it is the same value (Again).
 pub mod Written
 pub mod Again

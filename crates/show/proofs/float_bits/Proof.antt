@@ -1,9 +1,9 @@
--- `values::float_bits` meets its contract: a float that equals itself is no NaN, and any other has the quiet pattern. Assumes nothing.
+-- `show::float_bits` meets its contract: a float that equals itself is no NaN, and any other has the quiet pattern. Assumes nothing.
 use mathlib.Core.Path.{sym}
-use Rattle.values.proofs.Floats.{equal-itself, nan-bits}
+use Rattle.show.proofs.FloatBits.{equal-itself, nan-bits}
 use borrow.Author.Needs.{needs}
-use Rattle.values.proofs.float_bits.Statement.{statement}
-use Rattle.values.proofs.float_bits.Tie as tie
+use Rattle.show.proofs.float_bits.Statement.{statement}
+use Rattle.show.proofs.float_bits.Tie as tie
 
 float-to-bits-result : tie.Need-float-to-bits-result
 float-to-bits-result c = equal-itself (c .before .args .x) (c .if1 .taken)

@@ -1,11 +1,11 @@
--- Shown values as the writer takes them: those of a fixed size, by their type and their number.
+-- Shown values of a fixed size, by their type and their number, as the writer and the C interface take them.
 use Prim.Native.Nat.{ℕ, _/_, _%_, _^_}
 use mathlib.Core.List.{[]}
 use Rattle.format.specs.Result.{pick}
 use Rattle.format.specs.Value.{Value, fixed, number-of, isCounted}
 use Rattle.show.specs.declared.Cell.{Cell}
 use Rattle.show.specs.Cells.{typeOf, valueOf}
-use Rattle.values.specs.declared.Fixed.{Fixed}
+use Rattle.show.specs.declared.Fixed.{Fixed}
 
 -- text, binary values and nulls have no fixed size: their type is 0, which is none, and their number 0. Every step refuses them 6
 abbrev pub typeIn : Cell → ℕ

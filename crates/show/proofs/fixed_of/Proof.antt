@@ -1,4 +1,4 @@
--- `values::fixed_of` meets its contract: by the kind of value. Assumes nothing.
+-- `show::fixed_of` meets its contract: by the kind of value. Assumes nothing.
 use Prim.Native.Nat.{ℕ, _+_, _*_, _^_, _<_}
 use native.Mathlib.Omega.{arith}
 use mathlib.Core.Path.{refl, ap, ap₂, _∙_}
@@ -6,11 +6,11 @@ use mir.Syntax.{w8, w16, w32, w64}
 use mir.Val.{SFits}
 use mir.ValLaws.{toZ-ofZ}
 use Rattle.scan.specs.Signed.{unsigned}
 use Rattle.show.specs.declared.Cell.{Cell}
-use Rattle.values.proofs.Written.{halves-of, lower-of, unsized}
+use Rattle.show.proofs.Bits.{halves-of, lower-of, unsized}
 use borrow.Author.Needs.{needs}
-use Rattle.values.proofs.fixed_of.Statement.{statement}
-use Rattle.values.proofs.fixed_of.Tie as tie
+use Rattle.show.proofs.fixed_of.Statement.{statement}
+use Rattle.show.proofs.fixed_of.Tie as tie
 
 enum-known-c : tie.Need-enum-known-c
 enum-known-c c = search needs
