@@ -129,7 +129,8 @@ uint64_t chaloenpik_begin_call(uint8_t *out, size_t size, uint64_t state[CHALOEN
 /* A null parameter. */
 uint64_t chaloenpik_null_param(uint8_t *out, size_t size, uint64_t state[CHALOENPIK_STATE]);
 
-/* A parameter of a fixed size, by its upper and lower 64 bits; one of at most 8 bytes stands in the lower. */
+/* A parameter of a fixed size, by its upper and lower 64 bits; one of at most 8 bytes stands in the lower. A number that doesn't
+   fit its type is refused 6, and never cut: a tinyint of -1 is 255. */
 uint64_t chaloenpik_fixed_param(uint8_t *out, size_t size, uint64_t state[CHALOENPIK_STATE], uint8_t type,
                                 uint64_t upper, uint64_t lower);
 

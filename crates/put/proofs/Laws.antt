@@ -11,11 +11,11 @@ use lib.ListN.{length, take, drop, set, getD, length-append, length-drop, take-a
 use lib.Seq.{take-all, take-at, take-length, drop-at, drop-drop, drop-length, length-take-le, set-split, take-take, set-append-left, drop-append-add, paste, paste-suc, length-paste}
 use lib.Arith.{digits-div}
 use lib.Pow.{pow-add}
-use lib.Dec.{eqb}
+use lib.Dec.{eqb, lit≤}
 use borrow.Rule.Slice.PartMut.{midOf, putMid, postOf}
 use Rattle.format.specs.Result.{pick}
 use Rattle.format.specs.Number.{numBytes, null4}
-use Rattle.format.specs.Value.{widthOf}
+use Rattle.format.specs.Value.{widthOf, tTinyint, tSmallint, tInteger, tBigint, tFloat, tTimestamp, tDecimal, tPoint}
 use Rattle.format.proofs.Numbers.{length-numBytes}
 use Rattle.put.specs.Put.{put, optional, sized}
 
@@ -206,17 +206,22 @@ lower-half k hi lo h =
     let f : hi * 2 ^ 64 ≡ hi * 256 ^ (8 - k) * 256 ^ k = ap (λ (m : ℕ). hi * 256 ^ m) (sym e) ∙ ap (λ (m : ℕ). hi * m) (pow-add 256 (8 - k) k) ∙ sym (mul-assoc hi (256 ^ (8 - k)) (256 ^ k)) in
     rw f (numBytes-low k (hi * 256 ^ (8 - k)) lo)
 
+-- what holds of each width that there is holds of a type's
+pub widths : (P : ℕ → Type 0) → P 0 → P 1 → P 2 → P 4 → P 8 → P 16 → (t : ℕ) → P (widthOf t)
+widths P p0 p1 p2 p4 p8 p16 t =
+    either (eqb t tTinyint) p1
+    (either (eqb t tSmallint) p2
+    (either (eqb t tInteger) p4
+    (either (eqb t tBigint || (eqb t tFloat || eqb t tTimestamp)) p8
+    (either (eqb t tDecimal || eqb t tPoint) p16 p0))))
+  where
+    either : (b : Bool) {m n : ℕ} → P m → P n → P (pick b m n)
+    either true p q = p
+    either false p q = q
+
 -- a value of a fixed size that has not 16 bytes has at most 8
 pub narrow : (t : ℕ) → (widthOf t ≡ 16 → ⊥) → widthOf t ≤ 8
-narrow t n = go (eqb t 3) (eqb t 4) (eqb t 5) (eqb t 6 || (eqb t 8 || eqb t 11)) (eqb t 22 || eqb t 26) n
-  where
-    go : (a b c d e : Bool) → (_≡_ {A = ℕ} (pick a 1 (pick b 2 (pick c 4 (pick d 8 (pick e 16 0))))) 16 → ⊥) → pick a 1 (pick b 2 (pick c 4 (pick d 8 (pick e 16 0)))) ≤ 8
-    go true b c d e n = omega arith
-    go false true c d e n = omega arith
-    go false false true d e n = omega arith
-    go false false false true e n = omega arith
-    go false false false false true n = absurd (n refl)
-    go false false false false false n = omega arith
+narrow = widths (λ w. (w ≡ 16 → ⊥) → w ≤ 8) (λ n. lit≤ tt) (λ n. lit≤ tt) (λ n. lit≤ tt) (λ n. lit≤ tt) (λ n. lit≤ tt) (λ n. absurd (n refl))
 
 -- two parts, the first put at the start, the second behind it
 pub front-two : (xs bs cs ys zs : List ℕ) (k j : ℕ) → length bs ≡ k → length cs ≡ j → k + j ≤ length xs → ys ≡ bs ++ drop k xs → zs ≡ cs ++ drop j (midOf k (length ys - k) ys)
@@ -240,15 +245,7 @@ sized-some bs = length-append (numBytes 4 (length bs)) bs ∙ ap (λ (m : ℕ). 
 
 -- bounds, so that sums in the code fit
 pub width-most : (t : ℕ) → widthOf t ≤ 16
-width-most t = go (eqb t 3) (eqb t 4) (eqb t 5) (eqb t 6 || (eqb t 8 || eqb t 11)) (eqb t 22 || eqb t 26)
-  where
-    go : (a b c d e : Bool) → pick a 1 (pick b 2 (pick c 4 (pick d 8 (pick e 16 0)))) ≤ 16
-    go true b c d e = omega arith
-    go false true c d e = omega arith
-    go false false true d e = omega arith
-    go false false false true e = omega arith
-    go false false false false true = omega arith
-    go false false false false false = omega arith
+width-most = widths (λ w. w ≤ 16) (lit≤ tt) (lit≤ tt) (lit≤ tt) (lit≤ tt) (lit≤ tt) (lit≤ tt)
 
 pub sized-most : (null : Bool) (bs : List ℕ) → length (sized (optional null bs)) ≤ 4 + length bs
 sized-most true bs = omega (arith, sized-null)

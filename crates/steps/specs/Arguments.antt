@@ -1,10 +1,10 @@
 -- What the steps take: the parts of a message that it says, and its faults, in wire order. A writer's refusal stands at its position.
-use Prim.Native.Nat.{ℕ, _%_}
-use mathlib.Core.Bool.{not}
+use Prim.Native.Nat.{ℕ, _%_, _^_}
+use mathlib.Core.Bool.{Bool, _&&_, not}
 use mathlib.Core.List.{List, [], _∷_, map}
 use mathlib.Core.Option.{Option, some, none}
 use lib.ListN.{length}
-use lib.Dec.{leb, eqb}
+use lib.Dec.{leb, ltb, eqb}
 use Rattle.format.specs.declared.Fault.the-variants.{Limit, WireType, Decimal, Point, Flags, PastEnd}
 use Rattle.format.specs.Result.{pick}
 use Rattle.format.specs.Format.{Verdict, fine, bad}
@@ -19,8 +19,12 @@ abbrev pub nullTextFault : (List ℕ → Verdict) → ℕ → Option (List ℕ) 
 nullTextFault rule p none = fine
 nullTextFault rule p (some bs) = textFault rule p bs
 
+-- a number is one of a type if the type has a fixed size and the number fits it; no number is cut
+abbrev pub isNumberOf : ℕ → ℕ → Bool
+isNumberOf t n = not (eqb (widthOf t) 0) && ltb n (256 ^ widthOf t)
+
 unfoldable pub valueFault : ℕ → ℕ → Value → Verdict
-valueFault p t (fixed n) = also (test (not (eqb (widthOf t) 0)) WireType p) (test (fixedFine t n) (pick (eqb t tDecimal) Decimal Point) p)
+valueFault p t (fixed n) = also (test (isNumberOf t n) WireType p) (test (fixedFine t n) (pick (eqb t tDecimal) Decimal Point) p)
 valueFault p t (body b) = also (test (isCounted t) WireType p) (nullTextFault (ruleOf t) p b)
 
 -- a column's type, and its name; none for an entry past the name buffer

@@ -16,9 +16,9 @@ use Rattle.format.specs.Value.{Value, fixed, body, value, string, widthOf, isCo
 use Rattle.format.specs.Message.{one, array, bytes, items, argument, param}
 use Rattle.put.specs.Put.{optional, sized}
 use Rattle.steps.specs.Plans.{also, test, placed}
-use Rattle.steps.specs.Arguments.{textFault, nullTextFault, valueFault}
+use Rattle.steps.specs.Arguments.{textFault, nullTextFault, isNumberOf, valueFault}
 use Rattle.write.specs.Shared.{emptyFault}
-use Rattle.steps.proofs.Back.{also-fine, test-fine, no-column, column-fixed}
+use Rattle.steps.proofs.Back.{also-fine, test-fine, no-column, column-fixed, number-fits}
 
 also-none : (v : Verdict) → also v fine ≡ v
 also-none fine = refl
@@ -53,8 +53,8 @@ text-bytes nullable rule x y (some bs) = refl
 pub fixed-bytes : (p x y t n : ℕ) → valueFault p t (fixed n) ≡ fine → value x y t .bytes (fixed n) ≡ numBytes (widthOf t) n
 unfolding value valueFault into ruled number
 fixed-bytes p x y t n e =
-    let a = also-fine (test (not (eqb (widthOf t) 0)) _ p) (test (fixedFine t n) _ p) e in
-    let c = column-fixed t (test-fine _ _ p (a .0)) in
+    let a = also-fine (test (isNumberOf t n) _ p) (test (fixedFine t n) _ p) e in
+    let c = column-fixed t (number-fits t n (test-fine _ _ p (a .0)) .0) in
     rw (c .0)
 
 pub body-bytes : (p x y t : ℕ) (b : Option (List ℕ)) → valueFault p t (body b) ≡ fine → value x y t .bytes (body b) ≡ sized b
@@ -66,7 +66,7 @@ body-bytes p x y t b e =
 
 fault-column : (p t : ℕ) (v : Value) → valueFault p t v ≡ fine → isColumn t ≡ true
 unfolding valueFault
-fault-column p t (fixed n) e = column-fixed t (test-fine _ _ p (also-fine (test (not (eqb (widthOf t) 0)) _ p) (test (fixedFine t n) _ p) e .0)) .1
+fault-column p t (fixed n) e = column-fixed t (number-fits t n (test-fine _ _ p (also-fine (test (isNumberOf t n) _ p) (test (fixedFine t n) _ p) e .0)) .0) .1
 fault-column p t (body b) e = let c = test-fine (isCounted t) _ p (also-fine (test (isCounted t) _ p) (nullTextFault (ruleOf t) p b) e .0) in rw c
 
 -- parameters
