@@ -12,6 +12,7 @@
 #include <stdbool.h>
 #include <stddef.h>
 #include <stdint.h>
+#include <string.h>
 
 /* The refusal's number; 0: none. */
 static inline unsigned chaloenpik_refusal(uint64_t answer) { return (unsigned)(answer & 255); }
@@ -63,11 +64,53 @@ uint64_t chaloenpik_response(const uint8_t *message, size_t length, uint64_t rec
 /* ---- Cells and parameters. Each is four numbers: its wire type, its form, and two that the form decides. */
 
 enum {
-    CHALOENPIK_FIXED = 0, /* of a fixed size: its upper and its lower 64 bits, without a sign */
+    CHALOENPIK_FIXED = 0, /* of a fixed size: its upper and its lower 64 bits, which the functions below take apart */
     CHALOENPIK_BYTES = 1, /* text or binary: where its bytes start in the message, and how many they are */
     CHALOENPIK_NONE = 2,  /* null: 0 and 0 */
     CHALOENPIK_MANY = 3   /* an array: its elements' wire type, and how many they are */
 };
+
+/* Numbers are shown and written by their bits, without a sign. So that nobody has to cast: a number to its bits, and back. */
+
+/* The lower 64 bits of a tinyint, smallint, integer, bigint or timestamp. A number that the type doesn't hold gives bits that the steps
+   of writing refuse 6: none is cut. */
+static inline uint64_t chaloenpik_signed_bits(uint8_t type, int64_t n) {
+    bool fits = true;
+    uint64_t mask = UINT64_MAX;
+    switch (type) {
+    case CHALOENPIK_TINYINT: fits = n == (int8_t)n, mask = UINT8_MAX; break;
+    case CHALOENPIK_SMALLINT: fits = n == (int16_t)n, mask = UINT16_MAX; break;
+    case CHALOENPIK_INTEGER: fits = n == (int32_t)n, mask = UINT32_MAX; break;
+    default: break;
+    }
+    return fits ? (uint64_t)n & mask : UINT64_MAX;
+}
+
+/* The number of such a value, by its type and its lower 64 bits. */
+static inline int64_t chaloenpik_signed_value(uint8_t type, uint64_t lower) {
+    switch (type) {
+    case CHALOENPIK_TINYINT: return (int8_t)lower;
+    case CHALOENPIK_SMALLINT: return (int16_t)lower;
+    case CHALOENPIK_INTEGER: return (int32_t)lower;
+    default: return (int64_t)lower;
+    }
+}
+
+/* The upper 64 bits of a decimal whose units of 10^-12 fit 64 bits; these are its lower ones. */
+static inline uint64_t chaloenpik_upper_bits(int64_t units) { return units < 0 ? UINT64_MAX : 0; }
+
+/* The bits of a float: the lower 64 of a FLOAT; of a point the upper are its longitude's, and the lower its latitude's. */
+static inline uint64_t chaloenpik_float_bits(double x) {
+    uint64_t bits;
+    memcpy(&bits, &x, sizeof bits);
+    return bits;
+}
+
+static inline double chaloenpik_float_value(uint64_t bits) {
+    double x;
+    memcpy(&x, &bits, sizeof x);
+    return x;
+}
 
 /* A parameter of an invocation (kind 3), counted from 0; 11 at 0: there is no such one. */
 uint64_t chaloenpik_parameter(const uint8_t *message, size_t length, size_t parameter, uint64_t cell[4]);
@@ -107,7 +150,7 @@ uint64_t chaloenpik_open_card(const uint8_t *message, size_t length, size_t tabl
 
 /* ---- Writing. `out` has room for `size` bytes; the value is the position that was reached, which after the last step is the
    message's size. A step that is refused leaves the buffer, the state and the types as they were; 8 at the position that it
-   would reach: no room. Numbers are given without a sign, as many low bits as they have on the wire. */
+   would reach: no room. Numbers are given by their bits, without a sign. */
 
 /* A login request. The hash has 20 bytes, or 32 with hash version 1. In version 0 the hash version is ignored. */
 uint64_t chaloenpik_write_login_request(uint8_t *out, size_t size, uint8_t version, uint8_t hash_version, const uint8_t *service, size_t service_length,
@@ -129,12 +172,12 @@ uint64_t chaloenpik_begin_call(uint8_t *out, size_t size, uint64_t state[CHALOEN
 /* A null parameter. */
 uint64_t chaloenpik_null_param(uint8_t *out, size_t size, uint64_t state[CHALOENPIK_STATE]);
 
-/* A parameter of a fixed size, by its upper and lower 64 bits; one of at most 8 bytes stands in the lower. A number that doesn't
-   fit its type is refused 6, and never cut: a tinyint of -1 is 255. */
+/* A parameter of a fixed size, by its upper and lower 64 bits; one of at most 8 bytes stands in the lower. 6: the type has no fixed
+   size, or not so many bits. */
 uint64_t chaloenpik_fixed_param(uint8_t *out, size_t size, uint64_t state[CHALOENPIK_STATE], uint8_t type,
                                 uint64_t upper, uint64_t lower);
 
-/* A text or binary parameter, or a null of its type. */
+/* A text or binary parameter, or a null of its type. 6: the type is none of theirs. */
 uint64_t chaloenpik_body_param(uint8_t *out, size_t size, uint64_t state[CHALOENPIK_STATE], uint8_t type,
                                bool null, const uint8_t *bytes, size_t length);
 
@@ -145,7 +188,7 @@ uint64_t chaloenpik_bytes_param(uint8_t *out, size_t size, uint64_t state[CHALOE
 /* Opens an array of elements of a type. */
 uint64_t chaloenpik_open_array(uint8_t *out, size_t size, uint64_t state[CHALOENPIK_STATE], uint8_t type);
 
-/* An element of the open array, of a fixed size. */
+/* An element of the open array, of a fixed size. 6: as above, or another type than the array's. */
 uint64_t chaloenpik_fixed_element(uint8_t *out, size_t size, uint64_t state[CHALOENPIK_STATE], uint8_t type,
                                   uint64_t upper, uint64_t lower);
 
@@ -174,7 +217,7 @@ uint64_t chaloenpik_open_table(uint8_t *out, size_t size, uint64_t state[CHALOEN
 /* Opens a row. */
 uint64_t chaloenpik_open_row(uint8_t *out, size_t size, uint64_t state[CHALOENPIK_STATE], const uint8_t types[CHALOENPIK_TYPES]);
 
-/* A cell of the open row, of a fixed size, by its upper and lower 64 bits. */
+/* A cell of the open row, of a fixed size, by its upper and lower 64 bits. 6: as above, or another type than the column's. */
 uint64_t chaloenpik_fixed_cell(uint8_t *out, size_t size, uint64_t state[CHALOENPIK_STATE], const uint8_t types[CHALOENPIK_TYPES], uint8_t type,
                                uint64_t upper, uint64_t lower);
 

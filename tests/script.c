@@ -54,17 +54,6 @@ static part counted(void) {
     return p;
 }
 
-static size_t fixed_size(uint8_t type) {
-    switch (type) {
-    case CHALOENPIK_TINYINT: return 1;
-    case CHALOENPIK_SMALLINT: return 2;
-    case CHALOENPIK_INTEGER: return 4;
-    case CHALOENPIK_BIGINT: case CHALOENPIK_FLOAT: case CHALOENPIK_TIMESTAMP: return 8;
-    case CHALOENPIK_DECIMAL: case CHALOENPIK_POINT: return 16;
-    default: return 0;
-    }
-}
-
 /* ---- Steps. */
 
 typedef uint64_t simple_step(uint8_t *, size_t, uint64_t *);
@@ -88,16 +77,14 @@ static uint64_t body_cell(uint8_t *o, size_t n, uint64_t *s, uint8_t type, bool 
     return chaloenpik_body_cell(o, n, s, types, type, null, bytes, count);
 }
 
-/* A value by the step for its type; one of a type that has no values is 0. */
+/* A value by the step for its form, whatever its type. */
 static uint64_t value(fixed_step *fixed, body_step *body) {
     uint8_t type = *take(1);
-    if (type == CHALOENPIK_STRING || type == CHALOENPIK_VARBINARY || type == CHALOENPIK_GEOGRAPHY) {
+    if (*take(1) == 1) {
         part p = counted();
         return body(out, size, state, type, p.null, p.bytes, p.size);
     }
-    size_t bytes = fixed_size(type);
-    uint64_t upper = bytes == 16 ? big_endian(8) : 0;
-    uint64_t lower = big_endian(bytes == 16 ? 8 : bytes);
+    uint64_t upper = big_endian(8), lower = big_endian(8);
     return fixed(out, size, state, type, upper, lower);
 }
 

@@ -2,7 +2,8 @@
 
 A script is a list of steps, each (name, arguments). Its text has one step a line: the name and its arguments, one space between.
 Numbers are decimal; bytes are hexadecimal, `-` if empty and `null` if null; a value is its wire type, `:` and the value (a float
-its 64 bits in hexadecimal, a point two such with a comma between); a list has commas between its entries, `-` if empty.
+its 64 bits in hexadecimal, a point two such with a comma between; the bare bits of a number `#` and they); a list has commas between its
+entries, `-` if empty.
 
     buffer SIZE                                         a new buffer, byte i holding i mod 251; no state
     login VERSION HASHVERSION SERVICE USER HASH         the two logins are whole messages from 0
@@ -20,8 +21,8 @@ What is answered, a line a step: `fine`, or `refused NUMBER PLACE`; for `buffer`
 and the buffer in hexadecimal.
 
 For a program, `packed` makes each step a frame (frames.py): a byte that names the step (its place in NAMES), then its arguments: a
-number as 8 bytes; bytes as a length of 4 bytes (-1 null) and the bytes; a value as its wire type and its bytes on the wire; columns as
-their number in 4 bytes, then for each its type and two numbers.
+number as 8 bytes; bytes as a length of 4 bytes (-1 null) and the bytes; a value as its wire type and a byte, 0 before 16 bytes of a number
+and 1 before bytes; columns as their number in 4 bytes, then for each its type and two numbers.
 """
 
 import struct
@@ -29,7 +30,7 @@ import struct
 import encoder
 import writer
 from wire import *
-from writer import No, State
+from writer import Bits, No, State
 
 WHOLE = {"login": writer.write_login, "login_reply": writer.write_login_reply}
 BEGINNINGS = {"begin_invocation": writer.begin_invocation, "begin_reply": writer.begin_reply}
@@ -148,6 +149,8 @@ def word(argument):
 
 
 def value_word(wire_type, it):
+    if isinstance(it, Bits):
+        return "#%x" % it
     if wire_type == FLOAT:
         return "%016x" % it
     if wire_type == POINT:
@@ -169,8 +172,15 @@ def packed_argument(argument):
     if argument is None or isinstance(argument, bytes):
         return encoder.counted(argument)
     if isinstance(argument, tuple) and len(argument) == 2 and not isinstance(argument[0], tuple):
-        return encoder.number(argument[0], 1) + encoder.value(*argument)
+        return encoder.number(argument[0], 1) + packed_value(*argument)
     if isinstance(argument, tuple):
         columns = [encoder.number(t, 1) + start.to_bytes(8, "big") + size.to_bytes(8, "big") for t, start, size in argument]
         return len(columns).to_bytes(4, "big") + b"".join(columns)
     return (argument % 2**64).to_bytes(8, "big")
+
+
+def packed_value(wire_type, it):
+    if it is None or isinstance(it, bytes):
+        return b"\1" + encoder.counted(it)
+    block = it.to_bytes(16, "big") if isinstance(it, Bits) else encoder.value(wire_type, it)
+    return b"\0" + block.rjust(16, b"\0")

@@ -18,8 +18,10 @@ VARBINARY, POINT, GEOGRAPHY = 25, 26, 27
 COLUMN_TYPES = (TINYINT, SMALLINT, INTEGER, BIGINT, FLOAT, STRING, TIMESTAMP, DECIMAL, VARBINARY, POINT, GEOGRAPHY)
 PARAMETER_TYPES = COLUMN_TYPES + (ARRAY, NULL)
 
-# Types whose values are signed integers, with their sizes; types whose values are counted bodies and may be null.
+# Types whose values are signed integers, and all whose values have a fixed size, with their sizes; types whose values are counted bodies
+# and may be null.
 INTEGER_SIZES = {TINYINT: 1, SMALLINT: 2, INTEGER: 4, BIGINT: 8, TIMESTAMP: 8}
+FIXED_SIZES = {**INTEGER_SIZES, FLOAT: 8, DECIMAL: 16, POINT: 16}
 COUNTED_TYPES = (STRING, VARBINARY, GEOGRAPHY)
 
 # Flags of a reply.

@@ -1,9 +1,11 @@
 """The second writer: paper 01's "Writing", step by step, in plain Python.
 
 A step takes the state and the buffer and gives (answer, state, buffer): the answer is None, or (number, place), and then state and
-buffer are the same as before. A value is (wire type, value), with values as in reader.py. Nothing here reads the buffer back.
+buffer are the same as before. A value is (wire type, value), with values as in reader.py, or the `Bits` of one of a fixed size, as the
+exported steps take it. Nothing here reads the buffer back.
 """
 
+import struct
 from dataclasses import dataclass, replace
 
 import encoder
@@ -28,6 +30,10 @@ class State:
     rows_at: int = 0            # of its row count
     rows: int = 0
     types: tuple = ()
+
+
+class Bits(int):
+    """A number without a sign: the upper and the lower 64 bits of a value, whether they fit its type or not."""
 
 
 class No(Exception):
@@ -102,8 +108,8 @@ def add_null(state, buffer):
 
 def add_value(state, buffer, value):
     check_state(state, buffer, CALL)
-    check_value(value, state.position)
-    return add_parameter(state, buffer, encoder.number(value[0], 1) + encoder.value(*value))
+    out = written(value, state.position)
+    return add_parameter(state, buffer, encoder.number(value[0], 1) + out)
 
 
 def add_byte_array(state, buffer, body):
@@ -129,9 +135,9 @@ def add_element(state, buffer, value):
     check_state(state, buffer, ARRAY_OPEN)
     if value[0] != state.inner_type:
         raise No(BAD_TYPE, state.position)
-    check_value(value, state.position)
+    out = written(value, state.position)
     check_limit(state.inner_count + 1, MOST_ITEMS, state)
-    return append(replace(state, inner_count=state.inner_count + 1), buffer, encoder.value(*value))
+    return append(replace(state, inner_count=state.inner_count + 1), buffer, out)
 
 
 def close_array(state, buffer):
@@ -186,8 +192,8 @@ def add_cell(state, buffer, value):
         raise No(WRONG_STAGE, state.position)
     if value[0] != state.types[state.inner_count]:
         raise No(BAD_TYPE, state.position)
-    check_value(value, state.position)
-    return append(replace(state, inner_count=state.inner_count + 1), buffer, encoder.value(*value))
+    out = written(value, state.position)
+    return append(replace(state, inner_count=state.inner_count + 1), buffer, out)
 
 
 def close_row(state, buffer):
@@ -254,6 +260,27 @@ def check_version(version, place):
 def check_body(body, place):
     if body is not None and len(body) > MOST_BODY:
         raise No(LIMIT, place)
+
+
+def written(value, place):
+    """The bytes of a value; 6 unless it is one of its type, and then its own rule."""
+    wire_type, it = value
+    if (wire_type in COUNTED_TYPES) != (it is None or isinstance(it, bytes)):
+        raise No(BAD_TYPE, place)
+    if isinstance(it, Bits):
+        it = value_of(wire_type, it, place)
+    check_value((wire_type, it), place)
+    return encoder.value(wire_type, it)
+
+
+def value_of(wire_type, bits, place):
+    size = FIXED_SIZES.get(wire_type, 0)
+    if size == 0 or bits >= 256**size:
+        raise No(BAD_TYPE, place)
+    if wire_type == FLOAT:
+        return int(bits)
+    block = bits.to_bytes(size, "big")
+    return struct.unpack(">dd", block) if wire_type == POINT else int.from_bytes(block, "big", signed=True)
 
 
 def check_value(value, place):

@@ -115,14 +115,26 @@ def anything(maker):
 
 
 def some_value(maker, types=()):
-    """A value, mostly of the type that is due, now and then one that its own rule refuses."""
+    """A value, mostly of the type that is due, now and then one that its own rule refuses, or that is none of its type."""
     rng = maker.rng
     wire_type = types[0] if types and types[0] in COLUMN_TYPES and rng.random() < 0.9 else rng.choice(COLUMN_TYPES)
+    if rng.random() < 0.05:
+        return odd_value(rng, wire_type)
     if rng.random() < 0.1 and wire_type in (DECIMAL, POINT, GEOGRAPHY):
         return wire_type, {DECIMAL: rng.choice((10**38, -10**38, 2**127 - 1)), POINT: (rng.choice((180.5, float("nan"), 0.0)), 90.5),
                            GEOGRAPHY: b""}[wire_type]
     value = maker.value(wire_type)
     return wire_type, value[:40] if isinstance(value, bytes) else value
+
+
+def odd_value(rng, wire_type):
+    """Bits that just fit the type or just don't, or are of a type without them; or a body of a type that has none."""
+    if rng.random() < 0.2:
+        wire_type = rng.choice((*COLUMN_TYPES, ARRAY, NULL, 0, 2, 127, -128))
+    if rng.random() < 0.2:
+        return wire_type, rng.choice((None, b"", b"odd"))
+    most = 256**rng.choice((FIXED_SIZES.get(wire_type, 1), 1, 2, 4, 8, 16))
+    return wire_type, writer.Bits(rng.choice((0, most - 1, most % 2**128, (most + 44) % 2**128, most // 2, rng.randrange(most))))
 
 
 def table(maker):

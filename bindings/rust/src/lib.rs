@@ -9,7 +9,7 @@ mod values;
 mod writer;
 
 pub use records::{invocation, login_request, login_response, response, Invocation, LoginRequest, LoginResponse, Optional, Response};
-pub use values::{cell, element, parameter, wire, Cell, Parameter, Value};
+pub use values::{cell, element, parameter, wire, Parameter, Value};
 pub use writer::{write_login_request, write_login_response, Column, Opening, Welcome, Writer};
 
 /// The four kinds of messages.

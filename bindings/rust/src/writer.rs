@@ -1,7 +1,7 @@
 //! Writing messages into a lent buffer.
 
 use crate::foreign::{self, State, Types};
-use crate::values::Value;
+use crate::values::{Form, Value};
 use crate::{found, Refusal};
 
 /// Writes a login request in front of `out`, and says its size. In version 0 the hash version is ignored.
@@ -92,8 +92,8 @@ impl<'b> Writer<'b> {
     }
 
     /// A parameter.
-    pub fn param(&mut self, wire_type: u8, value: Value<'_>) -> Result<usize, Refusal> {
-        self.value(foreign::chaloenpik_fixed_param, foreign::chaloenpik_body_param, wire_type, value)
+    pub fn param(&mut self, value: Value<'_>) -> Result<usize, Refusal> {
+        self.value(foreign::chaloenpik_fixed_param, foreign::chaloenpik_body_param, value)
     }
 
     /// An array of tinyints.
@@ -115,8 +115,8 @@ impl<'b> Writer<'b> {
     }
 
     /// An element of the open array.
-    pub fn element(&mut self, wire_type: u8, value: Value<'_>) -> Result<usize, Refusal> {
-        self.value(foreign::chaloenpik_fixed_element, foreign::chaloenpik_body_element, wire_type, value)
+    pub fn element(&mut self, value: Value<'_>) -> Result<usize, Refusal> {
+        self.value(foreign::chaloenpik_fixed_element, foreign::chaloenpik_body_element, value)
     }
 
     pub fn close_array(&mut self) -> Result<usize, Refusal> {
@@ -160,14 +160,17 @@ impl<'b> Writer<'b> {
     }
 
     /// A cell of the open row.
-    pub fn cell(&mut self, wire_type: u8, value: Value<'_>) -> Result<usize, Refusal> {
-        let (out, size, state, types) = (self.out.as_mut_ptr(), self.out.len(), &mut self.state, &self.types);
+    pub fn cell(&mut self, value: Value<'_>) -> Result<usize, Refusal> {
+        let (out, size, state, types, wire_type) =
+            (self.out.as_mut_ptr(), self.out.len(), &mut self.state, &self.types, value.wire_type());
         // SAFETY: as above.
         reached(unsafe {
-            match value {
-                Value::Fixed(bits) => foreign::chaloenpik_fixed_cell(out, size, state, types, wire_type, (bits >> 64) as u64, bits as u64),
-                Value::Bytes(s) => foreign::chaloenpik_body_cell(out, size, state, types, wire_type, false, s.as_ptr(), s.len()),
-                Value::Null => foreign::chaloenpik_body_cell(out, size, state, types, wire_type, true, [].as_ptr(), 0),
+            match value.form() {
+                Form::Fixed(bits) => foreign::chaloenpik_fixed_cell(out, size, state, types, wire_type, (bits >> 64) as u64, bits as u64),
+                Form::Body(bytes) => {
+                    let s = bytes.unwrap_or(&[]);
+                    foreign::chaloenpik_body_cell(out, size, state, types, wire_type, bytes.is_none(), s.as_ptr(), s.len())
+                }
             }
         })
     }
@@ -200,14 +203,16 @@ impl<'b> Writer<'b> {
     }
 
     /// A value by the step for its form.
-    fn value(&mut self, fixed: Fixed, body: Body, wire_type: u8, value: Value<'_>) -> Result<usize, Refusal> {
-        let (out, size) = (self.out.as_mut_ptr(), self.out.len());
+    fn value(&mut self, fixed: Fixed, body: Body, value: Value<'_>) -> Result<usize, Refusal> {
+        let (out, size, wire_type) = (self.out.as_mut_ptr(), self.out.len(), value.wire_type());
         // SAFETY: as above.
         reached(unsafe {
-            match value {
-                Value::Fixed(bits) => fixed(out, size, &mut self.state, wire_type, (bits >> 64) as u64, bits as u64),
-                Value::Bytes(s) => body(out, size, &mut self.state, wire_type, false, s.as_ptr(), s.len()),
-                Value::Null => body(out, size, &mut self.state, wire_type, true, [].as_ptr(), 0),
+            match value.form() {
+                Form::Fixed(bits) => fixed(out, size, &mut self.state, wire_type, (bits >> 64) as u64, bits as u64),
+                Form::Body(bytes) => {
+                    let s = bytes.unwrap_or(&[]);
+                    body(out, size, &mut self.state, wire_type, bytes.is_none(), s.as_ptr(), s.len())
+                }
             }
         })
     }

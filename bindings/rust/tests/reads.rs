@@ -1,6 +1,6 @@
 use chaloenpik::{
     accept, cell, column_type, columns, element, fields, find_column, invocation, login_request, login_response, make_card, open_card,
-    owner, parameter, response, rows, tables, wire, Cell, Kind, Optional, Parameter, Refusal, Value,
+    owner, parameter, response, rows, tables, wire, Kind, Optional, Parameter, Refusal, Value,
 };
 
 const LOGIN: &[u8] = include_bytes!("../../../samples/1-login.bin");
@@ -57,23 +57,23 @@ fn every_byte_has_one_owner() {
 #[test]
 fn the_sample_s_cells() {
     let shown = |row, column| cell(REPLY, 0, row, column).unwrap();
-    assert_eq!(shown(1, 0), Cell { wire_type: wire::INTEGER, value: Value::Fixed(2) });
-    assert_eq!(shown(1, 1), Cell { wire_type: wire::STRING, value: Value::Bytes(b"Bodil") });
-    assert_eq!(shown(1, 3), Cell { wire_type: wire::DECIMAL, value: Value::Fixed(800_000_000_000) });
-    assert_eq!(shown(2, 3), Cell { wire_type: wire::DECIMAL, value: Value::Fixed(1 << 127) });
-    assert_eq!(shown(3, 2), Cell { wire_type: wire::STRING, value: Value::Null });
+    assert_eq!(shown(1, 0), Value::Integer(2));
+    assert_eq!(shown(1, 1), Value::Text(Some(b"Bodil")));
+    assert_eq!(shown(1, 3), Value::Decimal(800_000_000_000));
+    assert_eq!(shown(2, 3), Value::Decimal(i128::MIN));
+    assert_eq!(shown(3, 2), Value::Text(None));
     assert_eq!(cell(REPLY, 0, 4, 0), Err(PAST_END));
     assert_eq!(cell(REPLY, 0, 0, 7), Err(PAST_END));
 }
 
 #[test]
 fn the_sample_s_parameters() {
-    assert_eq!(parameter(CALL, 0), Ok(Parameter::One(Cell { wire_type: wire::STRING, value: Value::Bytes(b"Bodil") })));
+    assert_eq!(parameter(CALL, 0), Ok(Parameter::One(Value::Text(Some(b"Bodil")))));
     assert_eq!(parameter(CALL, 1), Ok(Parameter::Array { wire_type: wire::INTEGER, count: 2 }));
-    assert_eq!(element(CALL, 1, 1), Ok(Cell { wire_type: wire::INTEGER, value: Value::Fixed(2) }));
+    assert_eq!(element(CALL, 1, 1), Ok(Value::Integer(2)));
     assert_eq!(element(CALL, 1, 2), Err(PAST_END));
     assert_eq!(parameter(CALL, 2), Ok(Parameter::Array { wire_type: wire::TINYINT, count: 2 }));
-    assert_eq!(element(CALL, 2, 0), Ok(Cell { wire_type: wire::TINYINT, value: Value::Fixed(1) }));
+    assert_eq!(element(CALL, 2, 0), Ok(Value::Tinyint(1)));
     assert_eq!(parameter(CALL, 3), Ok(Parameter::Null));
     assert_eq!(parameter(CALL, 4), Err(PAST_END));
 }

@@ -1,5 +1,6 @@
 use chaloenpik::{
-    cell, columns, find_column, rows, wire, write_login_request, write_login_response, Column, Opening, Refusal, Value, Welcome, Writer,
+    cell, columns, find_column, parameter, rows, wire, write_login_request, write_login_response, Column, Opening, Parameter, Refusal, Value,
+    Welcome, Writer,
 };
 
 const LOGIN: &[u8] = include_bytes!("../../../samples/1-login.bin");
@@ -28,11 +29,11 @@ fn the_logins() {
 fn the_sample_call() -> Result<(), Refusal> {
     let mut out = [0; 200];
     let mut w = Writer::begin_call(&mut out, 0, b"EngineLimits", CLIENT)?;
-    w.param(wire::STRING, Value::Bytes(b"Bodil"))?;
+    w.param(Value::Text(Some(b"Bodil")))?;
     w.open_array(wire::INTEGER)?;
-    w.element(wire::INTEGER, Value::Fixed(1))?;
-    assert_eq!(w.element(wire::BIGINT, Value::Fixed(1)).map_err(|no| no.number), Err(6));
-    w.element(wire::INTEGER, Value::Fixed(2))?;
+    w.element(Value::Integer(1))?;
+    assert_eq!(w.element(Value::Bigint(1)).map_err(|no| no.number), Err(6));
+    w.element(Value::Integer(2))?;
     assert_eq!(w.finish_call().map_err(|no| no.number), Err(13));
     w.close_array()?;
     w.bytes_param(&[1, 2])?;
@@ -69,13 +70,44 @@ fn the_sample_reply() -> Result<(), Refusal> {
         w.open_row()?;
         for column in 0..columns(REPLY, 0)? {
             assert_eq!(w.close_row().map_err(|no| no.number), Err(13));
-            let shown = cell(REPLY, 0, row, column)?;
-            w.cell(shown.wire_type, shown.value)?;
+            w.cell(cell(REPLY, 0, row, column)?)?;
         }
         w.close_row()?;
     }
     w.close_table()?;
     assert_eq!(w.finish_reply(), Ok(REPLY.len()));
     assert_eq!(out, REPLY);
+    Ok(())
+}
+
+/// A value of each type, negative where it has a sign, reads back as it was written.
+#[test]
+fn values_of_every_type() -> Result<(), Refusal> {
+    let values = [
+        Value::Tinyint(-5),
+        Value::Smallint(-300),
+        Value::Integer(-70_000),
+        Value::Bigint(i64::MIN),
+        Value::Float(-0.0),
+        Value::Text(Some(b"")),
+        Value::Text(None),
+        Value::Timestamp(-1),
+        Value::Decimal(-800_000_000_000),
+        Value::Decimal(i128::MIN),
+        Value::Binary(Some(&[0, 255])),
+        Value::Binary(None),
+        Value::Point { longitude: -12.25, latitude: 55.5 },
+        Value::Geography(Some(&[192, 1])),
+        Value::Geography(None),
+    ];
+    let mut out = [0; 300];
+    let mut w = Writer::begin_call(&mut out, 1, b"Every", CLIENT)?;
+    for value in values {
+        w.param(value)?;
+    }
+    let size = w.finish_call()?;
+    for (number, value) in values.into_iter().enumerate() {
+        assert_eq!(parameter(&out[..size], number), Ok(Parameter::One(value)));
+    }
     Ok(())
 }
