@@ -28,7 +28,7 @@ ghost use Rattle.numbers.specs.Listed.{lent, cellNumbers, givenNumbers};
 ghost use Rattle.numbers.specs.Records.{loginRequestNumbers, loginResponseNumbers, invocationNumbers, responseNumbers};
 ghost use Rattle.record.specs.Records.{shownLoginRequest, shownLoginResponse, shownInvocation, shownResponse};
 ghost use Rattle.exports.specs.Given.{opening};
-ghost use Rattle.login.specs.Told.{welcome};
+ghost use Rattle.login.specs.Parts.{welcome};
 ghost use Rattle.numbers.specs.Stored.{WroteFrom, Wrote, WroteAll, WroteLogin};
 ghost use Rattle.numbers.specs.Packed.{above, packed, packedNo, nothing, itself, numberIn, rowsOf, columnsOf, typeOf};
 

@@ -24,7 +24,7 @@ use Rattle.format.specs.declared.Answer.the-variants.{Is, No}
 use Rattle.write.specs.declared.Check.{Check}
 use Rattle.write.specs.declared.Check.the-variants.{Fine, Bad}
 use Rattle.steps.specs.State.{State, closed}
-use Rattle.write.specs.Shown.{zero, shownAnswer}
+use Rattle.write.specs.Shown.{zero, shownAnswer, Told}
 use Rattle.write.specs.Shared.{verdictOf}
 use Rattle.steps.specs.Plans.{Plan, answerOf, outOf, carry, fillAll, also, test}
 use Rattle.steps.specs.Arguments.{textFault}
@@ -32,7 +32,7 @@ use Rattle.steps.specs.Steps.{answerAt, says}
 use Rattle.steps.specs.Logins.{hashFault, writtenRequest, writtenResponse, Welcome, requestFault, responseFault, loginPlan}
 use Rattle.steps.proofs.Back.{also-fine, test-fine}
 use Rattle.write.proofs.Taken.{taken as accepts}
-use Rattle.login.specs.Told.{Told, hashPart, serverOf}
+use Rattle.login.specs.Parts.{hashPart, serverOf}
 
 -- the hash version has a byte in version 1, and none in version 0
 pub hash-part : (t : Bool) (h : ℕ) → present t 0 (edition 3) .bytes (pick t (some h) none) ≡ pick t (numBytes 1 h) []

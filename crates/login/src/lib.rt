@@ -16,9 +16,9 @@ ghost use Rattle.put.specs.Put.{put};
 ghost use Rattle.steps.specs.Plans.{answerOf};
 ghost use Rattle.steps.specs.Steps.{says};
 ghost use Rattle.steps.specs.Logins.{hashFault, requestFault, responseFault, writtenRequest, writtenResponse, loginPlan, loginRequest, loginResponse};
-ghost use Rattle.write.specs.Shown.{shownAnswer};
+ghost use Rattle.write.specs.Shown.{shownAnswer, Told};
 ghost use Rattle.write.specs.Shared.{verdictOf};
-ghost use Rattle.login.specs.Told.{Told, welcome, serverOf, hashPart};
+ghost use Rattle.login.specs.Parts.{welcome, serverOf, hashPart};
 
 // Writes a login request. In version 0 the hash version, here `hashing`, is ignored.
 pub fn login_request(

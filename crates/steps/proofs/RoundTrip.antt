@@ -26,9 +26,11 @@ use Rattle.steps.proofs.ReplyBack.{reply-wrote}
 use Rattle.steps.proofs.LoginsBack.{request-wrote, response-wrote}
 use Rattle.steps.proofs.Writes.{good-writes}
 
--- a writing that was accepted up to n: what stands before n reads as a message, which spells this writing, and what stands behind n is as it was
+-- a writing that was accepted up to n has written a good message, which spells this writing: what stands before n reads as it, and what stands behind n is as it was
 pub record ReadBack (w : Writing) (st : State) (b : List ℕ) (n : ℕ) : Type 0 where
   pub message : Message
+  pub good : GoodMessage (kindOf w) message
+  pub wrote : written w st b ≡ inFront b (messageBytes (kindOf w) message)
   pub read : readMessage (kindOf w) (take n (written w st b .buffer)) ≡ ok message
   pub spelled : trimmed w ≡ writingOf message
   pub kept : drop n (written w st b .buffer) ≡ drop n b
@@ -41,6 +43,8 @@ read-back w st b n r e g s =
     let buffer = ap (λ (o : Out State). o .buffer) (g .1) in
     record {
       message = r;
+      good = g .0;
+      wrote = g .1;
       read = rw (buffer, same) (rw take-append-seam (encodes→accepted (kindOf w) r (g .0)));
       spelled = s;
       kept = rw (buffer, same) (drop-append-seam m (drop (length m) b));

@@ -1,10 +1,10 @@
--- A chain of calls, each on the state, the types and the buffer that the last one left, is a run of the definitions: so what is proved of runs holds
--- of the functions themselves. What a step leaves is seen again as it was left.
+-- Calls of steps, each on the state, the types and the buffer that the last one left, are a run of the definitions, and a run that is accepted is one of calls that
+-- are: what a step isn't lent it doesn't look at, and what it leaves is seen again as it was left.
 use Prim.Native.Nat.{ℕ, _+_, _≤_}
 use native.Mathlib.Nat.{zero-add}
 use native.Mathlib.Omega.{arith}
-use mathlib.Core.Path.{_≡_, refl, sym, ap, _∙_}
-use mathlib.Core.Bool.{Bool, true, false}
+use mathlib.Core.Path.{_≡_, refl, sym, ap, _∙_, subst}
+use mathlib.Core.Bool.{Bool, true, false, _&&_}
 use mathlib.Core.List.{List, [], _∷_, _++_}
 use lib.ListN.{length, take, drop, length-map}
 use lib.Seq.{sets, sets-eq, length-sets, length-take-le, take-append-seam}
@@ -13,7 +13,7 @@ use borrow.Author.Tests.{le-leb, leb-true}
 use Rattle.format.specs.declared.Fault.the-variants.{Limit, WireType}
 use Rattle.format.specs.Result.{Res, ok, no, pick}
 use Rattle.format.specs.Message.{mostColumns, unlimited}
-use Rattle.format.proofs.Results.{and-true-both}
+use Rattle.format.proofs.Results.{ok-same, no-ok, and-true-both}
 use Rattle.put.specs.Put.{put}
 use Rattle.write.specs.declared.State.{State as Code}
 use Rattle.format.specs.declared.Answer.the-variants.{Is, No}
@@ -24,83 +24,35 @@ use Rattle.steps.specs.Plans.{Plan, Out, also, test, answerOf, outOf, carry, af
 use Rattle.steps.specs.Arguments.{nameFaults, typesOf}
 use Rattle.steps.specs.Steps.{Step, beginCall, nullParam, oneParam, bytesParam, openArray, element, closeArray, finishCall, beginReply, openTable, openRow, cell, closeRow, closeTable, finishReply, plan, step, run}
 use Rattle.write.specs.Shown.{typesIn, seen, shown, answered, came, Stepped, typesAfter}
+use Rattle.write.specs.Calls.{Left, Loan, nothing, look, whole, loan, Meets, Called, Chain, ChainTo}
 use Rattle.steps.proofs.Plans.{Accepted}
 use Rattle.steps.proofs.Accepted.{step-ok}
 use Rattle.steps.proofs.Back.{also-fine, test-fine}
+use Rattle.steps.proofs.Sound.{around, along}
 use Rattle.write.proofs.Seen.{seen-shown}
 
--- the types that a step is lent: those of a table's steps, and else none
-abbrev pub lentTo : Step → List ℕ → List ℕ
-lentTo (beginCall version procedure client) types = []
-lentTo nullParam types = []
-lentTo (oneParam t v) types = []
-lentTo (bytesParam bs) types = []
-lentTo (openArray t) types = []
-lentTo (element t v) types = []
-lentTo closeArray types = []
-lentTo finishCall types = []
-lentTo (beginReply version o) types = []
-lentTo (openTable status cs) types = []
-lentTo openRow types = types
-lentTo (cell t v) types = types
-lentTo closeRow types = types
-lentTo closeTable types = types
-lentTo finishReply types = []
+-- the types that are lent, and those after a step
+abbrev lent : Loan → List ℕ → List ℕ
+lent nothing types = []
+lent look types = types
+lent whole types = []
 
--- the types after a step: only the one that opens a table sets them
-abbrev pub leftBy : Step → Out State → List ℕ → List ℕ
-leftBy (beginCall version procedure client) o types = types
-leftBy nullParam o types = types
-leftBy (oneParam t v) o types = types
-leftBy (bytesParam bs) o types = types
-leftBy (openArray t) o types = types
-leftBy (element t v) o types = types
-leftBy closeArray o types = types
-leftBy finishCall o types = types
-leftBy (beginReply version p) o types = types
-leftBy (openTable status cs) o types = typesAfter (o .answer) (o .state .outer .types) types
-leftBy openRow o types = types
-leftBy (cell t v) o types = types
-leftBy closeRow o types = types
-leftBy closeTable o types = types
-leftBy finishReply o types = types
+abbrev left : Loan → Res ℕ → List ℕ → List ℕ → List ℕ
+left nothing r new types = types
+left look r new types = types
+left whole r new types = typesAfter r new types
 
--- what the contract of a step's function says, of the types too
-abbrev pub Called : Step → Code → List ℕ → List ℕ → Outcome → List ℕ → List ℕ → Type 0
-Called s st types b r types′ b′ = Stepped s st (lentTo s types) b r b′ × (types′ ≡ leftBy s (step s (seen st (lentTo s types)) b) types)
+meets : (h : Loan) (s : Step) (st : Code) (types b : List ℕ) (l : Left) → Meets h s st types b l → let o = step s (seen st (lent h types)) b in
+    Stepped s st (lent h types) b (l .came) (l .buffer) × (l .types ≡ left h (o .answer) (o .state .outer .types) types)
+meets nothing s st types b l m = m
+meets look s st types b l m = m
+meets whole s st types b l m = m
 
--- one of them: what it is called on, and what it leaves
-pub record Call (s : Step) (st : Code) (types b : List ℕ) : Type 0 where
-  pub came : Outcome
-  pub types′ : List ℕ
-  pub b′ : List ℕ
-  pub reached : ℕ
-  pub called : Called s st types b came types′ b′
-  pub accepted : came .answer ≡ Is reached
-
--- calls one after the other, each accepted, to a position and a buffer
-unfoldable pub Chain : List Step → Code → List ℕ → List ℕ → ℕ → List ℕ → Type 0
-Chain [] st types b n b′ = (n ≡ st .position) × (b′ ≡ b)
-Chain (s ∷ ss) st types b n b′ = (c : Call s st types b) × Chain ss (c .came .state) (c .types′) (c .b′) n b′
-
--- where no table is open, its types are not looked at
-blind : (s : Step) (st : Code) (types : List ℕ) (size : ℕ) → plan s (seen st (lentTo s types)) size ≡ plan s (seen st types) size
-unfolding sound messageSound
-blind (beginCall version procedure client) st types size = refl
-blind nullParam st types size = refl
-blind (oneParam t v) st types size = refl
-blind (bytesParam bs) st types size = refl
-blind (openArray t) st types size = refl
-blind (element t v) st types size = refl
-blind closeArray st types size = refl
-blind finishCall st types size = refl
-blind (beginReply version o) st types size = refl
-blind (openTable status cs) st types size = refl
-blind openRow st types size = refl
-blind (cell t v) st types size = refl
-blind closeRow st types size = refl
-blind closeTable st types size = refl
-blind finishReply st types size = refl
+left-length : (h : Loan) (r : Res ℕ) (new types : List ℕ) → length (left h r new types) ≡ length types
+left-length nothing r new types = refl
+left-length look r new types = refl
+left-length whole (ok n) new types = length-sets types 0 new
+left-length whole (no f p) new types = refl
 
 -- a step that is accepted in a sound table has no more columns than a table may have
 few-columns : (n : ℕ) (types : List ℕ) → allColumns (typesIn n types) ≡ true → n ≤ mostColumns
@@ -119,19 +71,13 @@ outer-few st types e =
     let d = and-true-both (leb (o .rows) unlimited) _ c .1 in
     few-columns (st .columns) types (and-true-both (leb (length (o .types)) mostColumns) _ d .1)
 
-table-few : (st : Code) (types : List ℕ) (size : ℕ) → atStage Table (seen st types) size ≡ true → st .columns ≤ mostColumns
-unfolding sound
-table-few st types size e =
-    let a = and-true-both (eqb (stageNumber (st .stage)) (stageNumber Table)) (sound Table (seen st types) size) e .1 in
-    let c = and-true-both (messageSound (seen st types) size) _ a .1 in
-    outer-few st types (and-true-both (outerSound (seen st types)) _ c .0)
+at-table : (st : Code) (types : List ℕ) (size : ℕ) → atStage Table (seen st types) size ≡ true → st .columns ≤ mostColumns
+at-table st types size e = outer-few st types (around (seen st types) size (and-true-both (eqb (stageNumber (st .stage)) (stageNumber Table)) _ e .1) .outer)
 
-row-few : (st : Code) (types : List ℕ) (size : ℕ) → atStage Row (seen st types) size ≡ true → st .columns ≤ mostColumns
-unfolding sound
-row-few st types size e =
-    let a = and-true-both (eqb (stageNumber (st .stage)) (stageNumber Row)) (sound Row (seen st types) size) e .1 in
-    let c = and-true-both (messageSound (seen st types) size) _ a .1 in
-    outer-few st types (and-true-both (outerSound (seen st types)) _ c .0)
+at-row : (st : Code) (types : List ℕ) (size : ℕ) (t : Bool) → atStage Row (seen st types) size && t ≡ true → st .columns ≤ mostColumns
+at-row st types size t e =
+    let here = and-true-both (atStage Row (seen st types) size) t e .0 in
+    outer-few st types (along (seen st types) size (and-true-both (eqb (stageNumber (st .stage)) (stageNumber Row)) _ here .1) .outer)
 
 -- so the types of a table that stays open are seen again
 table-back : (s : State) (n : ℕ) (types : List ℕ) → length types ≡ mostColumns → n ≤ mostColumns → s .outer .types ≡ typesIn n types → seen (shown s) types ≡ s
@@ -148,117 +94,156 @@ opened-back s types l h =
     let laid : sets types 0 ts ≡ ts ++ drop (length ts) types = sets-eq ts types 0 (omega arith) ∙ ap (λ (n : ℕ). ts ++ drop n types) (zero-add (length ts)) in
     seen-shown s (sets types 0 ts) h (ap (take (length ts)) laid ∙ take-append-seam ts (drop (length ts) types))
 
--- what an accepted call's step leaves is seen again
-left-seen : (s : Step) (st : Code) (types b : List ℕ) (n : ℕ) → length types ≡ mostColumns → let p = plan s (seen st types) (length b) in
-    Accepted p (length b) n → seen (shown (p .next n)) (leftBy s (record { answer = ok n; state = p .next n; buffer = b }) types) ≡ p .next n
-left-seen (beginCall version procedure client) st types b n l a = refl
-left-seen nullParam st types b n l a = refl
-left-seen (oneParam t v) st types b n l a = refl
-left-seen (bytesParam bs) st types b n l a = refl
-left-seen (openArray t) st types b n l a = refl
-left-seen (element t v) st types b n l a = refl
-left-seen closeArray st types b n l a = refl
-left-seen finishCall st types b n l a = refl
-left-seen (beginReply version o) st types b n l a = refl
-left-seen (openTable status cs) st types b n l a =
-    let at = st .position in
-    let f = also-fine (test (leb (length cs) mostColumns) Limit at) (also (test (allColumns (typesOf cs)) WireType at) (nameFaults at cs)) (a .fine .faultless) in
-    let few = leb-true (length cs) mostColumns (test-fine (leb (length cs) mostColumns) Limit at (f .0)) in
-    let m : length (typesOf cs) ≡ length cs = length-map cs _ in
-    opened-back (plan (openTable status cs) (seen st types) (length b) .next n) types l (omega (arith, few, m))
-left-seen openRow st types b n l a = table-back (plan openRow (seen st types) (length b) .next n) (st .columns) types l (table-few st types (length b) (a .fine .permitted)) refl
-left-seen (cell t v) st types b n l a = table-back (plan (cell t v) (seen st types) (length b) .next n) (st .columns) types l (row-few st types (length b) (and-true-both (atStage Row (seen st types) (length b)) _ (a .fine .permitted) .0)) refl
-left-seen closeRow st types b n l a = table-back (plan closeRow (seen st types) (length b) .next n) (st .columns) types l (row-few st types (length b) (and-true-both (atStage Row (seen st types) (length b)) _ (a .fine .permitted) .0)) refl
-left-seen closeTable st types b n l a = refl
-left-seen finishReply st types b n l a = refl
+-- what is true of each step: it doesn't look at types that it isn't lent, an accepted one is at the position that it answers, and what it leaves is seen again
+abbrev Facts : Step → Code → List ℕ → ℕ → ℕ → Type 0
+Facts s st types size n =
+    let p = plan s (seen st types) size in
+    (plan s (seen st (lent (loan s) types)) size ≡ p)
+    × (p .next n .position ≡ n)
+    × (Accepted p size n → seen (shown (p .next n)) (left (loan s) (ok n) (p .next n .outer .types) types) ≡ p .next n)
 
-left-length : (s : Step) (o : Out State) (types : List ℕ) → length (leftBy s o types) ≡ length types
-left-length (beginCall version procedure client) o types = refl
-left-length nullParam o types = refl
-left-length (oneParam t v) o types = refl
-left-length (bytesParam bs) o types = refl
-left-length (openArray t) o types = refl
-left-length (element t v) o types = refl
-left-length closeArray o types = refl
-left-length finishCall o types = refl
-left-length (beginReply version p) o types = refl
-left-length (openTable status cs) o types = go (o .answer)
-  where
-    go : (r : Res ℕ) → length (typesAfter r (o .state .outer .types) types) ≡ length types
-    go (ok n) = length-sets types 0 (o .state .outer .types)
-    go (no f p) = refl
-left-length openRow o types = refl
-left-length (cell t v) o types = refl
-left-length closeRow o types = refl
-left-length closeTable o types = refl
-left-length finishReply o types = refl
+facts : (s : Step) (st : Code) (types : List ℕ) (size n : ℕ) → length types ≡ mostColumns → Facts s st types size n
+unfolding sound messageSound
+facts (beginCall version procedure client) st types size n l = (refl, refl, λ a. refl)
+facts nullParam st types size n l = (refl, refl, λ a. refl)
+facts (oneParam t v) st types size n l = (refl, refl, λ a. refl)
+facts (bytesParam bs) st types size n l = (refl, refl, λ a. refl)
+facts (openArray t) st types size n l = (refl, refl, λ a. refl)
+facts (element t v) st types size n l = (refl, refl, λ a. refl)
+facts closeArray st types size n l = (refl, refl, λ a. refl)
+facts finishCall st types size n l = (refl, refl, λ a. refl)
+facts (beginReply version o) st types size n l = (refl, refl, λ a. refl)
+facts (openTable status cs) st types size n l = (
+  refl,
+  refl,
+  λ a.
+      let at = st .position in
+      let f = also-fine (test (leb (length cs) mostColumns) Limit at) (also (test (allColumns (typesOf cs)) WireType at) (nameFaults at cs)) (a .fine .faultless) in
+      let few = leb-true (length cs) mostColumns (test-fine (leb (length cs) mostColumns) Limit at (f .0)) in
+      let m : length (typesOf cs) ≡ length cs = length-map cs _ in
+      opened-back (plan (openTable status cs) (seen st types) size .next n) types l (omega (arith, few, m)),
+)
+facts openRow st types size n l = (refl, refl, λ a. table-back (plan openRow (seen st types) size .next n) (st .columns) types l (at-table st types size (a .fine .permitted)) refl)
+facts (cell t v) st types size n l = (refl, refl, λ a. table-back (plan (cell t v) (seen st types) size .next n) (st .columns) types l (at-row st types size _ (a .fine .permitted)) refl)
+facts closeRow st types size n l = (refl, refl, λ a. table-back (plan closeRow (seen st types) size .next n) (st .columns) types l (at-row st types size _ (a .fine .permitted)) refl)
+facts closeTable st types size n l = (refl, refl, λ a. refl)
+facts finishReply st types size n l = (refl, refl, λ a. refl)
 
-left-same : (s : Step) (types : List ℕ) (n : ℕ) (x : State) (b c : List ℕ) → leftBy s (record { answer = ok n; state = x; buffer = b }) types ≡ leftBy s (record { answer = ok n; state = x; buffer = c }) types
-left-same (beginCall version procedure client) types n x b c = refl
-left-same nullParam types n x b c = refl
-left-same (oneParam t v) types n x b c = refl
-left-same (bytesParam bs) types n x b c = refl
-left-same (openArray t) types n x b c = refl
-left-same (element t v) types n x b c = refl
-left-same closeArray types n x b c = refl
-left-same finishCall types n x b c = refl
-left-same (beginReply version o) types n x b c = refl
-left-same (openTable status cs) types n x b c = refl
-left-same openRow types n x b c = refl
-left-same (cell t v) types n x b c = refl
-left-same closeRow types n x b c = refl
-left-same closeTable types n x b c = refl
-left-same finishReply types n x b c = refl
-
--- an accepted call is a step that is accepted
-came-ok : (old : Code) (o : Out State) (n : ℕ) → came old o .answer ≡ Is n → o .answer ≡ ok n
+-- a call is accepted where its step is
+pub came-ok : (old : Code) (o : Out State) (n : ℕ) → came old o .answer ≡ Is n → o .answer ≡ ok n
 came-ok old o n = go (o .answer)
   where
     go : (r : Res ℕ) → answered old r (o .state) .answer ≡ Is n → r ≡ ok n
     go (ok m) e = cc
     go (no f p) e = let z : No _ ≡ Is n = e in cc
 
--- of an accepted plan the state that it began in is forgotten
-plan-ok : {S : Type 0} (p : Plan S) (x y : S) (b : List ℕ) (n : ℕ) → carry p x b .answer ≡ ok n → carry p x b ≡ carry p y b
+pub ok-came : (old : Code) (o : Out State) (n : ℕ) → o .answer ≡ ok n → came old o .answer ≡ Is n
+ok-came old o n e = rw e refl
+
+-- the state that a plan began in is in no answer, and in nothing of an accepted one
+same-answer : {S : Type 0} (p : Plan S) (x y : S) (b : List ℕ) → carry p x b .answer ≡ carry p y b .answer
 unfolding carry
-plan-ok p x y b n = go (answerOf p (length b))
+same-answer p x y b = go (answerOf p (length b))
+  where
+    go : (r : Res ℕ) → outOf r p x b .answer ≡ outOf r p y b .answer
+    go (ok m) = refl
+    go (no f q) = refl
+
+same-out : {S : Type 0} (p : Plan S) (x y : S) (b : List ℕ) (n : ℕ) → carry p x b .answer ≡ ok n → carry p x b ≡ carry p y b
+unfolding carry
+same-out p x y b n = go (answerOf p (length b))
   where
     go : (r : Res ℕ) → outOf r p x b .answer ≡ ok n → outOf r p x b ≡ outOf r p y b
     go (ok m) e = refl
-    go (no f q) e = let z : no f q ≡ ok n = e in cc
+    go (no f q) e = absurd (no-ok e)
 
-same-step : (s : Step) (st : Code) (types b : List ℕ) (n : ℕ) → step s (seen st (lentTo s types)) b .answer ≡ ok n → step s (seen st (lentTo s types)) b ≡ step s (seen st types) b
-unfolding step
-same-step s st types b n e =
-    plan-ok (plan s (seen st (lentTo s types)) (length b)) (seen st (lentTo s types)) (seen st types) b n e
-    ∙ ap (λ (p : Plan State). carry p (seen st types) b) (blind s st types (length b))
+-- a call and its step
+module _ (s : Step) (st : Code) (types b : List ℕ) (long : length types ≡ mostColumns) (l : Left) (called : Called s st types b l) where
+  -- the step on the types that are lent, which is all that the contract speaks of
+  looked : Out State
+  looked = step s (seen st (lent (loan s) types)) b
 
-pub record Linked (s : Step) (st : Code) (types b : List ℕ) (c : Call s st types b) : Type 0 where
-  pub goes : step s (seen st types) b ≡ record { answer = ok (c .reached); state = seen (c .came .state) (c .types′); buffer = c .b′ }
-  pub long : length (c .types′) ≡ mostColumns
+  blind : (x : State) → carry (plan s (seen st (lent (loan s) types)) (length b)) x b ≡ carry (plan s (seen st types) (length b)) x b
+  blind x = ap (λ (p : Plan State). carry p x b) (facts s st types (length b) 0 long .0)
 
-pub linked : (s : Step) (st : Code) (types b : List ℕ) → length types ≡ mostColumns → (c : Call s st types b) → Linked s st types b c
-linked s st types b l c =
-    let lent = step s (seen st (lentTo s types)) b in
-    let o = step s (seen st types) b in
-    let n = c .reached in
-    let said : lent .answer ≡ ok n = came-ok st lent n (sym (ap (λ (x : Outcome). x .answer) (c .called .0 .0)) ∙ c .accepted) in
-    let same : lent ≡ o = same-step s st types b n said in
-    let p = plan s (seen st types) (length b) in
-    let w = step-ok s (seen st types) b n (sym (ap (λ (x : Out State). x .answer) same) ∙ said) in
-    let is : o ≡ record { answer = ok n; state = p .next n; buffer = fillAll (p .fills) (put b (p .at) (p .bytes)) } = w .1 in
-    let numbers : c .came .state ≡ shown (p .next n) = ap (λ (x : Outcome). x .state) (c .called .0 .0 ∙ ap (came st) (same ∙ is)) in
-    let types-left : c .types′ ≡ leftBy s (record { answer = ok n; state = p .next n; buffer = b }) types = c .called .1 ∙ ap (λ (x : Out State). leftBy s x types) (same ∙ is) ∙ left-same s types n (p .next n) _ b in
-    let back : seen (c .came .state) (c .types′) ≡ p .next n = rw (numbers, types-left) (left-seen s st types b n l (w .0)) in
-    let buffer : c .b′ ≡ fillAll (p .fills) (put b (p .at) (p .bytes)) = c .called .0 .1 ∙ ap (λ (x : Out State). x .buffer) (same ∙ is) in
-    record { goes = is ∙ sym (rw (back, buffer) refl); long = ap length (c .called .1) ∙ left-length s lent types ∙ l }
+  contract : Stepped s st (lent (loan s) types) b (l .came) (l .buffer) × (l .types ≡ left (loan s) (looked .answer) (looked .state .outer .types) types)
+  unfolding looked
+  contract = meets (loan s) s st types b l called
 
--- a chain of calls is a run
-pub chain→run : (ss : List Step) (st : Code) (types b : List ℕ) (n : ℕ) (b′ : List ℕ) → length types ≡ mostColumns → Chain ss st types b n b′ → (run ss (seen st types) b .answer ≡ ok n) × (run ss (seen st types) b .buffer ≡ b′)
-unfolding run Chain
-chain→run [] st types b n b′ l c = (ap ok (sym (c .0)), sym (c .1))
-chain→run (s ∷ ss) st types b n b′ l c =
-    let k = linked s st types b l (c .0) in
-    let rest = chain→run ss (c .0 .came .state) (c .0 .types′) (c .0 .b′) n b′ (k .long) (c .1) in
-    let on = ap (λ (o : Out State). after o (run ss)) (k .goes) in
-    (ap (λ (o : Out State). o .answer) on ∙ rest .0, ap (λ (o : Out State). o .buffer) on ∙ rest .1)
+  -- the call is accepted where the step is
+  pub goes→accepted : (n : ℕ) → step s (seen st types) b .answer ≡ ok n → l .came .answer ≡ Is n
+  unfolding looked step
+  goes→accepted n e =
+      let same : looked .answer ≡ step s (seen st types) b .answer = same-answer _ (seen st (lent (loan s) types)) (seen st types) b ∙ ap (λ (o : Out State). o .answer) (blind (seen st types)) in
+      ap (λ (o : Outcome). o .answer) (contract .0 .0) ∙ ok-came st looked n (same ∙ e)
+
+  -- and an accepted call's step leaves what is seen of what the call left
+  pub accepted→goes : (n : ℕ) → l .came .answer ≡ Is n
+      → (step s (seen st types) b ≡ record { answer = ok n; state = seen (l .came .state) (l .types); buffer = l .buffer }) × (l .came .state .position ≡ n) × (length (l .types) ≡ mostColumns)
+  unfolding looked step
+  accepted→goes n e =
+      let p = plan s (seen st types) (length b) in
+      let known = facts s st types (length b) n long in
+      let said : looked .answer ≡ ok n = came-ok st looked n (sym (ap (λ (o : Outcome). o .answer) (contract .0 .0)) ∙ e) in
+      let same : looked ≡ step s (seen st types) b = same-out _ (seen st (lent (loan s) types)) (seen st types) b n said ∙ blind (seen st types) in
+      let w = step-ok s (seen st types) b n (sym (ap (λ (o : Out State). o .answer) same) ∙ said) in
+      let is = same ∙ w .1 in
+      let numbers : l .came .state ≡ shown (p .next n) = ap (λ (o : Outcome). o .state) (contract .0 .0 ∙ ap (came st) is) in
+      let memory : l .types ≡ left (loan s) (ok n) (p .next n .outer .types) types = contract .1 ∙ ap (λ (o : Out State). left (loan s) (o .answer) (o .state .outer .types) types) is in
+      let back : seen (l .came .state) (l .types) ≡ p .next n = rw (numbers, memory) (known .2 (w .0)) in
+      let buffer : l .buffer ≡ fillAll (p .fills) (put b (p .at) (p .bytes)) = contract .0 .1 ∙ ap (λ (o : Out State). o .buffer) is in (
+        w .1 ∙ sym (rw (back, buffer) refl),
+        ap (λ (x : Code). x .position) numbers ∙ known .1,
+        ap length memory ∙ left-length (loan s) (ok n) (p .next n .outer .types) types ∙ long,
+      )
+
+  -- so the steps behind it go on from there
+  pub goes-on : (ss : List Step) (n : ℕ) → l .came .answer ≡ Is n → run (s ∷ ss) (seen st types) b ≡ run ss (seen (l .came .state) (l .types)) (l .buffer)
+  unfolding run
+  goes-on ss n e = ap (λ (o : Out State). after o (run ss)) (accepted→goes n e .0)
+
+-- an accepted run's first step is accepted
+abbrev Answers : ℕ → Out State → Type 0
+Answers n o = o .answer ≡ ok n
+
+pub first-ok : (o : Out State) (k : State → List ℕ → Out State) (n : ℕ) → after o k .answer ≡ ok n → (m : ℕ) × (o .answer ≡ ok m)
+first-ok o k n = go (o .answer) refl
+  where
+    go : (r : Res ℕ) → o .answer ≡ r → Answers n (elim r [ ok n ↦ k (o .state) (o .buffer) | no f p ↦ o ]) → (m : ℕ) × (o .answer ≡ ok m)
+    go (ok m) i e = (m, i)
+    go (no f p) i e = absurd (no-ok (sym i ∙ e))
+
+-- a run to a position and a buffer
+abbrev pub RunsTo : Out State → ℕ → List ℕ → Type 0
+RunsTo o n b = (o .answer ≡ ok n) × (o .buffer ≡ b)
+
+-- where a step and those behind it run to the end, so do their calls
+pub run→chain : (s : Step) (ss : List Step) (st : Code) (types b : List ℕ) (n : ℕ) (b′ : List ℕ) → length types ≡ mostColumns → RunsTo (run (s ∷ ss) (seen st types) b) n b′
+    → (l : Left) → Called s st types b l → (c : Chain ss l) → ChainTo ss l c n b′
+unfolding run
+run→chain s [] st types b n b′ long e l called c =
+    let m = first-ok (step s (seen st types) b) (run []) n (e .0) in
+    let a = goes→accepted s st types b long l called (m .0) (m .1) in
+    let on = goes-on s st types b long l called [] (m .0) a in
+    let here = accepted→goes s st types b long l called (m .0) a .1 in
+    (a ∙ ap Is (sym here ∙ ok-same (sym (ap (λ (o : Out State). o .answer) on) ∙ e .0)), sym (ap (λ (o : Out State). o .buffer) on) ∙ e .1)
+run→chain s (t ∷ ss) st types b n b′ long e l called c =
+    let m = first-ok (step s (seen st types) b) (run (t ∷ ss)) n (e .0) in
+    let a = goes→accepted s st types b long l called (m .0) (m .1) in
+    let on = goes-on s st types b long l called (t ∷ ss) (m .0) a in
+    let kept = accepted→goes s st types b long l called (m .0) a .2 in
+    ((m .0, a), run→chain t ss (l .came .state) (l .types) (l .buffer) n b′ kept (subst (λ (o : Out State). RunsTo o n b′) on e) (c .1) (c .2) (c .3))
+
+-- and where the calls do, so do the steps
+pub chain→run : (s : Step) (ss : List Step) (st : Code) (types b : List ℕ) (n : ℕ) (b′ : List ℕ) → length types ≡ mostColumns
+    → (l : Left) → Called s st types b l → (c : Chain ss l) → ChainTo ss l c n b′ → RunsTo (run (s ∷ ss) (seen st types) b) n b′
+unfolding run
+chain→run s [] st types b n b′ long l called c to =
+    let on = goes-on s st types b long l called [] n (to .0) in
+    let here = accepted→goes s st types b long l called n (to .0) .1 in
+    (ap (λ (o : Out State). o .answer) on ∙ ap ok here, ap (λ (o : Out State). o .buffer) on ∙ to .1)
+chain→run s (t ∷ ss) st types b n b′ long l called c to =
+    let m = to .0 in
+    let on = goes-on s st types b long l called (t ∷ ss) (m .0) (m .1) in
+    let kept = accepted→goes s st types b long l called (m .0) (m .1) .2 in
+    subst (λ (o : Out State). RunsTo o n b′) (sym on) (chain→run t ss (l .came .state) (l .types) (l .buffer) n b′ kept (c .1) (c .2) (c .3) (to .1))

@@ -1,6 +1,6 @@
 -- `exports::chaloenpik_write_login_response` meets its contract: what the login answers, packed. Assumes nothing.
 use Rattle.steps.specs.Logins.{loginResponse}
-use Rattle.login.specs.Told.{welcome}
+use Rattle.login.specs.Parts.{welcome}
 use Rattle.numbers.proofs.Kept.{wrote-login}
 use borrow.Author.Needs.{needs}
 use Rattle.exports.proofs.chaloenpik_write_login_response.Statement.{statement}

@@ -5,7 +5,7 @@ use Rattle.steps.specs.Plans.{also}
 use Rattle.steps.specs.Steps.{says}
 use Rattle.steps.specs.Logins.{responseFault, writtenResponse, loginPlan}
 use Rattle.write.proofs.Taken.{answered}
-use Rattle.login.specs.Told.{welcome}
+use Rattle.login.specs.Parts.{welcome}
 use Rattle.login.proofs.Parts.{response-length-none, response-length-some, response-fault-none, response-fault-some}
 use borrow.Author.Needs.{needs}
 use Rattle.login.proofs.ask_response.Statement.{statement}

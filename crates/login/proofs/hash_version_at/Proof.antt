@@ -10,7 +10,7 @@ use Rattle.format.specs.Result.{pick}
 use Rattle.format.proofs.Numbers.{length-numBytes}
 use Rattle.put.specs.Put.{put}
 use Rattle.put.proofs.Laws.{put-nothing}
-use Rattle.login.specs.Told.{hashPart}
+use Rattle.login.specs.Parts.{hashPart}
 use Rattle.login.proofs.Parts.{hash-none, hash-some}
 use borrow.Author.Needs.{needs}
 use Rattle.login.proofs.hash_version_at.Statement.{statement}

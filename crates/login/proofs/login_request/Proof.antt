@@ -10,7 +10,7 @@ use Rattle.put.specs.Put.{put, sized}
 use Rattle.put.proofs.Laws.{puts-number, puts-both, sized-some}
 use Rattle.steps.specs.Steps.{says}
 use Rattle.steps.specs.Logins.{requestFault, writtenRequest, loginPlan, loginRequest}
-use Rattle.login.specs.Told.{hashPart}
+use Rattle.login.specs.Parts.{hashPart}
 use Rattle.login.proofs.Parts.{whole, refused, taken, puts-whole, request-length, request-whole}
 use borrow.Author.Needs.{needs}
 use Rattle.login.proofs.login_request.Statement.{statement}

@@ -13,7 +13,7 @@ use Rattle.put.proofs.Laws.{puts-number, puts-both}
 use Rattle.steps.specs.Steps.{says}
 use Rattle.steps.specs.Logins.{responseFault, writtenResponse, loginPlan, loginResponse}
 use Rattle.write.specs.Shown.{shownAnswer}
-use Rattle.login.specs.Told.{welcome, serverOf}
+use Rattle.login.specs.Parts.{welcome, serverOf}
 use Rattle.login.proofs.Parts.{whole, refused, taken, puts-whole, same-answer, server-length, response-length, response-whole-none, response-whole-some}
 use borrow.Author.Needs.{needs}
 use Rattle.login.proofs.login_response.Statement.{statement}

@@ -6,7 +6,7 @@ use mathlib.Core.List.{List}
 use mathlib.Core.Option.{some}
 use Rattle.put.specs.Put.{put, sized}
 use Rattle.put.proofs.Laws.{puts-number, puts-both, sized-some}
-use Rattle.login.specs.Told.{welcome}
+use Rattle.login.specs.Parts.{welcome}
 use Rattle.login.proofs.Parts.{puts-whole, server-bytes}
 use borrow.Author.Needs.{needs}
 use Rattle.login.proofs.server_at.Statement.{statement}
