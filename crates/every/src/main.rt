@@ -8,7 +8,7 @@ use query::CellAnswer;
 use query::Part;
 use reply::Head;
 use show::Cell;
-use show::Fixed;
+use show::Raw;
 use write::Outcome;
 ghost use Prim.Native.Nat.{_<_};
 
@@ -86,6 +86,13 @@ const BYTES: [u8; 4] = *b"\x00\xff\x80\x01";
 
 const SHAPE: [u8; 3] = *b"\xc0\x01\x7f";
 
+// A value of a fixed size: its wire type, and its upper and lower 64 bits.
+struct Bits {
+    wire_type: u8,
+    upper: u64,
+    lower: u64,
+}
+
 fn main() {
     if login_request() && login_response() && invocation() {
         response();
@@ -141,7 +148,7 @@ fn invocation() -> bool {
     )
 }
 
-// Writes a draft with the first row alone, and the response with that row copied from it.
+// Writes a draft with a row of values and one of nulls, and the response with those rows copied from it.
 fn response() -> bool {
     let mut draft = [0u8; ROOM];
     let step = write_draft(&mut draft[1..]);
@@ -330,19 +337,20 @@ fn fill_decimals(out: &mut [u8], step: Outcome) -> Outcome {
     );
     after(
         first,
-        values::value_element(out, first.state, Cell::Decimal(-1, u64::MAX)),
+        values::value_element(out, first.state, b"", Cell::Decimal(-1, u64::MAX)),
     )
 }
 
-// A response with one table, which has the first row alone.
+// A response with one table, which has a row of values and one of nulls.
 fn write_draft(out: &mut [u8]) -> Outcome {
     let mut types = [0; write::COLUMNS];
     let opened = open_table(out, &mut types);
-    let filled = put_row(out, &types, opened, false);
-    finish_reply(out, &types, filled)
+    let first = put_row(out, &types, opened, false);
+    let second = put_row(out, &types, first, true);
+    finish_reply(out, &types, second)
 }
 
-// A response with that table, which has two rows more, and a table with no columns.
+// A response with that table, which has a row more, and a table with no columns.
 fn write_reply(out: &mut [u8], draft: &[u8]) -> Outcome {
     let mut types = [0; write::COLUMNS];
     let opened = open_table(out, &mut types);
@@ -351,11 +359,11 @@ fn write_reply(out: &mut [u8], draft: &[u8]) -> Outcome {
     finish_reply(out, &types, empty)
 }
 
-// A row of values, its copy from the draft, and a row of nulls.
+// A row of values, and the draft's rows, copied.
 fn put_rows(out: &mut [u8], types: &[u8; write::COLUMNS], step: Outcome, draft: &[u8]) -> Outcome {
     let first = put_row(out, types, step, false);
-    let second = copy_row(out, types, first, draft);
-    put_row(out, types, second, true)
+    let second = copy_row(out, types, first, draft, 0);
+    copy_row(out, types, second, draft, 1)
 }
 
 // Closes the table, and opens one with no columns.
@@ -434,17 +442,18 @@ fn put_cell(
     }
 }
 
-// Writes a row of the cells that the reader shows of the draft's.
+// Writes a row of the cells that the reader shows of one of the draft's.
 fn copy_row(
     out: &mut [u8],
     types: &[u8; write::COLUMNS],
     before: Outcome,
     draft: &[u8],
+    row: usize,
 ) -> Outcome {
     let mut step = after(before, rows::open_row(out, before.state, types));
     let mut c = 0;
     while c < COLUMNS {
-        step = copy_cell(out, types, step, draft, c);
+        step = copy_cell(out, types, step, draft, row, c);
         c += 1;
     }
     after(step, rows::close_row(out, step.state, types))
@@ -456,31 +465,17 @@ fn copy_cell(
     types: &[u8; write::COLUMNS],
     step: Outcome,
     draft: &[u8],
+    row: usize,
     c: usize,
 ) -> Outcome {
-    let st = step.state;
-    let answer = query::cell(draft, 0, 0, c);
+    let answer = query::cell(draft, 0, row, c);
     let CellAnswer::Is(cell) = answer else {
         return step;
     };
-    let part = query::cell_part(draft, 0, 0, c);
-    match cell {
-        Cell::Text(_, _) => after(
-            step,
-            rows::body_cell(out, st, types, format::STRING, false, part),
-        ),
-        Cell::Binary(_, _) => after(
-            step,
-            rows::body_cell(out, st, types, format::VARBINARY, false, part),
-        ),
-        Cell::Geography(_, _) => {
-            after(
-                step,
-                rows::body_cell(out, st, types, format::GEOGRAPHY, false, part),
-            )
-        }
-        _ => after(step, values::value_cell(out, st, types, cell)),
-    }
+    after(
+        step,
+        values::value_cell(out, step.state, types, draft, cell),
+    )
 }
 
 // ---- What is written.
@@ -503,7 +498,7 @@ fn column(c: usize) -> u8 {
 }
 
 // A column's value of a fixed size: -5, -300, -70,000, -5,000,000,000, -0.5, a time, 10^38 - 1 and 12.5 east, 55.75 south.
-fn value(c: usize) -> Fixed {
+fn value(c: usize) -> Bits {
     match c {
         0 => fixed(format::TINYINT, 0, 0xfb),
         1 => fixed(format::SMALLINT, 0, 0xfed4),
@@ -521,7 +516,7 @@ fn value(c: usize) -> Fixed {
 }
 
 // The same, or what stands in the row of nulls: a null decimal, a NaN whose bits are kept, and zeros.
-fn value_or_null(null: bool, c: usize) -> Fixed {
+fn value_or_null(null: bool, c: usize) -> Bits {
     if !null {
         return value(c);
     }
@@ -532,8 +527,8 @@ fn value_or_null(null: bool, c: usize) -> Fixed {
     }
 }
 
-fn fixed(wire_type: u8, upper: u64, lower: u64) -> Fixed {
-    Fixed {
+fn fixed(wire_type: u8, upper: u64, lower: u64) -> Bits {
+    Bits {
         wire_type,
         upper,
         lower,
@@ -574,7 +569,7 @@ fn parameter_is(m: &[u8], c: usize) -> bool
     }
 }
 
-fn argument_is(answer: Argued, v: Fixed) -> bool {
+fn argument_is(answer: Argued, v: Bits) -> bool {
     let Argued::One(cell) = answer else {
         return false;
     };
@@ -641,49 +636,37 @@ fn is_at(m: &[u8], row: usize, null: bool, c: usize) -> bool {
 }
 
 // Whether a fixed value is shown, in a cell or an element.
-fn shows(answer: CellAnswer, v: Fixed) -> bool {
+fn shows(answer: CellAnswer, v: Bits) -> bool {
     let CellAnswer::Is(cell) = answer else {
         return false;
     };
     cell_is(cell, v)
 }
 
-fn cell_is(cell: Cell, v: Fixed) -> bool {
-    let read = show::fixed_of(cell);
-    read.wire_type == v.wire_type && read.upper == v.upper && read.lower == v.lower
+fn cell_is(cell: Cell, v: Bits) -> bool {
+    let raw = show::raw_of(cell);
+    let Raw::Bits(wire_type, upper, lower) = raw else {
+        return false;
+    };
+    wire_type == v.wire_type && upper == v.upper && lower == v.lower
 }
 
 // Whether the bytes of a text or binary value are handed back, or that it is null: of a cell, a parameter, and an element of the strings.
 fn cell_text(m: &[u8], row: usize, c: usize, null: bool, s: &[u8]) -> bool {
-    part_is(
-        query::cell_span(m, 0, row, c),
-        query::cell_part(m, 0, row, c),
-        null,
-        s,
-    )
+    part_is(m, query::cell_span(m, 0, row, c), null, s)
 }
 
 fn parameter_text(m: &[u8], p: usize, null: bool, s: &[u8]) -> bool {
-    part_is(
-        query::parameter_span(m, p),
-        query::parameter_part(m, p),
-        null,
-        s,
-    )
+    part_is(m, query::parameter_span(m, p), null, s)
 }
 
 fn element_text(m: &[u8], e: usize, null: bool, s: &[u8]) -> bool {
-    part_is(
-        query::element_span(m, STRINGS, e),
-        query::element_part(m, STRINGS, e),
-        null,
-        s,
-    )
+    part_is(m, query::element_span(m, STRINGS, e), null, s)
 }
 
-fn part_is(span: Part, part: &[u8], null: bool, s: &[u8]) -> bool {
+fn part_is(m: &[u8], span: Part, null: bool, s: &[u8]) -> bool {
     match span {
-        Part::Is(_, _) => !null && same(part, s),
+        Part::Is(_, _) => !null && same(query::part_at(m, span), s),
         Part::Null => null,
         Part::No(_) => false,
     }

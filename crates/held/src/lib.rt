@@ -1,5 +1,5 @@
-// What holds a reference: a reader over one table of a message, each function thin over one of `query` or `cards`; and the step that is lent
-// a table's columns, thin over one of `columns`.
+// What holds a reference: a reader over one table of a message, each function thin over one of `query` or `cards`; the bytes of a value, handed back
+// beside what is told of them; and the step that is lent a table's columns, thin over one of `columns`.
 use columns::Column;
 use columns::Head;
 use columns::Survey;
@@ -15,7 +15,7 @@ ghost use mathlib.Core.Path.{_≡_};
 ghost use lib.ListN.{length};
 ghost use Rattle.format.specs.Result.{toldAnswer};
 ghost use Rattle.cards.specs.Answers.{askOpen};
-ghost use Rattle.query.specs.Answers.{toldTable, askTable, toldColumn, askColumn, askPosition, toldCell, askCell, toldPart, askCellSpan, partIn};
+ghost use Rattle.query.specs.Answers.{toldTable, askTable, toldColumn, askColumn, askPosition, toldCell, askCell, toldPart, askCellSpan, askParameterSpan, askElementSpan, Handed};
 ghost use Rattle.steps.specs.Steps.{openTable};
 ghost use Rattle.write.specs.Shown.{Opened};
 ghost use Rattle.columns.specs.Entries.{columnsOf};
@@ -76,11 +76,38 @@ pub fn span<'a>(r: TableReader<'a>, row: usize, c: usize) -> Part
     query::cell_span(r.msg, r.table, row, c)
 }
 
-// The bytes of a text or binary cell, as that part of the message; empty where there are none.
-pub fn part<'a>(r: TableReader<'a>, row: usize, c: usize) -> &'a [u8]
-    ensures { λ s. ⌜ now s ≡ partIn (now (r .entry .msg)) (askCellSpan (now (r .entry .msg)) (r .entry .table) row c) ⌝ }
+// The bytes of a text or binary value, handed back: what it is answered with, that is where they stand, that it is null, or the refusal; and that part
+// of the message itself, which is empty, at the message's start, for null and a refusal.
+pub struct Bytes<'a> {
+    pub answer: Part,
+    pub part: &'a [u8],
+}
+
+// The bytes of a text or binary cell.
+pub fn cell_bytes<'a>(r: TableReader<'a>, row: usize, c: usize) -> Bytes<'a>
+    ensures { λ x. ⌜ Handed (r .entry .msg) (askCellSpan (now (r .entry .msg)) (r .entry .table) row c) (x .answer) (x .part) ⌝ }
 {
-    query::cell_part(r.msg, r.table, row, c)
+    let answer = query::cell_span(r.msg, r.table, row, c);
+    let part = query::part_at(r.msg, answer);
+    Bytes { answer, part }
+}
+
+// The bytes of a text or binary parameter of an invocation.
+pub fn parameter_bytes<'a>(m: &'a [u8], p: usize) -> Bytes<'a>
+    ensures { λ x. ⌜ Handed (m .entry) (askParameterSpan (now (m .entry)) p) (x .answer) (x .part) ⌝ }
+{
+    let answer = query::parameter_span(m, p);
+    let part = query::part_at(m, answer);
+    Bytes { answer, part }
+}
+
+// The bytes of a text or binary element of the array that a parameter of an invocation is.
+pub fn element_bytes<'a>(m: &'a [u8], p: usize, e: usize) -> Bytes<'a>
+    ensures { λ x. ⌜ Handed (m .entry) (askElementSpan (now (m .entry)) p e) (x .answer) (x .part) ⌝ }
+{
+    let answer = query::element_span(m, p, e);
+    let part = query::part_at(m, answer);
+    Bytes { answer, part }
 }
 
 // What is found of the columns of a lent list, behind those of a survey.

@@ -1,4 +1,4 @@
--- What is put into a lent list: a shown value of a fixed size by its halves, and a record where its message is accepted.
+-- What is put into a lent list: an answer, and a record where its message is accepted.
 use Prim.Native.Nat.{ℕ, _+_, _*_, _^_, _<_}
 use native.Mathlib.Omega.{arith}
 use mathlib.Core.Path.{_≡_, refl, _∙_, ap}
@@ -18,38 +18,10 @@ use Rattle.scan.specs.Signed.{unsigned}
 use Rattle.message.specs.Verdict.{verdictOf}
 use Rattle.record.specs.declared.Span.{Span}
 use Rattle.record.proofs.Span.{the-type as span-type}
-use Rattle.show.specs.declared.Cell.{Cell}
-use Rattle.show.proofs.Cell.{the-type}
-use Rattle.show.specs.declared.Fixed.{Fixed}
-use Rattle.show.specs.Fixed.{fixedOf}
 use Rattle.scan.proofs.Unsigned.{wider}
 use Rattle.numbers.specs.Packed.{packed, nothing}
-use Rattle.numbers.specs.Listed.{lent, cellNumbers}
+use Rattle.numbers.specs.Listed.{lent}
 use Rattle.numbers.specs.Records.{there}
-
--- the cells that have a fixed size
-abbrev sizes : List ℕ
-sizes = 0 ∷ 1 ∷ 2 ∷ 3 ∷ 4 ∷ 5 ∷ 6 ∷ 7 ∷ 8 ∷ []
-
-abbrev pub fixedNumbers : Fixed → List ℕ
-fixedNumbers v = v .«wire_type» ∷ 0 ∷ v .upper ∷ v .lower ∷ []
-
-pub sized-cell : (c : Cell) → OneOf sizes (tagOf the-type c) → fixedNumbers (fixedOf c) ≡ cellNumbers c
-sized-cell (Cell.Tinyint z) tag = refl
-sized-cell (Cell.Smallint z) tag = refl
-sized-cell (Cell.Integer z) tag = refl
-sized-cell (Cell.Bigint z) tag = refl
-sized-cell (Cell.Timestamp z) tag = refl
-sized-cell (Cell.Float x) tag = refl
-sized-cell (Cell.FloatBits bits) tag = refl
-sized-cell (Cell.Decimal upper lower) tag = refl
-sized-cell (Cell.Point longitude latitude) tag = refl
-sized-cell (Cell.Text start size) tag = absurd (miss sizes 9 tt tag)
-sized-cell Cell.NullText tag = absurd (miss sizes 10 tt tag)
-sized-cell (Cell.Binary start size) tag = absurd (miss sizes 11 tt tag)
-sized-cell Cell.NullBinary tag = absurd (miss sizes 12 tt tag)
-sized-cell (Cell.Geography start size) tag = absurd (miss sizes 13 tt tag)
-sized-cell Cell.NullGeography tag = absurd (miss sizes 14 tt tag)
 
 -- an answer that says what was asked is packed and lent as that
 pub lent-answer : {A : Type 0} (told : A → List ℕ) (before : List ℕ) {x asked : Res A} {r : ℕ} {after : List ℕ} → x ≡ asked

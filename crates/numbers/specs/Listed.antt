@@ -1,14 +1,13 @@
 -- Values as four numbers in a lent list: the type, the form, and two more by the form. The form is 0 for a value of a fixed size, 1 for bytes that
 -- stand in the message, 2 for a null and 3 for an array.
-use Prim.Native.Nat.{ℕ, _/_, _%_, _^_}
+use Prim.Native.Nat.{ℕ}
 use mathlib.Core.List.{List, [], _∷_}
-use mathlib.Core.Option.{Option, some, none}
 use Rattle.format.specs.Result.{Res, ok, no}
 use Rattle.format.specs.Value.{tNull, tArray}
 use Rattle.show.specs.declared.Cell.{Cell}
-use Rattle.show.specs.Cells.{typeOf}
-use Rattle.query.specs.Answers.{Given, partOf}
-use Rattle.show.specs.Fixed.{numberIn}
+use Rattle.show.specs.declared.Raw.{Raw}
+use Rattle.show.specs.Cells.{rawOf}
+use Rattle.query.specs.Answers.{Given}
 
 module _ {A : Type 0} where
   -- a lent list after an answer: what was found, in numbers; a refusal leaves the list as it was
@@ -16,14 +15,14 @@ module _ {A : Type 0} where
   lent told (ok a) before = told a
   lent told (no f p) before = before
 
--- bytes by where they start and how many they are, a null by 0 and 0, any other value by its upper and lower 64 bits
-abbrev pub formOf : Res (Option (ℕ × ℕ)) → ℕ → List ℕ
-formOf (ok (some p)) n = 1 ∷ p .0 ∷ p .1 ∷ []
-formOf (ok none) n = 2 ∷ 0 ∷ 0 ∷ []
-formOf (no f p) n = 0 ∷ n / 2 ^ 64 ∷ n % 2 ^ 64 ∷ []
+-- a value by what it is on the wire: its upper and lower 64 bits, or where its bytes start and how many they are; a null by 0 and 0
+abbrev pub rawNumbers : Raw → List ℕ
+rawNumbers (Raw.Bits t upper lower) = t ∷ 0 ∷ upper ∷ lower ∷ []
+rawNumbers (Raw.Body t start size) = t ∷ 1 ∷ start ∷ size ∷ []
+rawNumbers (Raw.Null t) = t ∷ 2 ∷ 0 ∷ 0 ∷ []
 
 abbrev pub cellNumbers : Cell → List ℕ
-cellNumbers c = typeOf c ∷ formOf (partOf 0 c) (numberIn c)
+cellNumbers c = rawNumbers (rawOf c)
 
 -- an array by its elements' type and how many they are
 abbrev pub givenNumbers : Given → List ℕ

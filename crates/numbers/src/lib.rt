@@ -21,6 +21,7 @@ use record::ResponseRecord;
 use record::ResponseShown;
 use record::Span;
 use show::Cell;
+use show::Raw;
 use steps::Stage;
 use write::COLUMNS;
 use write::Outcome;
@@ -270,17 +271,11 @@ fn four(t: u8, form: u64, a: u64, b: u64) -> [u64; 4]
 fn list_cell(c: Cell) -> [u64; 4]
     ensures { λ r. ⌜ r ≡ cellNumbers c ⌝ }
 {
-    match c {
-        Cell::Text(start, size) => four(format::STRING, 1, start as u64, size as u64),
-        Cell::Binary(start, size) => four(format::VARBINARY, 1, start as u64, size as u64),
-        Cell::Geography(start, size) => four(format::GEOGRAPHY, 1, start as u64, size as u64),
-        Cell::NullText => four(format::STRING, 2, 0, 0),
-        Cell::NullBinary => four(format::VARBINARY, 2, 0, 0),
-        Cell::NullGeography => four(format::GEOGRAPHY, 2, 0, 0),
-        _ => {
-            let v = show::fixed_of(c);
-            four(v.wire_type, 0, v.upper, v.lower)
-        }
+    let raw = show::raw_of(c);
+    match raw {
+        Raw::Bits(t, upper, lower) => four(t, 0, upper, lower),
+        Raw::Body(t, start, size) => four(t, 1, start as u64, size as u64),
+        Raw::Null(t) => four(t, 2, 0, 0),
     }
 }
 

@@ -28,12 +28,11 @@ use Rattle.places.proofs.Replies.{headSize, head-stands, table-place, response-
 use Rattle.places.proofs.Values.{Shows, there}
 use Rattle.query.specs.Shown.{pastOf, shownOf}
 use Rattle.query.specs.declared.ColumnLayout.{ColumnLayout}
-use Rattle.query.specs.Answers.{perhaps, ofPart, ofTable, layoutOf, columnOf, shownHere, partOf, toldPart}
-use Rattle.query.specs.declared.Part.{Part}
-use Rattle.format.specs.Value.{value}
+use Rattle.query.specs.Answers.{perhaps, ofPart, ofTable, layoutOf, columnOf, shownHere, partOf, spanIn}
+use Rattle.format.specs.Value.{value, body}
 use Rattle.query.specs.declared.TableLayout.{TableLayout}
 use Rattle.query.proofs.Walks.{after-is, over-is, count-is}
-use Rattle.query.proofs.Parts.{part-stands}
+use Rattle.query.proofs.Parts.{bytesIn, part-stands}
 
 pub bytes-all : (s : List ℕ) → ((k : ℕ) → getD s k 0 < 256) → Bytes s
 bytes-all [] all = tt
@@ -224,14 +223,23 @@ none-past at b c e = by-entries (entry (b .metadata .types) c) refl (entry (b .m
     by-entries (ok t) h (no f p) g e = retold (entry-missing (b .metadata .names) c g)
     by-entries (no f p) h y g e = retold (entry-missing (b .metadata .types) c h)
 
--- a part of a value that was found lies in the message
+-- what is told of a value that was found: its part lies in the message and is the value; null is told of null alone
+pub record Told (m : List ℕ) (asked : Res Here) (span : Option (ℕ × ℕ)) : Type 0 where
+  pub here : Here
+  pub there : asked ≡ ok here
+  pub fits : spanIn (ok span) .0 + spanIn (ok span) .1 ≤ length m
+  pub value : here .value ≡ body (bytesIn m span)
+
 module _ {P : Type 0} (kind : ℕ) (parts : Message → List P) (place : Message → ℕ → ℕ) (m : List ℕ) (i : ℕ) (ask : ℕ → P → Res Here) where
-  pub part-fits : ((p : Message) → readMessage kind m ≡ ok p → (b : P) → entry (parts p) i ≡ ok b → (h : Here) → ask (place p i) b ≡ ok h → Shows m h)
-      → {span : Part} → toldPart span ≡ ofPart kind parts place m i (λ at b. bind (ask at b) (λ h. partOf (h .type-at) (shownHere h)))
-      → (start size : ℕ) → span ≡ Part.Is start size → start + size ≤ length m
-  part-fits shows e start size told =
-      let r = bound (readMessage kind m) (sym (sym (ap toldPart told) ∙ e)) in
+  pub part-told : ((p : Message) → readMessage kind m ≡ ok p → (b : P) → entry (parts p) i ≡ ok b → (h : Here) → ask (place p i) b ≡ ok h → Shows m h)
+      → (span : Option (ℕ × ℕ)) → ofPart kind parts place m i (λ at b. bind (ask at b) (λ h. partOf (h .type-at) (shownHere h))) ≡ ok span
+      → Told m (ofPart kind parts place m i ask) span
+  part-told shows span e =
+      let r = bound (readMessage kind m) e in
       let q = bound (entry (parts (r .0)) i) (r .2) in
       let h = bound (ask (place (r .0) i) (q .0)) (q .2) in
       let w = shows (r .0) (r .1) (q .0) (q .1) (h .0) (h .1) in
-      part-stands (w .length-field) (w .body-field) (h .0 .type) (h .0 .type-at) (h .0 .value) (w .stands) (h .2) .0
+      let stands = part-stands (w .length-field) (w .body-field) (h .0 .type) (h .0 .type-at) (h .0 .value) (w .stands) (h .2) in
+      let opened = ap (λ (z : Res Message). bind z (λ y. bind (entry (parts y) i) (λ b. ask (place y i) b))) (r .1) in
+      let there = opened ∙ ap (λ (z : Res P). bind z (ask (place (r .0) i))) (q .1) ∙ h .1 in
+      record { here = h .0; there = there; fits = stands .0; value = stands .1 }

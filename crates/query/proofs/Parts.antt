@@ -1,4 +1,4 @@
--- A cell that is no part of the message is refused.
+-- What a cell gives as a part: a number gives none, null is null, and a body is its bytes, which stand in the message.
 use Prim.Native.Nat.{ℕ, _+_, _≤_}
 use mathlib.Core.Path.{_≡_, refl, sym, _∙_, ap}
 use mathlib.Core.Bool.{Bool, true, false}
@@ -15,47 +15,18 @@ use Rattle.format.specs.Result.{Res, ok, no, pick}
 use Rattle.format.specs.Value.{Value, fixed, body, value, tTinyint, tSmallint, tInteger, tFloat, tString, tTimestamp, tDecimal, tVarbinary, tPoint}
 use Rattle.format.proofs.Results.{ok-same, no-ok}
 use Rattle.show.specs.declared.Cell.{Cell}
-use Rattle.show.proofs.Cell.{the-type}
 use Rattle.show.specs.Cells.{cellOf, fixedCell, plainCell, bodyCell}
 use Rattle.places.specs.Stands.{Stands}
 use Rattle.places.proofs.Values.{body-stands}
 use Rattle.query.specs.declared.Part.{Part}
-use Rattle.query.proofs.Part.{the-type as part-type}
-use Rattle.query.specs.Answers.{partOf, toldPart, partIn}
+use Rattle.query.proofs.Part.{the-type}
+use Rattle.query.specs.Answers.{partOf, spanIn, toldPart}
 
-abbrev numbers : List ℕ
-numbers = 0 ∷ 1 ∷ 2 ∷ 3 ∷ 4 ∷ 5 ∷ 6 ∷ 7 ∷ 8 ∷ []
-
-pub other-cell : (place : ℕ) (cell : Cell) → OneOf numbers (tagOf the-type cell) → no WireType place ≡ partOf place cell
-other-cell place (Cell.Tinyint z) tag = refl
-other-cell place (Cell.Smallint z) tag = refl
-other-cell place (Cell.Integer z) tag = refl
-other-cell place (Cell.Bigint z) tag = refl
-other-cell place (Cell.Timestamp z) tag = refl
-other-cell place (Cell.Float x) tag = refl
-other-cell place (Cell.FloatBits bits) tag = refl
-other-cell place (Cell.Decimal upper lower) tag = refl
-other-cell place (Cell.Point longitude latitude) tag = refl
-other-cell place (Cell.Text start size) tag = absurd (miss numbers 9 tt tag)
-other-cell place Cell.NullText tag = absurd (miss numbers 10 tt tag)
-other-cell place (Cell.Binary start size) tag = absurd (miss numbers 11 tt tag)
-other-cell place Cell.NullBinary tag = absurd (miss numbers 12 tt tag)
-other-cell place (Cell.Geography start size) tag = absurd (miss numbers 13 tt tag)
-other-cell place Cell.NullGeography tag = absurd (miss numbers 14 tt tag)
-
-abbrev countOf : Res (Option (ℕ × ℕ)) → ℕ
-countOf (ok none) = 0
-countOf (ok (some p)) = 1
-countOf (no f p) = 2
-
-some-same : {a b : ℕ × ℕ} → some a ≡ some b → a ≡ b
-some-same e = cc
-
--- an answer that is no part has no bytes
-pub no-part : (m : List ℕ) (span : Part) → OneOf (1 ∷ 2 ∷ []) (tagOf part-type span) → [] ≡ partIn m (toldPart span)
-no-part m (Part.Is start size) tag = absurd (miss (1 ∷ 2 ∷ []) 0 tt tag)
-no-part m Part.Null tag = refl
-no-part m (Part.No r) tag = refl
+-- an answer that tells no part tells the empty one
+pub no-span : (span : Part) → OneOf (1 ∷ 2 ∷ []) (tagOf the-type span) → spanIn (toldPart span) ≡ (0, 0)
+no-span (Part.Is start size) tag = absurd (miss (1 ∷ 2 ∷ []) 0 tt tag)
+no-span Part.Null tag = refl
+no-span (Part.No r) tag = refl
 
 -- what a cell gives as a part
 record Gives (p : ℕ) (cell : Cell) (r : Res (Option (ℕ × ℕ))) : Type 0 where
@@ -81,14 +52,19 @@ module _ (p : ℕ) where
   body-part : (t at : ℕ) (bs : List ℕ) → Gives p (bodyCell t at (some bs)) (ok (some (at + 4, length bs)))
   body-part t at bs = by-pick (eqb t tString) (record { is = refl }) (by-pick (eqb t tVarbinary) (record { is = refl }) (record { is = refl }))
 
--- a part that a cell is lies in the message, and is the cell's value
-pub part-stands : {m : List ℕ} {at : ℕ} (l b t p : ℕ) (v : Value) {start size : ℕ} → Stands (value l b t) m at v → partOf p (cellOf t at v) ≡ ok (some (start, size))
-    → (start + size ≤ length m) × (v ≡ body (some (take size (drop start m))))
+-- the bytes that a span is, if it is not null
+abbrev pub bytesIn : List ℕ → Option (ℕ × ℕ) → Option (List ℕ)
+bytesIn m none = none
+bytesIn m (some p) = some (take (p .1) (drop (p .0) m))
+
+-- a part that a cell is lies in the message, and is the cell's value; null is told of null alone
+pub part-stands : {m : List ℕ} {at : ℕ} (l b t p : ℕ) (v : Value) {span : Option (ℕ × ℕ)} → Stands (value l b t) m at v → partOf p (cellOf t at v) ≡ ok span
+    → (spanIn (ok span) .0 + spanIn (ok span) .1 ≤ length m) × (v ≡ body (bytesIn m span))
 part-stands l b t p (fixed n) d e = absurd (no-ok (sym (fixed-part p t n .is) ∙ e))
-part-stands {at = at} l b t p (body none) d e = absurd (let z : _≡_ {A = ℕ} 0 1 = ap countOf (sym (null-part p t at .is) ∙ e) in omega arith)
-part-stands {m} {at} l b t p (body (some bs)) {start} {size} d e =
-    let same : _≡_ {A = ℕ × ℕ} (at + 4, length bs) (start, size) = some-same (ok-same (sym (body-part p t at bs .is) ∙ e)) in
-    let start-is : at + 4 ≡ start = ap (λ (z : ℕ × ℕ). z .0) same in
-    let size-is : length bs ≡ size = ap (λ (z : ℕ × ℕ). z .1) same in
+part-stands {at = at} l b t p (body none) {span} d e =
+    let same : none ≡ span = ok-same (sym (null-part p t at .is) ∙ e) in
+    rw (← same) (omega arith, refl)
+part-stands {m} {at} l b t p (body (some bs)) {span} d e =
+    let same : some (at + 4, length bs) ≡ span = ok-same (sym (body-part p t at bs .is) ∙ e) in
     let there = body-stands l b t bs d in
-    rw (← start-is, ← size-is, there .1) (omega (arith, there .0), refl)
+    rw (← same) (there .0, ap (λ (z : List ℕ). body (some z)) (sym (there .1)))

@@ -1,20 +1,28 @@
--- What the definitions of specs/Answers.antt amount to: an answer is decided by what it says, a search finds the first equal name, and a part of a cell is its
--- body. (The crate `places` has that a cell is the bytes at its place, and is listed there.)
+-- What the definitions of specs/Answers.antt amount to: an answer is decided by what it says, a search finds the first equal name, and a part that is handed
+-- back is a value's body. (The crate `places` has that a cell is the bytes at its place, and is listed there.)
 use Prim.Native.Nat.{ℕ, zero, suc, _+_, _<_}
-use mathlib.Core.Path.{_≡_, refl, sym, _∙_, ap}
+use mathlib.Core.Path.{_≡_, refl, sym, _∙_, ap, ap₂}
 use mathlib.Core.Bool.{Bool, true, false, false≢true, true≢false}
 use mathlib.Core.List.{List, [], _∷_}
 use mathlib.Core.Option.{Option, some, none}
+use lib.ListN.{length, take, drop, length-drop}
+use lib.Seq.{length-take-le}
 use native.Mathlib.Omega.{arith}
+use denote.Ref.{RefT, now}
+use denote.Slice.{sliceVal, slice-vals}
 use Rattle.format.specs.declared.Fault.{Fault}
 use Rattle.format.specs.declared.Refusal.{Refusal}
 use Rattle.format.specs.Result.{Res, ok, no, pick}
-use Rattle.format.specs.Value.{value, body}
+use Rattle.format.specs.Number.{Bytes}
+use Rattle.format.specs.Value.{body}
 use Rattle.format.proofs.Decides.{once, answer}
 use Rattle.format.proofs.Results.{ok-same, no-ok}
 use Rattle.scan.specs.Shown.{refusal}
-use Rattle.places.specs.Entries.{Here, entry}
-use Rattle.places.proofs.Values.{Shows}
+use Rattle.show.specs.Parts.{IsPart}
+use Rattle.places.specs.Places.{tablesOf, tableAt, paramsOf, paramAt}
+use Rattle.places.specs.Entries.{Here, entry, cellHere, valueHere, elementOf}
+use Rattle.places.proofs.Calls.{param-stands}
+use Rattle.places.proofs.Values.{cell-stands, value-stands, element-stands}
 use Rattle.query.specs.declared.TableAnswer.{TableAnswer}
 use Rattle.query.specs.declared.ColumnLayout.{ColumnLayout}
 use Rattle.query.specs.declared.ColumnAnswer.{ColumnAnswer}
@@ -23,9 +31,9 @@ use Rattle.query.specs.declared.Named.{Named}
 use Rattle.query.specs.declared.CellAnswer.{CellAnswer}
 use Rattle.query.specs.declared.Part.{Part}
 use Rattle.query.specs.declared.Argued.{Argued}
-use Rattle.query.specs.Answers.{Given, same, isNamed, firstNamed, shownHere, partOf, partIn, toldTable, toldColumn, toldPlaced, toldNamed, toldCell, toldPart, toldArgument}
+use Rattle.query.specs.Answers.{Given, same, isNamed, firstNamed, spanIn, ofTable, ofParam, askCellSpan, askParameterSpan, askElementSpan, Handed, toldTable, toldColumn, toldPlaced, toldNamed, toldCell, toldPart, toldArgument}
 use Rattle.query.proofs.Names.{same-yes, same-true}
-use Rattle.query.proofs.Parts.{part-stands}
+use Rattle.query.proofs.Opened.{Told, part-told}
 
 -- ---- two answers that say the same are the same
 pub table-once : (a b : TableAnswer) → toldTable a ≡ toldTable b → a ≡ b
@@ -99,7 +107,36 @@ module _ (name : List ℕ) where
       by-name others false is h zero there = named-not n is there
       by-name others false is h (suc k) there = others h k there
 
--- ---- a part of a cell, of a parameter's value or of an element is its body
-module _ (m : List ℕ) (h : Here) (w : Shows m h) where
-  pub part-is-value : (p : ℕ × ℕ) → partOf (h .type-at) (shownHere h) ≡ ok (some p) → h .value ≡ body (some (partIn m (ok (some p))))
-  part-is-value p e = part-stands (w .length-field) (w .body-field) (h .type) (h .type-at) (h .value) (w .stands) e .1
+-- ---- what is told to be a part lies whole in the message and is the value's bytes, and null is told of null alone: of a cell, a parameter and an element
+module _ (m : List ℕ) (all : Bytes m) (span : Option (ℕ × ℕ)) where
+  pub cell-span-told : (t k c : ℕ) → askCellSpan m t k c ≡ ok span → Told m (ofTable true m t (λ at b. cellHere at b k c)) span
+  cell-span-told t k c e = part-told 4 tablesOf (tableAt true) m t (λ at b. cellHere at b k c) (cell-stands true m all t k c) span e
+
+  pub parameter-span-told : (p : ℕ) → askParameterSpan m p ≡ ok span → Told m (ofParam m p (λ at q. valueHere at (q .type) (q .argument))) span
+  parameter-span-told p e =
+      part-told 3 paramsOf paramAt m p (λ at q. valueHere at (q .type) (q .argument)) (λ r f q there. value-stands (param-stands m all r f p there)) span e
+
+  pub element-span-told : (p k : ℕ) → askElementSpan m p k ≡ ok span → Told m (ofParam m p (λ at q. elementOf at (q .argument) k)) span
+  element-span-told p k e =
+      part-told 3 paramsOf paramAt m p (λ at q. elementOf at (q .argument) k) (λ r f q there. element-stands (param-stands m all r f p there) k) span e
+
+-- so the slice that is handed back has the value's bytes, all of them
+pub handed-value : (m part : RefT (List ℕ)) (asked : Res Here) (p : ℕ × ℕ) (answer : Part) (w : Told (now m) asked (some p)) → Handed m (ok (some p)) answer part
+    → (w .here .value ≡ body (some (now part))) × (length (now part) ≡ p .1)
+handed-value m part asked p answer w h =
+    let fit = w .fits in
+    let size : length (take (p .1) (drop (p .0) (now m))) ≡ p .1 = length-take-le (p .1) (drop (p .0) (now m)) (rw length-drop (omega arith)) in
+    (w .value ∙ ap (λ (l : List ℕ). body (some l)) (sym (h .itself .bytes)), ap length (h .itself .bytes) ∙ size)
+
+-- ---- what is handed back is decided: two slices that are one part of a message are one machine value, that is they point to one place and are as long,
+-- and have the same bytes. A slice has one thing more in the logic, the name under which a loan is tracked: no program can see it, and no statement can give it
+module _ (m : RefT (List ℕ)) (p q : RefT (List ℕ)) where
+  pub slice-once : (start size : ℕ) → IsPart m start size p → IsPart m start size q → (now p ≡ now q) × (slice-vals p ≡ slice-vals q)
+  slice-once start size a b =
+      let bytes : now p ≡ now q = a .bytes ∙ sym (b .bytes) in
+      (bytes, ap₂ (λ (x : ℕ × ℕ) (n : ℕ). sliceVal x n ∷ []) (a .place ∙ sym (b .place)) (ap length bytes))
+
+  pub handed-once : (span : Res (Option (ℕ × ℕ))) (x y : Part) → Handed m span x p → Handed m span y q → (x ≡ y) × (now p ≡ now q) × (slice-vals p ≡ slice-vals q)
+  handed-once span x y a b =
+      let slices = slice-once (spanIn span .0) (spanIn span .1) (a .itself) (b .itself) in
+      (part-once x y (a .says ∙ sym (b .says)), slices .0, slices .1)

@@ -4,13 +4,17 @@ use Prim.Native.Nat.{ℕ, _+_}
 use mathlib.Core.Bool.{Bool, true, false, _&&_}
 use mathlib.Core.List.{List, [], _∷_}
 use mathlib.Core.Option.{Option, some, none}
-use lib.ListN.{length, take, drop}
+use mathlib.Core.Path.{_≡_}
+use lib.ListN.{length}
 use lib.Dec.{eqb}
+use denote.Ref.{RefT}
 use Rattle.format.specs.declared.Fault.the-variants.{WireType, NoColumn}
 use Rattle.format.specs.Result.{Res, ok, no, bind, pick}
 use Rattle.format.specs.Message.{Table, table, Argument, null, one, array, Param, Message, readMessage, responseLayout}
 use Rattle.show.specs.declared.Cell.{Cell}
-use Rattle.show.specs.Cells.{cellOf}
+use Rattle.show.specs.declared.Raw.{Raw}
+use Rattle.show.specs.Cells.{cellOf, rawOf}
+use Rattle.show.specs.Parts.{IsPart}
 use Rattle.places.specs.Places.{tablesOf, tableAt, typeAt, nameAt, nameBytes, rowAt, paramsOf, paramAt, argumentAt}
 use Rattle.places.specs.Entries.{entry, Here, cellHere, valueHere, valuesIn, elementOf}
 use Rattle.query.specs.declared.TableLayout.{TableLayout}
@@ -84,29 +88,24 @@ namedOf at b name = bind (firstNamed name (b .metadata .names) 0) (λ i. bind (c
 abbrev pub shownHere : Here → Cell
 shownHere h = cellOf (h .type) (h .at) (h .value)
 
--- the part of the message that a text or binary cell is, or null; a cell of another type is refused at its column's type
-abbrev pub partOf : ℕ → Cell → Res (Option (ℕ × ℕ))
-partOf type-at (Cell.Text start size) = ok (some (start, size))
-partOf type-at (Cell.Binary start size) = ok (some (start, size))
-partOf type-at (Cell.Geography start size) = ok (some (start, size))
-partOf type-at Cell.NullText = ok none
-partOf type-at Cell.NullBinary = ok none
-partOf type-at Cell.NullGeography = ok none
-partOf type-at (Cell.Tinyint z) = no WireType type-at
-partOf type-at (Cell.Smallint z) = no WireType type-at
-partOf type-at (Cell.Integer z) = no WireType type-at
-partOf type-at (Cell.Bigint z) = no WireType type-at
-partOf type-at (Cell.Timestamp z) = no WireType type-at
-partOf type-at (Cell.Float x) = no WireType type-at
-partOf type-at (Cell.FloatBits bits) = no WireType type-at
-partOf type-at (Cell.Decimal upper lower) = no WireType type-at
-partOf type-at (Cell.Point longitude latitude) = no WireType type-at
+-- the part of the message that a text or binary value is, or null; a value of another type is refused at that type's place
+abbrev pub rawPart : ℕ → Raw → Res (Option (ℕ × ℕ))
+rawPart type-at (Raw.Body t start size) = ok (some (start, size))
+rawPart type-at (Raw.Null t) = ok none
+rawPart type-at (Raw.Bits t upper lower) = no WireType type-at
 
--- the bytes of that part; none for a null or a refusal
-abbrev pub partIn : List ℕ → Res (Option (ℕ × ℕ)) → List ℕ
-partIn m (ok (some p)) = take (p .1) (drop (p .0) m)
-partIn m (ok none) = []
-partIn m (no f p) = []
+abbrev pub partOf : ℕ → Cell → Res (Option (ℕ × ℕ))
+partOf type-at c = rawPart type-at (rawOf c)
+
+-- where the part that an answer tells starts and how long it is; for null and a refusal, the empty one at the message's start
+abbrev pub spanIn : Res (Option (ℕ × ℕ)) → ℕ × ℕ
+spanIn (ok (some p)) = p
+spanIn (ok none) = (0, 0)
+spanIn (no f p) = (0, 0)
+
+-- a slice is that part of the message itself
+abbrev pub IsTold : RefT (List ℕ) → Res (Option (ℕ × ℕ)) → RefT (List ℕ) → Type 0
+IsTold m span part = IsPart m (spanIn span .0) (spanIn span .1) part
 
 -- a parameter: null, a value, or an array, by its elements' type and how many they are
 pub data Given : Type 0 where
@@ -189,3 +188,8 @@ toldArgument Argued.Null = ok Given.nothing
 toldArgument (Argued.One c) = ok (Given.value c)
 toldArgument (Argued.Array t n) = ok (Given.list t n)
 toldArgument (Argued.No r) = no (r .fault) (r .place)
+
+-- a text or binary value handed back: its answer says its span, and the slice beside it is that part of the message itself
+pub record Handed (m : RefT (List ℕ)) (span : Res (Option (ℕ × ℕ))) (answer : Part) (part : RefT (List ℕ)) : Type 0 where
+  pub says : toldPart answer ≡ span
+  pub itself : IsTold m span part

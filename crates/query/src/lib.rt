@@ -7,6 +7,7 @@ use format::Refusal;
 use message::Verdict;
 use scan::Body;
 use scan::Next;
+use show::Raw;
 use show::Shown;
 ghost use mathlib.Core.Path.{_≡_};
 ghost use mathlib.Core.Bool.{false};
@@ -26,7 +27,7 @@ ghost use Rattle.places.specs.Stands.{Stands};
 ghost use Rattle.places.specs.Places.{tablesOf, tableAt, typeAt, nameAt, rowAt, paramsOf, paramAt};
 ghost use Rattle.places.specs.Entries.{entry, cellHere, valueHere, elementOf};
 ghost use Rattle.query.specs.Shown.{pastOf, cellIn, spotOf, shownOf, toldFound};
-ghost use Rattle.query.specs.Answers.{perhaps, ofTable, ofParam, layoutOf, columnOf, firstNamed, namedOf, partOf, partIn, givenOf, askTables, askTable, askColumn, askPlaced, askPosition, askNamed, askCell, askCellSpan, askParameter, askParameterSpan, askElement, askElementSpan, toldTable, toldColumn, toldPlaced, toldNamed, toldCell, toldPart, toldArgument};
+ghost use Rattle.query.specs.Answers.{perhaps, ofTable, ofParam, layoutOf, columnOf, firstNamed, namedOf, partOf, IsTold, givenOf, askTables, askTable, askColumn, askPlaced, askPosition, askNamed, askCell, askCellSpan, askParameter, askParameterSpan, askElement, askElementSpan, toldTable, toldColumn, toldPlaced, toldNamed, toldCell, toldPart, toldArgument};
 
 // ---- What the questions are answered with.
 
@@ -496,14 +497,11 @@ fn cell_of(found: FoundCell) -> CellAnswer
 fn part_of(cell: show::Cell, place: usize) -> Part
     ensures { λ r. ⌜ toldPart r ≡ partOf place cell ⌝ }
 {
-    match cell {
-        show::Cell::Text(start, size) => Part::Is(start, size),
-        show::Cell::Binary(start, size) => Part::Is(start, size),
-        show::Cell::Geography(start, size) => Part::Is(start, size),
-        show::Cell::NullText => Part::Null,
-        show::Cell::NullBinary => Part::Null,
-        show::Cell::NullGeography => Part::Null,
-        _ => Part::No(wrong_type(place)),
+    let raw = show::raw_of(cell);
+    match raw {
+        Raw::Body(_, start, size) => Part::Is(start, size),
+        Raw::Null(_) => Part::Null,
+        Raw::Bits(_, _, _) => Part::No(wrong_type(place)),
     }
 }
 
@@ -520,16 +518,14 @@ fn span_of(found: FoundCell) -> Part
     }
 }
 
-// That part of the message; the empty part where there is none.
-fn part_in(m: &[u8], span: Part) -> &[u8]
-    requires { ⌜ ((start size : ℕ) → span ≡ Part.Is start size → start + size ≤ length (now m)) ⌝ }
-    ensures { λ r. ⌜ now r ≡ partIn (now (m .entry)) (toldPart span) ⌝ }
+// The part of the message that a span tells, itself, or as much of it as there is; for null and a refusal the empty part at the message's start.
+pub fn part_at(m: &[u8], span: Part) -> &[u8]
+    ensures { λ r. ⌜ IsTold (m .entry) (toldPart span) r ⌝ }
 {
     let Part::Is(start, size) = span else {
-        return &m[0..0];
+        return show::bytes_at(m, 0, 0);
     };
-    let end = start + size;
-    &m[start..end]
+    show::bytes_at(m, start, size)
 }
 
 // The cell at row k and column c of table t.
@@ -544,13 +540,6 @@ pub fn cell_span(m: &[u8], t: usize, k: usize, c: usize) -> Part
     ensures { λ r. ⌜ toldPart r ≡ askCellSpan (now (m .entry)) t k c ⌝ }
 {
     span_of(find_cell(m, true, t, k, c))
-}
-
-// The bytes of a text or binary cell, as that part of the message; the empty part for any other answer of `cell_span`.
-pub fn cell_part(m: &[u8], t: usize, k: usize, c: usize) -> &[u8]
-    ensures { λ r. ⌜ now r ≡ partIn (now (m .entry)) (askCellSpan (now (m .entry)) t k c) ⌝ }
-{
-    part_in(m, cell_span(m, t, k, c))
 }
 
 // ---- Parameters, and the elements of those that are arrays.
@@ -645,13 +634,6 @@ pub fn parameter_span(m: &[u8], p: usize) -> Part
     span_of(find_value(m, p))
 }
 
-// The bytes of a text or binary parameter, likewise.
-pub fn parameter_part(m: &[u8], p: usize) -> &[u8]
-    ensures { λ r. ⌜ now r ≡ partIn (now (m .entry)) (askParameterSpan (now (m .entry)) p) ⌝ }
-{
-    part_in(m, parameter_span(m, p))
-}
-
 // The element of an array at a place, and where the elements' type stands.
 fn element_at(m: &[u8], at: usize, e: usize) -> FoundCell
     ensures { λ r. ⌜ ((q : Param) → Stands param (now (m .entry)) at q → toldFound r ≡ bind (elementOf at (q .argument) e) (λ h. ok (shownOf h))) ⌝ }
@@ -693,11 +675,4 @@ pub fn element_span(m: &[u8], p: usize, e: usize) -> Part
     ensures { λ r. ⌜ toldPart r ≡ askElementSpan (now (m .entry)) p e ⌝ }
 {
     span_of(find_element(m, p, e))
-}
-
-// The bytes of a text or binary element, likewise.
-pub fn element_part(m: &[u8], p: usize, e: usize) -> &[u8]
-    ensures { λ r. ⌜ now r ≡ partIn (now (m .entry)) (askElementSpan (now (m .entry)) p e) ⌝ }
-{
-    part_in(m, element_span(m, p, e))
 }

@@ -8,7 +8,7 @@ use lib.ListN.{length, take, drop}
 use lib.Dec.{eqb, lit<}
 use lib.Ieee.{binary64, ofBits, toBits, nanBits}
 use native.Mathlib.Omega.{arith}
-use native.Mathlib.Nat.{div-add-mod', div-lt-iff-lt-mul}
+use native.Mathlib.Nat.{zero-add, div-add-mod', div-lt-iff-lt-mul}
 use borrow.Author.Tests.{eqb-true}
 use Rattle.format.specs.Result.{Res, ok, no, bind, pick}
 use Rattle.format.specs.Number.{Bytes}
@@ -43,6 +43,10 @@ among P p3 p4 p5 p6 p8 p9 p11 p22 p25 p26 p27 t is =
 upper-lt : (n : ℕ) → n < 256 ^ 16 → n / 2 ^ 64 < 2 ^ 64
 upper-lt n small = div-lt-iff-lt-mul (lit< tt) .1 small
 
+-- a number that the lower half alone has
+low : {a n : ℕ} → a ≡ n → fixed (0 * 2 ^ 64 + a) ≡ fixed n
+low {a} e = ap fixed (zero-add a ∙ e)
+
 -- a cell that gives a value of a type back
 abbrev pub Keeps : List ℕ → ℕ → ℕ → Value → Type 0
 Keeps m t at v = (valueOf m (cellOf t at v) ≡ v) × (typeOf (cellOf t at v) ≡ t)
@@ -52,8 +56,8 @@ module _ (m : List ℕ) (at : ℕ) where
   float-keeps n small = by-test (nanBits binary64 n) refl
     where
       by-test : (b : Bool) → nanBits binary64 n ≡ b → (valueOf m (pick b (Cell.FloatBits n) (Cell.Float (ofBits binary64 n))) ≡ fixed n) × (typeOf (pick b (Cell.FloatBits n) (Cell.Float (ofBits binary64 n))) ≡ 8)
-      by-test true e = (refl, refl)
-      by-test false e = (ap fixed (kept n small e), refl)
+      by-test true e = (low refl, refl)
+      by-test false e = (low (kept n small e), refl)
 
   decimal-keeps : (n : ℕ) → n < 256 ^ 16 → unsigned 8 (signed 8 (n / 2 ^ 64)) * 2 ^ 64 + n % 2 ^ 64 ≡ n
   decimal-keeps n small = ap (λ (u : ℕ). u * 2 ^ 64 + n % 2 ^ 64) (signed-back 8 (n / 2 ^ 64) (upper-lt n small)) ∙ div-add-mod' n (2 ^ 64)
@@ -68,13 +72,13 @@ module _ (m : List ℕ) (at : ℕ) where
   unfolding value into ruled number counted plainCell
   fixed-kept l b t n =
       among (λ t. value l b t .Good (fixed n) → Keeps m t at (fixed n))
-      (λ g. (ap fixed (signed-back 1 n (g .0 .0)), refl))
-      (λ g. (ap fixed (signed-back 2 n (g .0 .0)), refl))
-      (λ g. (ap fixed (signed-back 4 n (g .0 .0)), refl))
-      (λ g. (ap fixed (signed-back 8 n (g .0 .0)), refl))
+      (λ g. (low (signed-back 1 n (g .0 .0)), refl))
+      (λ g. (low (signed-back 2 n (g .0 .0)), refl))
+      (λ g. (low (signed-back 4 n (g .0 .0)), refl))
+      (λ g. (low (signed-back 8 n (g .0 .0)), refl))
       (λ g. float-keeps n (g .0 .0))
       (λ g. absurd (no-number (g .1)))
-      (λ g. (ap fixed (signed-back 8 n (g .0 .0)), refl))
+      (λ g. (low (signed-back 8 n (g .0 .0)), refl))
       (λ g. (ap fixed (decimal-keeps n (g .0 .0)), refl))
       (λ g. absurd (no-number (g .1)))
       (λ g. (ap fixed (point-keeps n (g .0 .0) (g .0 .1)), refl))

@@ -1,8 +1,8 @@
--- The proofs: floats, ranges, bodies, that a shown value keeps every bit, and the bits of one (FloatBits, Bits).
+-- The proofs: floats, ranges, bodies, that a shown value keeps every bit, the bits of a float, and parts.
 pub mod Floats
 pub mod Range
 pub mod Bodies
 pub mod Values
 pub mod Kept
 pub mod FloatBits
-pub mod Bits
+pub mod Parts

@@ -11,6 +11,7 @@ use Rattle.scan.specs.Shown.{refusal}
 use Rattle.scan.specs.Signed.{signed, unsigned}
 use Rattle.show.specs.declared.Cell.{Cell}
 use Rattle.show.specs.declared.Shown.{Shown}
+use Rattle.show.specs.declared.Raw.{Raw}
 
 -- a float is the number that its bits are; a NaN, which is none, keeps its bits
 abbrev pub floatCell : ℕ → Cell
@@ -65,38 +66,38 @@ abbrev pub toldShown : Shown → Res (Cell × ℕ)
 toldShown (Shown.Is c next) = ok (c, next)
 toldShown (Shown.No r) = no (r .fault) (r .place)
 
--- the type of a shown value
-abbrev pub typeOf : Cell → ℕ
-typeOf (Cell.Tinyint z) = tTinyint
-typeOf (Cell.Smallint z) = tSmallint
-typeOf (Cell.Integer z) = tInteger
-typeOf (Cell.Bigint z) = tBigint
-typeOf (Cell.Timestamp z) = tTimestamp
-typeOf (Cell.Float x) = tFloat
-typeOf (Cell.FloatBits bits) = tFloat
-typeOf (Cell.Decimal upper lower) = tDecimal
-typeOf (Cell.Point longitude latitude) = tPoint
-typeOf (Cell.Text start size) = tString
-typeOf Cell.NullText = tString
-typeOf (Cell.Binary start size) = tVarbinary
-typeOf Cell.NullBinary = tVarbinary
-typeOf (Cell.Geography start size) = tGeography
-typeOf Cell.NullGeography = tGeography
+-- what a shown value is on the wire: its type, then its upper and lower 64 bits, or where its bytes start and how many they are, or that it is null.
+-- A NaN that is given as a number has the quiet pattern
+abbrev pub rawOf : Cell → Raw
+rawOf (Cell.Tinyint z) = Raw.Bits tTinyint 0 (unsigned 1 z)
+rawOf (Cell.Smallint z) = Raw.Bits tSmallint 0 (unsigned 2 z)
+rawOf (Cell.Integer z) = Raw.Bits tInteger 0 (unsigned 4 z)
+rawOf (Cell.Bigint z) = Raw.Bits tBigint 0 (unsigned 8 z)
+rawOf (Cell.Timestamp z) = Raw.Bits tTimestamp 0 (unsigned 8 z)
+rawOf (Cell.Float x) = Raw.Bits tFloat 0 (toBits binary64 x)
+rawOf (Cell.FloatBits bits) = Raw.Bits tFloat 0 bits
+rawOf (Cell.Decimal upper lower) = Raw.Bits tDecimal (unsigned 8 upper) lower
+rawOf (Cell.Point longitude latitude) = Raw.Bits tPoint (toBits binary64 longitude) (toBits binary64 latitude)
+rawOf (Cell.Text start size) = Raw.Body tString start size
+rawOf Cell.NullText = Raw.Null tString
+rawOf (Cell.Binary start size) = Raw.Body tVarbinary start size
+rawOf Cell.NullBinary = Raw.Null tVarbinary
+rawOf (Cell.Geography start size) = Raw.Body tGeography start size
+rawOf Cell.NullGeography = Raw.Null tGeography
 
--- the value that a shown one is; m is the list that text and bytes stand in. A NaN that is given as a number has the quiet pattern
+-- its type, and the value that it is; m is the list that text and bytes stand in
+abbrev pub typeIn : Raw → ℕ
+typeIn (Raw.Bits t upper lower) = t
+typeIn (Raw.Body t start size) = t
+typeIn (Raw.Null t) = t
+
+abbrev pub valueIn : List ℕ → Raw → Value
+valueIn m (Raw.Bits t upper lower) = fixed (upper * 2 ^ 64 + lower)
+valueIn m (Raw.Body t start size) = body (some (take size (drop start m)))
+valueIn m (Raw.Null t) = body none
+
+abbrev pub typeOf : Cell → ℕ
+typeOf c = typeIn (rawOf c)
+
 abbrev pub valueOf : List ℕ → Cell → Value
-valueOf m (Cell.Tinyint z) = fixed (unsigned 1 z)
-valueOf m (Cell.Smallint z) = fixed (unsigned 2 z)
-valueOf m (Cell.Integer z) = fixed (unsigned 4 z)
-valueOf m (Cell.Bigint z) = fixed (unsigned 8 z)
-valueOf m (Cell.Timestamp z) = fixed (unsigned 8 z)
-valueOf m (Cell.Float x) = fixed (toBits binary64 x)
-valueOf m (Cell.FloatBits bits) = fixed bits
-valueOf m (Cell.Decimal upper lower) = fixed (unsigned 8 upper * 2 ^ 64 + lower)
-valueOf m (Cell.Point longitude latitude) = fixed (toBits binary64 longitude * 2 ^ 64 + toBits binary64 latitude)
-valueOf m (Cell.Text start size) = body (some (take size (drop start m)))
-valueOf m Cell.NullText = body none
-valueOf m (Cell.Binary start size) = body (some (take size (drop start m)))
-valueOf m Cell.NullBinary = body none
-valueOf m (Cell.Geography start size) = body (some (take size (drop start m)))
-valueOf m Cell.NullGeography = body none
+valueOf m c = valueIn m (rawOf c)

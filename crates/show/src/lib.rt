@@ -12,8 +12,8 @@ ghost use Rattle.format.specs.declared.Fault.the-variants.{Decimal, Point};
 ghost use Rattle.format.specs.Format.{number, ruled};
 ghost use Rattle.format.specs.Value.{value, string, ruleOf, decimalFine, pointFine};
 ghost use Rattle.scan.specs.Shown.{shownBody};
-ghost use Rattle.show.specs.Cells.{floatCell, plainCell, decimalCell, pointCell, partCell, nullCell, bodyCell, cellOf, shownAs};
-ghost use Rattle.show.specs.Fixed.{fixedOf};
+ghost use Rattle.show.specs.Cells.{floatCell, plainCell, decimalCell, pointCell, partCell, nullCell, bodyCell, cellOf, shownAs, rawOf};
+ghost use Rattle.show.specs.Parts.{IsPart};
 
 // A value of a wire type. Text, varbinary and geography are where their bytes start and how many they are, or null.
 pub enum Cell {
@@ -172,38 +172,34 @@ pub fn read_value(s: &[u8], at: usize, t: u8) -> Shown
     }
 }
 
-// A value of a fixed size: its wire type, and its upper and lower 64 bits.
-pub struct Fixed {
-    pub wire_type: u8,
-    pub upper: u64,
-    pub lower: u64,
+// A shown value as the wire has it, its wire type first: the upper and lower 64 bits of one of a fixed size; where the bytes of text, varbinary
+// or a geography start and how many they are; or that it is null.
+pub enum Raw {
+    Bits(u8, u64, u64),
+    Body(u8, usize, usize),
+    Null(u8),
 }
 
-// The bits of a shown value. Text, binary values and nulls have no fixed size: their type is 0, which is no type.
-pub fn fixed_of(c: Cell) -> Fixed
-    ensures { λ r. ⌜ r ≡ fixedOf c ⌝ }
+// What a shown value is on the wire.
+pub fn raw_of(c: Cell) -> Raw
+    ensures { λ r. ⌜ r ≡ rawOf c ⌝ }
 {
     match c {
-        Cell::Tinyint(z) => made(format::TINYINT, 0, scan::unsigned8(z)),
-        Cell::Smallint(z) => made(format::SMALLINT, 0, scan::unsigned16(z)),
-        Cell::Integer(z) => made(format::INTEGER, 0, scan::unsigned32(z)),
-        Cell::Bigint(z) => made(format::BIGINT, 0, scan::unsigned64(z)),
-        Cell::Timestamp(z) => made(format::TIMESTAMP, 0, scan::unsigned64(z)),
-        Cell::Float(x) => made(format::FLOAT, 0, float_bits(x)),
-        Cell::FloatBits(bits) => made(format::FLOAT, 0, bits),
-        Cell::Decimal(upper, lower) => made(format::DECIMAL, scan::unsigned64(upper), lower),
-        Cell::Point(x, y) => made(format::POINT, float_bits(x), float_bits(y)),
-        _ => made(0, 0, 0),
-    }
-}
-
-fn made(t: u8, upper: u64, lower: u64) -> Fixed
-    ensures { λ r. ⌜ r ≡ record { «wire_type» = t; upper = upper; lower = lower } ⌝ }
-{
-    Fixed {
-        wire_type: t,
-        upper: upper,
-        lower: lower,
+        Cell::Tinyint(z) => Raw::Bits(format::TINYINT, 0, scan::unsigned8(z)),
+        Cell::Smallint(z) => Raw::Bits(format::SMALLINT, 0, scan::unsigned16(z)),
+        Cell::Integer(z) => Raw::Bits(format::INTEGER, 0, scan::unsigned32(z)),
+        Cell::Bigint(z) => Raw::Bits(format::BIGINT, 0, scan::unsigned64(z)),
+        Cell::Timestamp(z) => Raw::Bits(format::TIMESTAMP, 0, scan::unsigned64(z)),
+        Cell::Float(x) => Raw::Bits(format::FLOAT, 0, float_bits(x)),
+        Cell::FloatBits(bits) => Raw::Bits(format::FLOAT, 0, bits),
+        Cell::Decimal(upper, lower) => Raw::Bits(format::DECIMAL, scan::unsigned64(upper), lower),
+        Cell::Point(x, y) => Raw::Bits(format::POINT, float_bits(x), float_bits(y)),
+        Cell::Text(start, size) => Raw::Body(format::STRING, start, size),
+        Cell::NullText => Raw::Null(format::STRING),
+        Cell::Binary(start, size) => Raw::Body(format::VARBINARY, start, size),
+        Cell::NullBinary => Raw::Null(format::VARBINARY),
+        Cell::Geography(start, size) => Raw::Body(format::GEOGRAPHY, start, size),
+        Cell::NullGeography => Raw::Null(format::GEOGRAPHY),
     }
 }
 
@@ -216,4 +212,19 @@ fn float_bits(x: f64) -> u64
     } else {
         0x7ff8_0000_0000_0000
     }
+}
+
+// So many bytes of a message from a place on, as that part of it, or as many of them as there are.
+pub fn bytes_at(m: &[u8], start: usize, size: usize) -> &[u8]
+    ensures { λ r. ⌜ IsPart (m .entry) start size r ⌝ }
+{
+    let from = least(start, m.len());
+    let end = from + least(size, m.len() - from);
+    &m[from..end]
+}
+
+fn least(a: usize, b: usize) -> usize
+    ensures { λ r. ⌜ r ≡ min a b ⌝ }
+{
+    if a < b { a } else { b }
 }

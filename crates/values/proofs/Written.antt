@@ -1,12 +1,17 @@
--- What the code takes a shown value for is its type and its value, so a step with those is a step with the value.
-use Prim.Native.Nat.{ℕ, _+_, _*_, _^_}
-use native.Mathlib.Nat.{div-add-mod'}
-use mathlib.Core.Path.{_≡_, subst}
-use Rattle.format.specs.Value.{Value, fixed}
+-- What a shown value is on the wire is its type and its value, so a step with those is a step with the value.
+use Prim.Native.Nat.{ℕ}
+use mathlib.Core.Path.{_≡_, sym, _∙_, subst}
+use mathlib.Core.List.{List}
+use mathlib.Core.Option.{some}
+use lib.ListN.{take, drop}
+use Rattle.format.specs.Value.{Value, body}
 use Rattle.show.specs.declared.Cell.{Cell}
-use Rattle.show.specs.declared.Fixed.{Fixed}
-use Rattle.show.specs.Fixed.{typeIn, numberIn, valueIn, fixedOf}
+use Rattle.show.specs.declared.Raw.{Raw}
+use Rattle.show.specs.Cells.{rawOf, typeIn, valueIn, typeOf, valueOf}
 
-pub written : (c : Cell) (v : Fixed) (P : ℕ → Value → Type 0) → v ≡ fixedOf c → P (v .«wire_type») (fixed (v .upper * 2 ^ 64 + v .lower)) → P (typeIn c) (valueIn c)
-written c v P e p =
-    subst (λ (n : ℕ). P (typeIn c) (fixed n)) (div-add-mod' (numberIn c) (2 ^ 64)) (subst (λ (f : Fixed). P (f .«wire_type») (fixed (f .upper * 2 ^ 64 + f .lower))) e p)
+module _ (m : List ℕ) (c : Cell) (P : ℕ → Value → Type 0) {raw : Raw} (e : raw ≡ rawOf c) where
+  pub written : (is : Raw) → raw ≡ is → P (typeIn is) (valueIn m is) → P (typeOf c) (valueOf m c)
+  written is f p = subst (λ (r : Raw). P (typeIn r) (valueIn m r)) (sym f ∙ e) p
+
+  pub written-body : (t start size : ℕ) {bs : List ℕ} → raw ≡ Raw.Body t start size → bs ≡ take size (drop start m) → P t (body (some bs)) → P (typeOf c) (valueOf m c)
+  written-body t start size f g p = written (Raw.Body t start size) f (subst (λ (l : List ℕ). P t (body (some l))) g p)

@@ -7,10 +7,10 @@ use Rattle.every.proofs.copy_row.Statement.{statement}
 use Rattle.every.proofs.copy_row.Tie as tie
 
 abbrev Inv-loop : tie.InvT-loop
-Inv-loop out₀ types draft step₀ c₀ out step c = length out ≡ length out₀
+Inv-loop out₀ types draft row step₀ c₀ out step c = length out ≡ length out₀
 
 abbrev μ-loop : tie.MeasureT-loop
-μ-loop out₀ types draft step₀ c₀ out step c = 11 - c
+μ-loop out₀ types draft row step₀ c₀ out step c = 11 - c
 
 open-row-requires : tie.Need-open-row-requires Inv-loop μ-loop
 open-row-requires c κs = search needs
