@@ -1,0 +1,158 @@
+-- A cell reads as exactly the bytes that are listed for it: on the way from the message to the cell, every part beside the way lists other fields, or has other indices.
+use Prim.Native.Nat.{ℕ, _+_, _≤_}
+use mathlib.Core.Path.{_≡_, refl, sym, _∙_, ap, subst}
+use mathlib.Core.Bool.{Bool, true}
+use mathlib.Core.List.{List, [], _∷_, map}
+use lib.ListN.{length, take, replicate}
+use lib.Seq.{length-take-le}
+use lib.Dec.{ltb, leb}
+use native.Mathlib.Omega.{arith}
+use native.Mathlib.Nat.{zero-add}
+use borrow.Author.Tests.{ltb-true, leb-true, lt-ltb}
+use Rattle.format.specs.declared.Fault.{Fault}
+use Rattle.format.specs.Result.{Res, ok, bind}
+use Rattle.format.specs.Number.{Bytes}
+use Rattle.format.specs.Format.{Format, Index, Entry, number, ruled, into, both, each, piece}
+use Rattle.format.specs.Value.{Value, value, isColumn}
+use Rattle.format.specs.Message.{first, second, third, count, columnType, unlimited, mostItems, mostColumns, mostRow, Metadata, metadata, row, Table, table, Response, head, response, Content, Message, message, contentOf, response-of, responseLayout, readMessage, messageFields, noIndex}
+use Rattle.format.proofs.Results.{ok-same, bound}
+use Rattle.places.specs.Stands.{Stands}
+use Rattle.places.specs.Places.{tablesOf, tableAt, typeAt, rowAt, cellAt}
+use Rattle.places.specs.Entries.{entry, Here, cellHere}
+use Rattle.places.proofs.Stands.{stands-at}
+use Rattle.places.proofs.Lists.{total, entry-below, stands-entry}
+use Rattle.places.proofs.Layouts.{length-number, length-count, types-total, type-place, row-place, cell-place, name, columns-1, columns-2, contents-1, metadata-stands, types-stand, type-stands}
+use Rattle.places.proofs.Contents.{content-response}
+use Rattle.places.proofs.Replies.{tabled, headSize, table-place, table-stands}
+use Rattle.places.proofs.Values.{there}
+use Rattle.show.specs.declared.Cell.{Cell}
+use Rattle.show.specs.Cells.{typeOf}
+use Rattle.query.specs.Answers.{shownHere, askCell}
+use Rattle.exactly.specs.Listed.{listedFor, startOf, bytesFor, byteFor, CellReads, Alike}
+use Rattle.exactly.proofs.Alone.{Other, Misses, Alone, misses, misses-number, misses-ruled, misses-list, misses-value, none-piece, in-back, in-room, in-into, in-ruled, in-first, in-second, in-some, in-cells, in-list}
+use Rattle.exactly.proofs.Says.{alone-byte, alone-value, kept, byte-reads, value-reads, reads-alike}
+
+-- ---- parts of a response that list nothing for it, if no such field at such indices is it
+module _ {l b : ℕ} {ix jx : Index} where
+  misses-row : (types : List ℕ) → ((n : ℕ) (y : Index) → leb 49 n ≡ true → y .i ≡ jx .i → y .j ≡ jx .j → Other l b ix n y) → Misses l b ix (row types) jx
+  unfolding row
+  misses-row types w = search (misses, misses-value) depth 8
+
+  misses-metadata : ((n : ℕ) (y : Index) → ltb n 48 ≡ true → y .i ≡ jx .i → Other l b ix n y) → Misses l b ix metadata jx
+  unfolding metadata
+  misses-metadata w = search misses depth 12 fits 2000
+
+module _ {l b : ℕ} {ix jx : Index} where
+  misses-table : ((n : ℕ) (y : Index) → y .i ≡ jx .i → Other l b ix n y) → Misses l b ix table jx
+  unfolding table
+  misses-table w = search (misses, misses-metadata, misses-row) depth 8
+
+  misses-head : (timed : Bool) → ((n : ℕ) (y : Index) → ltb n 41 ≡ true → Other l b ix n y) → Misses l b ix (head timed) jx
+  unfolding head
+  misses-head timed w = search misses depth 12 fits 2000
+
+pub length-ruled : (rule : ℕ → Bool) (fault : Fault) (k field n : ℕ) → length (ruled rule fault (number k field) .bytes n) ≡ k
+unfolding ruled
+length-ruled rule fault k field n = length-number k field n
+
+-- ---- on the way to a table, and in it to a column's type or to a cell
+module _ {l b : ℕ} {ix : Index} {es : List Entry} where
+  -- a message's content, after its length and its version
+  pub in-message : (layout : ℕ) (r : Message) → ((n : ℕ) (y : Index) → leb n 2 ≡ true → Other l b ix n y) → Alone l b ix es (contentOf layout (r .version)) noIndex 5 (r .content) → listedFor l b ix (messageFields layout r) ≡ es
+  unfolding message
+  in-message layout r low w =
+      let inner : Alone l b ix es (message layout) noIndex 4 r = in-into _ _ (in-second (contentOf layout) (search (misses, low)) (rw length-ruled w)) in
+      in-back l b ix (piece 4 0 1 noIndex) _ (none-piece l b ix 4 0 1 noIndex (low 1 noIndex refl)) (inner .is)
+
+  -- table t of a response
+  in-response : (timed : Bool) (r : Message) (t : ℕ) {tab : Table} → ix .i ≡ t → ((n : ℕ) (y : Index) → ltb n 41 ≡ true → Other l b ix n y) → entry (tablesOf r) t ≡ ok tab
+      → Alone l b ix es table (first t noIndex) (tableAt timed r t) tab → listedFor l b ix (messageFields (responseLayout timed) r) ≡ es
+  unfolding response
+  in-response timed r t same low e w =
+      in-message (responseLayout timed) r (λ n y h. low n y (lt-ltb n 41 (omega (arith, leb-true n 2 h))))
+      (rw (content-response timed (r .version)) (in-into _ _ (in-into _ _ (in-second _ (misses-head timed low)
+      (in-list first 2 mostItems 40 (tablesOf r) t e (low 40 noIndex refl) (λ j h. misses-table (omega arith)) (rw (table-place timed r t) at w))))))
+
+module _ (jx : Index) (at : ℕ) (tab : Table) where
+  abbrev types : List ℕ
+  types = tab .metadata .types
+
+  -- the type of column c
+  type-alone : (c : ℕ) {x : ℕ} → entry types c ≡ ok x → Alone 45 45 (third c jx) (number 1 45 .fields (third c jx) (typeAt at (tab .metadata) c) x) table jx at tab
+  unfolding table metadata
+  type-alone c e =
+      in-room unlimited 41 (omega arith) (in-into _ _ (in-first (λ m. misses-list second 4 unlimited 48 (omega arith) (λ j. misses-row (m .types) (omega (arith, leb-true))))
+      (in-room unlimited 42 (omega arith) (in-into _ _ (in-second _ (misses-number 1 43 (omega arith)) (in-second _ (search (misses, other-44))
+      (in-first (λ u. search (misses, other-name)) (in-some third (length types) types c (omega arith) e (λ j h. misses-ruled _ _ (misses-number 1 45 (omega arith))) (in-ruled _ _ (alone-byte 45 (third c jx) place))))))))))
+    where
+      other-44 : Other 45 45 (third c jx) 44 jx
+      other-44 = omega arith
+
+      other-name : (n : ℕ) (y : Index) → leb 46 n ≡ true → Other 45 45 (third c jx) n y
+      other-name n y h = omega (arith, leb-true 46 n h)
+
+      place : at + 4 + 4 + length (number 1 43 .bytes (tab .metadata .status)) + length (count 2 mostColumns 44 .bytes (length types)) + total (columnType 45) (take c types) ≡ typeAt at (tab .metadata) c
+      place =
+          let below = entry-below types c e in
+          omega (arith, length-number 1 43 (tab .metadata .status), length-count 2 mostColumns 44 (length types), types-total (take c types), length-take-le c types (omega arith), type-place at (tab .metadata) c (omega arith))
+
+  -- the cell in row k and column c
+  cell-alone : (k c : ℕ) (cells : List Value) {x : ℕ} {v : Value} → entry (tab .rows) k ≡ ok cells → entry types c ≡ ok x → entry cells c ≡ ok v
+      → Alone 50 51 (third c (second k jx)) (value 50 51 x .fields (third c (second k jx)) (cellAt (rowAt at tab k) types cells c) v) table jx at tab
+  unfolding table row
+  cell-alone k c cells {x} in-rows in-types in-row =
+      in-room unlimited 41 (omega arith) (in-into _ _ (in-second _ (misses-metadata (omega (arith, ltb-true))) (in-list second 4 unlimited 48 (tab .rows) k in-rows (omega arith) (λ j s. misses-row types (omega arith))
+      (in-room mostRow 49 (omega arith) (in-cells third (value 50 51) types cells c in-types in-row (λ y j s. misses-value 50 51 y (omega arith) (omega arith))
+      (alone-value 50 51 x (third c (second k jx)) (omega (arith, cell-place (rowAt at tab k) types cells c, row-place at tab k))))))))
+
+-- ---- a cell that is answered
+module _ (timed : Bool) (m : List ℕ) (all : Bytes m) (r : Message) (accepted : readMessage (responseLayout timed) m ≡ ok r) (t k c : ℕ) {tab : Table} (is : entry (tablesOf r) t ≡ ok tab) where
+  abbrev at : ℕ
+  at = tableAt timed r t
+
+  abbrev fs : List Entry
+  fs = messageFields (responseLayout timed) r
+
+  stood : Stands table m at tab
+  stood = table-stands timed m all r accepted t is
+
+  type-reads : {x : ℕ} → entry (tab .metadata .types) c ≡ ok x → byteFor 45 (record { i = t; j = 0; k = c }) m fs ≡ x ∷ []
+  type-reads {x} e =
+      let below = entry-below (tab .metadata .types) c e in
+      byte-reads m 45 _ fs (typeAt at (tab .metadata) c) x (stands-at (omega (arith, type-place at (tab .metadata) c (omega arith))) (type-stands (metadata-stands stood) c (omega arith) e))
+      (in-response timed r t refl (omega (arith, ltb-true)) is (type-alone (first t noIndex) at tab c e))
+
+  column-type : {x : ℕ} → entry (tab .metadata .types) c ≡ ok x → isColumn x ≡ true
+  unfolding ruled
+  column-type e = stands-entry third 0 (length (tab .metadata .types)) (columnType 45) (tab .metadata .types) c (types-stand (metadata-stands stood)) e .good .1
+
+  pub here-reads : (h : Here) → cellHere at tab k c ≡ ok h → CellReads m fs t k c (shownHere h)
+  here-reads h e =
+      let cells = bound (entry (tab .rows) k) e in
+      let x = bound (entry (tab .metadata .types) c) (cells .2) in
+      let v = bound (entry (cells .0) c) (x .2) in
+      let same : record { type = x .0; type-at = typeAt at (tab .metadata) c; at = cellAt (rowAt at tab k) (tab .metadata .types) (cells .0) c; value = v .0 } ≡ h = ok-same (v .2) in
+      let w = there m stood k c (entry-below (tab .rows) k (cells .1)) (entry-below (tab .metadata .types) c (x .1)) in
+      let d = subst (λ (z : Here). Stands (value 50 51 (z .type)) m (z .at) (z .value)) (ok-same (sym (w .is) ∙ e) ∙ sym same) (w .stands) in
+      let fine = column-type (x .1) in
+      rw (← same) (record {
+        type-byte = type-reads (x .1) ∙ ap (λ (z : ℕ). z ∷ []) (sym (kept m all 50 51 (x .0) _ (v .0) fine d .1));
+        cell = value-reads m all 50 51 (x .0) _ (v .0) fine d _ fs (in-response timed r t refl (omega (arith, ltb-true)) is (cell-alone (first t noIndex) at tab k c (cells .0) (cells .1) (x .1) (v .1)));
+      })
+
+pub cell-reads-its-bytes : (m : List ℕ) → Bytes m → (r : Message) → readMessage 4 m ≡ ok r → (t k c : ℕ) (x : Cell) → askCell m t k c ≡ ok x → CellReads m (messageFields 4 r) t k c x
+cell-reads-its-bytes m all r accepted t k c x e =
+    let tab = bound (entry (tablesOf r) t) {k = λ b. bind (cellHere (tableAt true r t) b k c) (λ h. ok (shownHere h))} (rw accepted at e) in
+    let h = bound (cellHere (tableAt true r t) (tab .0) k c) (tab .2) in
+    subst (CellReads m (messageFields 4 r) t k c) (ok-same (h .2)) (here-reads true m all r accepted t k c (tab .1) (h .0) (h .1))
+
+-- ---- no other byte has a part in a cell's value: cells of two messages that have the same bytes listed for them, and for their columns' types, are the same value
+pub cells-alike : (m n : List ℕ) → Bytes m → Bytes n → (r s : Message) → readMessage 4 m ≡ ok r → readMessage 4 n ≡ ok s → (ix jx : Index) (x y : Cell)
+    → askCell m (ix .i) (ix .j) (ix .k) ≡ ok x → askCell n (jx .i) (jx .j) (jx .k) ≡ ok y
+    → byteFor 45 (second 0 ix) m (messageFields 4 r) ≡ byteFor 45 (second 0 jx) n (messageFields 4 s) → bytesFor 50 51 ix m (messageFields 4 r) ≡ bytesFor 50 51 jx n (messageFields 4 s)
+    → Alike m n (startOf (listedFor 50 51 ix (messageFields 4 r))) (startOf (listedFor 50 51 jx (messageFields 4 s))) x y
+cells-alike m n all-m all-n r s e f ix jx x y p q type-bytes bytes =
+    let a = cell-reads-its-bytes m all-m r e (ix .i) (ix .j) (ix .k) x p in
+    let c = cell-reads-its-bytes n all-n s f (jx .i) (jx .j) (jx .k) y q in
+    let same : typeOf x ∷ [] ≡ typeOf y ∷ [] = sym (a .type-byte) ∙ type-bytes ∙ c .type-byte in
+    reads-alike 50 51 ix jx m n (messageFields 4 r) (messageFields 4 s) x y (cc) bytes (a .cell) (c .cell)
