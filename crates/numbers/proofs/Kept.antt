@@ -14,7 +14,7 @@ use Rattle.numbers.specs.Packed.{packed, itself}
 use Rattle.numbers.specs.Stored.{stateOf, kept, listed, WroteFrom, Wrote, WroteAll, WroteLogin}
 
 -- by the answer
-answer-packed : (old : State) (a : Res ℕ) (s : definition.State) → packed itself (toldAnswer (answered old a s .answer)) ≡ packed itself a
+pub answer-packed : (old : State) (a : Res ℕ) (s : definition.State) → packed itself (toldAnswer (answered old a s .answer)) ≡ packed itself a
 answer-packed old (ok n) s = refl
 answer-packed old (no f p) s = refl
 
@@ -41,7 +41,7 @@ wrote-all S ns types b b′ ns′ types′ {st} {s} {r} is opens keeps =
     (wrote S ns [] b b′ ns′ is (opens .0) keeps, subst (λ (z : State). types′ ≡ typesAfter (step S (seen z []) b .answer) (step S (seen z []) b .state .outer .types) types) is (opens .1))
 
 -- an answer that is shown tells what it is of
-told-shown : (x : Res ℕ) → toldAnswer (shownAnswer x) ≡ x
+pub told-shown : (x : Res ℕ) → toldAnswer (shownAnswer x) ≡ x
 told-shown (ok n) = refl
 told-shown (no f p) = refl
 

@@ -32,7 +32,7 @@ use Rattle.steps.proofs.Sound.{around, along}
 use Rattle.write.proofs.Seen.{seen-shown}
 
 -- the types that are lent, and those after a step
-abbrev lent : Loan → List ℕ → List ℕ
+abbrev pub lent : Loan → List ℕ → List ℕ
 lent nothing types = []
 lent look types = types
 lent whole types = []
