@@ -1,9 +1,9 @@
 -- What is listed for one thing is a part of a field list alone, where every other part lists other fields, or has other indices.
-use Prim.Native.Nat.{ℕ, zero, suc, _+_, _≤_, _<_}
-use mathlib.Core.Path.{_≡_, refl, sym, _∙_, ap}
-use mathlib.Core.Bool.{Bool, true, false, _&&_, _||_}
+use Prim.Native.Nat.{ℕ, zero, suc, _+_, _≤_}
+use mathlib.Core.Path.{_≡_, refl, _∙_, ap}
+use mathlib.Core.Bool.{Bool, true, false, _||_}
 use mathlib.Core.List.{List, [], _∷_, _++_, map, append-nil}
-use mathlib.Core.Option.{Option, some, none}
+use mathlib.Core.Option.{some, none}
 use lib.ListN.{length, take, replicate, length-append}
 use lib.Seq.{length-take-le}
 use lib.Dec.{eqb}
@@ -14,7 +14,7 @@ use Rattle.format.specs.declared.Fault.{Fault}
 use Rattle.format.specs.Result.{ok, pick}
 use Rattle.format.specs.Format.{Format, Index, Entry, Verdict, number, block, nothing, ruled, room, into, both, present, each, counted, piece}
 use Rattle.format.specs.Value.{value}
-use Rattle.format.specs.Message.{list, count}
+use Rattle.format.specs.Message.{list}
 use Rattle.format.proofs.Results.{ok-same, no-ok, and-true-both}
 use Rattle.places.specs.Entries.{entry}
 use Rattle.places.proofs.Lists.{total, length-total, entry-below, entry-same}
@@ -52,7 +52,7 @@ module _ (l b : ℕ) (ix : Index) where
       by-test h true = ap (λ (z : List Entry). e ∷ z) h
       by-test h false = h
 
-  in-front : (fs gs : List Entry) {es : List Entry} → listedFor l b ix gs ≡ [] → listedFor l b ix fs ≡ es → listedFor l b ix (fs ++ gs) ≡ es
+  pub in-front : (fs gs : List Entry) {es : List Entry} → listedFor l b ix gs ≡ [] → listedFor l b ix fs ≡ es → listedFor l b ix (fs ++ gs) ≡ es
   in-front fs gs h w = listed-both fs gs ∙ rw (h, append-nil) w
 
   pub in-back : (fs gs : List Entry) {es : List Entry} → listedFor l b ix fs ≡ [] → listedFor l b ix gs ≡ es → listedFor l b ix (fs ++ gs) ≡ es
@@ -67,6 +67,12 @@ module _ (l b : ℕ) (ix : Index) where
   pub record Misses {A : Type 0} (f : Format A) (jx : Index) : Type 0 where
     pub none : (o : ℕ) (a : A) → listedFor l b ix (f .fields jx o a) ≡ []
 
+-- some formats that are one are one for each of some numbers
+same-formats : {A : Type 0} (n : ℕ) (f : Format A) → map (λ (u : ℕ). f) (replicate n 0) ≡ replicate n f
+same-formats zero f = refl
+same-formats {A} (suc n) f = ap (λ (z : List (Format A)). f ∷ z) (same-formats n f)
+
+-- ---- formats that list nothing for it
 module _ {l b : ℕ} {ix jx : Index} where
   pub misses-number : (k field : ℕ) → Other l b ix field jx → Misses l b ix (number k field) jx
   unfolding number
@@ -134,18 +140,18 @@ module _ {l b : ℕ} {ix jx : Index} {A : Type 0} where
       ];
     }
 
-    pub misses-some : (k n : ℕ) {f : Format A} → ((j : ℕ) → k ≤ j → Misses l b ix f (at-index j jx)) → Misses l b ix (each at-index k (replicate n f)) jx
-    misses-some k zero w = misses-nil k
-    misses-some k (suc n) {f} w = misses-cons k f (replicate n f) (w k (omega arith)) (misses-some (k + 1) n (λ j h. w j (omega arith)))
-
     pub misses-map : (k : ℕ) (g : ℕ → Format A) (xs : List ℕ) → ((x j : ℕ) → k ≤ j → Misses l b ix (g x) (at-index j jx)) → Misses l b ix (each at-index k (map g xs)) jx
     misses-map k g [] w = misses-nil k
     misses-map k g (x ∷ xs) w = misses-cons k (g x) (map g xs) (w x k (omega arith)) (misses-map (k + 1) g xs (λ y j h. w y j (omega arith)))
+
+    pub misses-some : (k n : ℕ) {f : Format A} → ((j : ℕ) → k ≤ j → Misses l b ix f (at-index j jx)) → Misses l b ix (each at-index k (replicate n f)) jx
+    misses-some k n {f} w = rw (← same-formats n f) (misses-map k (λ u. f) (replicate n 0) (λ u. w))
 
     pub misses-list : (k most field : ℕ) {f : Format A} → Other l b ix field jx → ((j : ℕ) → Misses l b ix f (at-index j jx)) → Misses l b ix (list k most field at-index f) jx
     unfolding list
     misses-list k most field {f} h w = misses-into _ _ (misses-both (misses-ruled _ _ (misses-ruled _ _ (misses-number k field h))) (λ n. misses-some 0 n (λ j z. w j)))
 
+-- by which a format is looked through
 pub ruleset misses = (misses-number, misses-block, misses-counted, misses-nothing, misses-ruled, misses-room, misses-pick, misses-into, misses-both, misses-present, misses-some, misses-map, misses-list)
 
 -- a value
@@ -179,11 +185,6 @@ module _ {l b : ℕ} {ix jx : Index} {es : List Entry} {o : ℕ} {A B : Type 0} 
   pub in-second : {f : Format A} (g : A → Format B) {v : A × B} → Misses l b ix f jx → Alone l b ix es (g (v .0)) jx (o + length (f .bytes (v .0))) (v .1) → Alone l b ix es (both f g) jx o v
   unfolding both
   in-second {f} g {v} h w = record { is = in-back l b ix _ (g (v .0) .fields jx (o + length (f .bytes (v .0))) (v .1)) (h .none o (v .0)) (w .is) }
-
-module _ {A : Type 0} where
-  same-formats : (n : ℕ) (f : Format A) → map (λ (u : ℕ). f) (replicate n 0) ≡ replicate n f
-  same-formats zero f = refl
-  same-formats (suc n) f = ap (λ (z : List (Format A)). f ∷ z) (same-formats n f)
 
 -- the i-th of some values, where none is at another index
 module _ {l b : ℕ} {ix : Index} {A : Type 0} {es : List Entry} (at-index : ℕ → Index → Index) {jx : Index} where

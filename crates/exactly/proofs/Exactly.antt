@@ -1,36 +1,35 @@
 -- A cell reads as exactly the bytes that are listed for it: on the way from the message to the cell, every part beside the way lists other fields, or has other indices.
-use Prim.Native.Nat.{ℕ, _+_, _≤_}
+use Prim.Native.Nat.{ℕ, _+_}
 use mathlib.Core.Path.{_≡_, refl, sym, _∙_, ap, subst}
 use mathlib.Core.Bool.{Bool, true}
-use mathlib.Core.List.{List, [], _∷_, map}
-use lib.ListN.{length, take, replicate}
+use mathlib.Core.List.{List, [], _∷_}
+use lib.ListN.{length, take}
 use lib.Seq.{length-take-le}
 use lib.Dec.{ltb, leb}
 use native.Mathlib.Omega.{arith}
-use native.Mathlib.Nat.{zero-add}
 use borrow.Author.Tests.{ltb-true, leb-true, lt-ltb}
 use Rattle.format.specs.declared.Fault.{Fault}
-use Rattle.format.specs.Result.{Res, ok, bind}
+use Rattle.format.specs.Result.{ok, bind}
 use Rattle.format.specs.Number.{Bytes}
-use Rattle.format.specs.Format.{Format, Index, Entry, number, ruled, into, both, each, piece}
+use Rattle.format.specs.Format.{Index, Entry, number, ruled, piece}
 use Rattle.format.specs.Value.{Value, value, isColumn}
-use Rattle.format.specs.Message.{first, second, third, count, columnType, unlimited, mostItems, mostColumns, mostRow, Metadata, metadata, row, Table, table, Response, head, response, Content, Message, message, contentOf, response-of, responseLayout, readMessage, messageFields, noIndex}
+use Rattle.format.specs.Message.{first, second, third, count, columnType, unlimited, mostItems, mostColumns, mostRow, metadata, row, Table, table, head, response, Message, message, contentOf, responseLayout, readMessage, messageFields, noIndex}
 use Rattle.format.proofs.Results.{ok-same, bound}
 use Rattle.places.specs.Stands.{Stands}
 use Rattle.places.specs.Places.{tablesOf, tableAt, typeAt, rowAt, cellAt}
 use Rattle.places.specs.Entries.{entry, Here, cellHere}
 use Rattle.places.proofs.Stands.{stands-at}
 use Rattle.places.proofs.Lists.{total, entry-below, stands-entry}
-use Rattle.places.proofs.Layouts.{length-number, length-count, types-total, type-place, row-place, cell-place, name, columns-1, columns-2, contents-1, metadata-stands, types-stand, type-stands}
+use Rattle.places.proofs.Layouts.{length-number, length-count, types-total, type-place, row-place, cell-place, metadata-stands, types-stand, type-stands}
 use Rattle.places.proofs.Contents.{content-response}
-use Rattle.places.proofs.Replies.{tabled, headSize, table-place, table-stands}
+use Rattle.places.proofs.Replies.{table-place, table-stands}
 use Rattle.places.proofs.Values.{there}
 use Rattle.show.specs.declared.Cell.{Cell}
 use Rattle.show.specs.Cells.{typeOf}
 use Rattle.query.specs.Answers.{shownHere, askCell}
 use Rattle.exactly.specs.Listed.{listedFor, startOf, bytesFor, byteFor, CellReads, Alike}
 use Rattle.exactly.proofs.Alone.{Other, Misses, Alone, misses, misses-number, misses-ruled, misses-list, misses-value, none-piece, in-back, in-room, in-into, in-ruled, in-first, in-second, in-some, in-cells, in-list}
-use Rattle.exactly.proofs.Says.{alone-byte, alone-value, kept, byte-reads, value-reads, reads-alike}
+use Rattle.exactly.proofs.Says.{alone-number, alone-value, kept, byte-reads, value-reads, reads-alike}
 
 -- ---- parts of a response that list nothing for it, if no such field at such indices is it
 module _ {l b : ℕ} {ix jx : Index} where
@@ -83,7 +82,7 @@ module _ (jx : Index) (at : ℕ) (tab : Table) where
   type-alone c e =
       in-room unlimited 41 (omega arith) (in-into _ _ (in-first (λ m. misses-list second 4 unlimited 48 (omega arith) (λ j. misses-row (m .types) (omega (arith, leb-true))))
       (in-room unlimited 42 (omega arith) (in-into _ _ (in-second _ (misses-number 1 43 (omega arith)) (in-second _ (search (misses, other-44))
-      (in-first (λ u. search (misses, other-name)) (in-some third (length types) types c (omega arith) e (λ j h. misses-ruled _ _ (misses-number 1 45 (omega arith))) (in-ruled _ _ (alone-byte 45 (third c jx) place))))))))))
+      (in-first (λ u. search (misses, other-name)) (in-some third (length types) types c (omega arith) e (λ j h. misses-ruled _ _ (misses-number 1 45 (omega arith))) (in-ruled _ _ (alone-number 1 45 (third c jx) place))))))))))
     where
       other-44 : Other 45 45 (third c jx) 44 jx
       other-44 = omega arith

@@ -1,7 +1,7 @@
 -- A value that stands in a message, and whose fields are alone in the field list, reads as exactly the bytes that are listed for it.
 use Prim.Native.Nat.{ℕ, zero, suc, _+_, _-_, _≤_}
-use mathlib.Core.Path.{_≡_, refl, sym, _∙_, ap, ap₂}
-use mathlib.Core.Bool.{Bool, true, false, _&&_, _||_, not, false≢true}
+use mathlib.Core.Path.{_≡_, refl, sym, _∙_, ap}
+use mathlib.Core.Bool.{Bool, true, false, _||_, not, false≢true}
 use mathlib.Core.List.{List, [], _∷_, _++_, append-nil}
 use mathlib.Core.Option.{Option, some, none}
 use lib.ListN.{length, take, drop}
@@ -11,10 +11,11 @@ use native.Mathlib.Omega.{arith}
 use native.Mathlib.Nat.{zero-add}
 use borrow.Author.Tests.{eq-eqb}
 use Rattle.format.specs.Result.{ok, pick}
-use Rattle.format.specs.Number.{Bytes}
+use Rattle.format.specs.Number.{Bytes, numBytes}
 use Rattle.format.specs.Format.{Format, Index, Entry, Verdict, number, ruled, into, counted, piece}
 use Rattle.format.specs.Value.{Value, value, isCounted, isColumn, body-of, widthOf, ruleOf, mostBytes}
 use Rattle.format.proofs.Results.{ok-same}
+use Rattle.format.proofs.Numbers.{length-numBytes}
 use Rattle.format.proofs.Took.{Tiles, tiles-piece}
 use Rattle.format.proofs.Formats.{lawful-value}
 use Rattle.show.specs.declared.Cell.{Cell}
@@ -23,7 +24,7 @@ use Rattle.show.proofs.Kept.{Keeps, read-kept}
 use Rattle.places.specs.Stands.{Stands}
 use Rattle.places.proofs.Stands.{stands-read}
 use Rattle.places.proofs.Layouts.{one-byte}
-use Rattle.exactly.specs.Listed.{isOf, listedFor, bytesAt, startOf, bytesFor, byteFor, Says, Reads, Alike}
+use Rattle.exactly.specs.Listed.{listedFor, bytesAt, startOf, bytesFor, byteFor, Says, Reads, Alike}
 use Rattle.exactly.proofs.Alone.{Alone, listed-both}
 
 -- ---- a value's entries: all are listed for it, and the first stands at its place
@@ -74,9 +75,9 @@ module _ (l b : ℕ) (ix : Index) where
   start-value t o v is = of-value (λ es. startOf es ≡ o) t o v (λ e. start-counted (body-of v) (ruleOf t) o) (λ e. start-piece (widthOf t) o (rw e at is))
 
 -- so they are alone, at their place
-pub alone-byte : (field : ℕ) (ix : Index) {o p n : ℕ} → o ≡ p → Alone field field ix (number 1 field .fields ix p n) (number 1 field) ix o n
+pub alone-number : (k field : ℕ) (ix : Index) {o p n : ℕ} → o ≡ p → Alone field field ix (number k field .fields ix p n) (number k field) ix o n
 unfolding number
-alone-byte field ix {o} {p} e = record { is = rw e (all-body field field ix 1 p) }
+alone-number k field ix {o} {p} e = record { is = rw e (all-body field field ix k p) }
 
 pub alone-value : (l b t : ℕ) (ix : Index) {o p : ℕ} {v : Value} → o ≡ p → Alone l b ix (value l b t .fields ix p v) (value l b t) ix o v
 alone-value l b t ix {o} {p} {v} e = record { is = rw e (all-value l b ix t p v) }
@@ -98,12 +99,16 @@ tiled-bytes m (x ∷ es) o n t =
     let others = tiled-bytes m es (o + x .size) rest (rw end (t .2)) in
     rw (t .0, others, ← drop-drop (x .size) o m, ← take-add (x .size) rest (drop o m), n-is)
 
--- ---- a byte that stands, and is listed alone
+-- ---- a number that stands, and is listed alone
+pub number-reads : (m : List ℕ) (k field : ℕ) (ix : Index) (fs : List Entry) (at n : ℕ) → Stands (number k field) m at n → listedFor field field ix fs ≡ number k field .fields ix at n → byteFor field ix m fs ≡ numBytes k n
+unfolding number
+number-reads m k field ix fs at n d w =
+    ap (bytesAt m) w ∙ tiled-bytes m (piece k at field ix) at k (tiles-piece k at field ix)
+    ∙ rw (← d .whole, drop-at (d .before) (numBytes k n ++ d .after) at (d .start), take-at (numBytes k n) (d .after) k (length-numBytes k n))
+
 pub byte-reads : (m : List ℕ) (field : ℕ) (ix : Index) (fs : List Entry) (at b : ℕ) → Stands (number 1 field) m at b → listedFor field field ix fs ≡ number 1 field .fields ix at b → byteFor field ix m fs ≡ b ∷ []
-unfolding number bytesAt
-byte-reads m field ix fs at b d w =
-    let whole : d .before ++ (b ∷ d .after) ≡ m = rw (one-byte b (d .good)) at (d .whole) in
-    rw w (rw (← whole, drop-at (d .before) (b ∷ d .after) at (d .start), append-nil))
+unfolding number
+byte-reads m field ix fs at b d w = number-reads m 1 field ix fs at b d w ∙ one-byte b (d .good)
 
 -- ---- a value that stands, and is listed alone
 module _ (m : List ℕ) (all : Bytes m) (l b t at : ℕ) (v : Value) (is : isColumn t ≡ true) (d : Stands (value l b t) m at v) where

@@ -8,7 +8,7 @@ use lib.ListN.{length, take, drop}
 use lib.Dec.{eqb}
 use Rattle.format.specs.Result.{ok, pick}
 use Rattle.format.specs.Number.{numBytes}
-use Rattle.format.specs.Format.{Index, Entry}
+use Rattle.format.specs.Format.{Index, Entry, piece}
 use Rattle.format.specs.Value.{value, tNull, tTinyint, tArray}
 use Rattle.show.specs.declared.Cell.{Cell}
 use Rattle.show.specs.Cells.{cellOf, typeOf, valueOf}
@@ -80,10 +80,15 @@ pub record ParameterReads (m : List ℕ) (fs : List Entry) (p : ℕ) (g : Given)
   pub type-byte : byteFor 24 (ofParameter p) m fs ≡ givenType g ∷ []
   pub argument : ArgumentReads m fs (ofParameter p) g
 
--- element e of an array: a byte array is listed as one body, of which the element is the byte at e; an element of another type is listed by itself
+-- a byte array is listed as one body, of which the element at e is a byte
+pub record InBody (m : List ℕ) (fs : List Entry) (ix : Index) (e : ℕ) (x : Cell) : Type 0 where
+  pub entries : listedFor 27 28 ix fs ≡ piece (length (bytesFor 27 28 ix m fs)) (startOf (listedFor 27 28 ix fs)) 28 ix
+  pub says : Says 27 28 m (take 1 (drop e (bytesFor 27 28 ix m fs))) (startOf (listedFor 27 28 ix fs) + e) x
+
+-- element e of the array that parameter p is; one that is no byte is listed by itself
 pub record ElementReads (m : List ℕ) (fs : List Entry) (p e : ℕ) (x : Cell) : Type 0 where
   pub type-byte : byteFor 25 (ofParameter p) m fs ≡ typeOf x ∷ []
-  pub in-body : typeOf x ≡ tTinyint → Says 27 28 m (take 1 (drop e (bytesFor 27 28 (ofParameter p) m fs))) (startOf (listedFor 27 28 (ofParameter p) fs) + e) x
+  pub in-body : typeOf x ≡ tTinyint → InBody m fs (ofParameter p) e x
   pub by-itself : (typeOf x ≡ tTinyint → ⊥) → Reads 27 28 (record { i = p; j = e; k = 0 }) m fs x
 
 -- what is shown of two messages m and n, at places p and q, is the same value; and shown as the same, if the places are
