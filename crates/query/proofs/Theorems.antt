@@ -11,13 +11,11 @@ use native.Mathlib.Omega.{arith}
 use denote.Ref.{RefT, now}
 use denote.Slice.{sliceVal, slice-vals}
 use Rattle.format.specs.declared.Fault.{Fault}
-use Rattle.format.specs.declared.Refusal.{Refusal}
 use Rattle.format.specs.Result.{Res, ok, no, pick}
 use Rattle.format.specs.Number.{Bytes}
 use Rattle.format.specs.Value.{body}
 use Rattle.format.proofs.Decides.{once, answer}
 use Rattle.format.proofs.Results.{ok-same, no-ok}
-use Rattle.scan.specs.Shown.{refusal}
 use Rattle.show.specs.Parts.{IsPart}
 use Rattle.places.specs.Places.{tablesOf, tableAt, paramsOf, paramAt}
 use Rattle.places.specs.Entries.{Here, entry, cellHere, valueHere, elementOf}

@@ -523,9 +523,9 @@ pub fn part_at(m: &[u8], span: Part) -> &[u8]
     ensures { λ r. ⌜ IsTold (m .entry) (toldPart span) r ⌝ }
 {
     let Part::Is(start, size) = span else {
-        return show::bytes_at(m, 0, 0);
+        return show::body_at(m, 0, 0);
     };
-    show::bytes_at(m, start, size)
+    show::body_at(m, start, size)
 }
 
 // The cell at row k and column c of table t.

@@ -1,10 +1,9 @@
 -- A part that is cut where the message ends: what lies past that is nothing.
 use Prim.Native.Nat.{ℕ, zero, suc, _+_, _-_, min}
 use native.Mathlib.Nat.{zero-min, min-zero, suc-min-suc, add-sub-cancel-left}
-use mathlib.Core.Path.{_≡_, refl, sym, ap, _∙_}
+use mathlib.Core.Path.{_≡_, _∙_}
 use mathlib.Core.List.{List, [], _∷_}
 use lib.ListN.{length, take, drop, length-drop}
-use lib.Seq.{take-nil}
 use denote.Ref.{RefT, ptr, now}
 use Rattle.show.specs.Parts.{IsPart}
 

@@ -7,7 +7,7 @@ use scan::Number;
 ghost use mathlib.Core.Path.{_≡_};
 ghost use mathlib.Core.Bool.{true};
 ghost use lib.Ieee.{binary64, toBits};
-ghost use Prim.Native.Nat.{_+_, _*_, _^_, min};
+ghost use Prim.Native.Nat.{_+_, min};
 ghost use Rattle.format.specs.declared.Fault.the-variants.{Decimal, Point};
 ghost use Rattle.format.specs.Format.{number, ruled};
 ghost use Rattle.format.specs.Value.{value, string, ruleOf, decimalFine, pointFine};
@@ -214,8 +214,8 @@ fn float_bits(x: f64) -> u64
     }
 }
 
-// So many bytes of a message from a place on, as that part of it, or as many of them as there are.
-pub fn bytes_at(m: &[u8], start: usize, size: usize) -> &[u8]
+// The bytes of a text or binary value by where they start and how many they are, as that part of the message, or as many of them as there are.
+pub fn body_at(m: &[u8], start: usize, size: usize) -> &[u8]
     ensures { λ r. ⌜ IsPart (m .entry) start size r ⌝ }
 {
     let from = least(start, m.len());

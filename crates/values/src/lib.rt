@@ -5,7 +5,6 @@ use show::Raw;
 use write::COLUMNS;
 use write::Outcome;
 use write::State;
-ghost use mathlib.Core.Path.{_≡_};
 ghost use mathlib.Core.List.{[]};
 ghost use Rattle.show.specs.Cells.{typeOf, valueOf};
 ghost use Rattle.steps.specs.Steps.{oneParam, element, cell};
@@ -19,7 +18,7 @@ pub fn value_param(out: &mut [u8], st: State, m: &[u8], c: Cell) -> Outcome
     match raw {
         Raw::Bits(t, upper, lower) => call::fixed_param(out, st, t, upper, lower),
         Raw::Body(t, start, size) => {
-            call::body_param(out, st, t, false, show::bytes_at(m, start, size))
+            call::body_param(out, st, t, false, show::body_at(m, start, size))
         }
         Raw::Null(t) => call::body_param(out, st, t, true, b""),
     }
@@ -33,7 +32,7 @@ pub fn value_element(out: &mut [u8], st: State, m: &[u8], c: Cell) -> Outcome
     match raw {
         Raw::Bits(t, upper, lower) => call::fixed_element(out, st, t, upper, lower),
         Raw::Body(t, start, size) => {
-            call::body_element(out, st, t, false, show::bytes_at(m, start, size))
+            call::body_element(out, st, t, false, show::body_at(m, start, size))
         }
         Raw::Null(t) => call::body_element(out, st, t, true, b""),
     }
@@ -47,7 +46,7 @@ pub fn value_cell(out: &mut [u8], st: State, types: &[u8; COLUMNS], m: &[u8], c:
     match raw {
         Raw::Bits(t, upper, lower) => rows::fixed_cell(out, st, types, t, upper, lower),
         Raw::Body(t, start, size) => {
-            rows::body_cell(out, st, types, t, false, show::bytes_at(m, start, size))
+            rows::body_cell(out, st, types, t, false, show::body_at(m, start, size))
         }
         Raw::Null(t) => rows::body_cell(out, st, types, t, true, b""),
     }

@@ -26,7 +26,7 @@ use denote.RattleType.{RattleType, owns}
 use denote.Laws.{Is, shows}
 use denote.Plain.{uint-vals, uint-tells, uint-makes}
 use denote.Builtin.{u8, usize}
-use denote.Ref.{RefT, NamedLft, now}
+use denote.Ref.{RefT, now}
 use denote.Signature.{namedLft}
 use denote.Slice.{sliceVal, ShrSlice, shr-slice-lawful, shr-slice-copy}
 use denote.Steps.{nothing, owned, peeks, heard}
@@ -44,7 +44,7 @@ use denote.Exit.{yes}
 use denote.Enum.Laws as EL
 use denote.Struct.Laws as LL
 use Rattle.query.specs.declared.Part.{Part}
-use Rattle.query.specs.Answers.{toldPart, IsTold, Handed, askCellSpan}
+use Rattle.query.specs.Answers.{toldPart, IsTold, askCellSpan}
 use Rattle.query.proofs.Part as S
 use Rattle.query.proofs.Part.Laws as S′
 use Rattle.held.specs.declared.TableReader.{TableReader}

@@ -24,8 +24,8 @@ use denote.RattleType.{owns}
 use denote.Laws.{Is, shows}
 use denote.Plain.{uint-vals, uint-tells, uint-makes}
 use denote.Builtin.{u8, usize}
-use denote.Ref.{RefT, NamedLft, now}
-use denote.Signature.{plain, namedLft}
+use denote.Ref.{RefT, now}
+use denote.Signature.{plain}
 use denote.Slice.{sliceVal, ShrSlice, slice-vals, shr-slice-tells, shr-slice-lawful, shr-slice-copy}
 use denote.Steps.{nothing, owned, peeks, heard}
 use denote.Triple.Statement.{Contract, Triple}
@@ -38,7 +38,7 @@ use denote.Triple.Clauses.{ensured, lasts}
 use denote.Exit.{yes}
 use denote.Enum.Laws as EL
 use Rattle.query.specs.declared.Part.{Part}
-use Rattle.query.specs.Answers.{toldPart, IsTold, Handed, askParameterSpan}
+use Rattle.query.specs.Answers.{toldPart, IsTold, askParameterSpan}
 use Rattle.query.proofs.Part as S
 use Rattle.query.proofs.Part.Laws as S′
 use Rattle.held.specs.declared.Bytes.{Bytes}

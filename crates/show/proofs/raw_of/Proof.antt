@@ -1,5 +1,5 @@
 -- `show::raw_of` meets its contract: by the kind of value.
-use mathlib.Core.Path.{_≡_, refl, sym, ap, ap₂, _∙_}
+use mathlib.Core.Path.{sym, ap, ap₂, _∙_}
 use mir.Syntax.{w8, w16, w32, w64}
 use mir.Val.{SFits}
 use mir.ValLaws.{toZ-ofZ}

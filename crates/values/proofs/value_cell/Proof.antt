@@ -20,8 +20,8 @@ fixed-cell-requires c κs = search needs
 enum-known-raw-2 : tie.Need-enum-known-raw-2
 enum-known-raw-2 c = search needs
 
-bytes-at-requires : tie.Need-bytes-at-requires
-bytes-at-requires c κs = search needs
+body-at-requires : tie.Need-body-at-requires
+body-at-requires c κs = search needs
 
 body-cell-requires : tie.Need-body-cell-requires
 body-cell-requires c κs = search needs
@@ -51,7 +51,7 @@ returns-2 : tie.Need-returns-2
 returns-2 c =
     let a = c .before .before .before .before .before .before .before .before .before .before .before .args in
     let step = c .before .before .body-cell in
-    written-body (a .m .now) (a .c) (λ (t : ℕ) (v : Value). Stepped (cell t v) (a .st) (a .types .now) (a .out .now) (step .result) (step .last .0)) (c .before .before .before .before .before .before .before .before .raw-of .ensures) _ _ _ (c .before .before .before .before .before .before .raw2 .given .1) (c .before .before .before .bytes-at .ensures .bytes) (step .ensures)
+    written-body (a .m .now) (a .c) (λ (t : ℕ) (v : Value). Stepped (cell t v) (a .st) (a .types .now) (a .out .now) (step .result) (step .last .0)) (c .before .before .before .before .before .before .before .before .raw-of .ensures) _ _ _ (c .before .before .before .before .before .before .raw2 .given .1) (c .before .before .before .body-at .ensures .bytes) (step .ensures)
 
 same-length-3 : tie.Need-same-length-3
 same-length-3 c = search needs
@@ -70,7 +70,7 @@ value-cell-spec =
     enum-known-raw
     fixed-cell-requires
     enum-known-raw-2
-    bytes-at-requires
+    body-at-requires
     body-cell-requires
     enum-known-raw-3
     slice-aggregate-body-cell

@@ -1,9 +1,9 @@
--- `show::bytes_at` meets its contract: both ends are cut where the message ends, and what lies past that is nothing.
+-- `show::body_at` meets its contract: both ends are cut where the message ends, and what lies past that is nothing.
 use mathlib.Core.Path.{refl}
 use Rattle.show.proofs.Parts.{cut}
 use borrow.Author.Needs.{needs}
-use Rattle.show.proofs.bytes_at.Statement.{statement}
-use Rattle.show.proofs.bytes_at.Tie as tie
+use Rattle.show.proofs.body_at.Statement.{statement}
+use Rattle.show.proofs.body_at.Tie as tie
 
 least-requires : tie.Need-least-requires
 least-requires c κs = search needs
@@ -29,8 +29,8 @@ part-result-end c = search needs
 returns : tie.Need-returns
 returns c = cut (c .before .before .before .before .args .m) _ _ _ _ _ (c .before .before .least .ensures) (c .before .least2 .ensures) refl refl
 
-pub bytes-at-spec : {M : Type 1} → statement M
-bytes-at-spec =
+pub body-at-spec : {M : Type 1} → statement M
+body-at-spec =
     tie.close
     (tie.spec
     least-requires
