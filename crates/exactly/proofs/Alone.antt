@@ -4,7 +4,7 @@ use mathlib.Core.Path.{_≡_, refl, _∙_, ap}
 use mathlib.Core.Bool.{Bool, true, false, _||_}
 use mathlib.Core.List.{List, [], _∷_, _++_, map, append-nil}
 use mathlib.Core.Option.{some, none}
-use lib.ListN.{length, take, replicate, length-append}
+use lib.ListN.{length, take, replicate, length-append, length-replicate}
 use lib.Seq.{length-take-le}
 use lib.Dec.{eqb}
 use native.Mathlib.Omega.{arith}
@@ -51,6 +51,10 @@ module _ (l b : ℕ) (ix : Index) where
           → pick t (e ∷ listedFor l b ix (es ++ fs)) (listedFor l b ix (es ++ fs)) ≡ pick t (e ∷ listedFor l b ix es) (listedFor l b ix es) ++ listedFor l b ix fs
       by-test h true = ap (λ (z : List Entry). e ∷ z) h
       by-test h false = h
+
+  listed-none : listedFor l b ix [] ≡ []
+  unfolding listedFor
+  listed-none = refl
 
   pub in-front : (fs gs : List Entry) {es : List Entry} → listedFor l b ix gs ≡ [] → listedFor l b ix fs ≡ es → listedFor l b ix (fs ++ gs) ≡ es
   in-front fs gs h w = listed-both fs gs ∙ rw (h, append-nil) w
@@ -218,3 +222,21 @@ module _ {l b : ℕ} {ix : Index} {A : Type 0} {es : List Entry} (at-index : ℕ
       → Alone l b ix es f (at-index i jx) (o + k + total f (take i v)) a → Alone l b ix es (list k most field at-index f) jx o v
   unfolding list
   in-list k most field v i e h others w = in-into _ _ (in-second _ (search (misses, h)) (in-some (length v) v i (omega arith) e others (rw length-count w)))
+
+-- and none, if there are no more than i
+module _ {l b : ℕ} {ix : Index} {A : Type 0} (at-index : ℕ → Index → Index) {jx : Index} where
+  past-from : (k : ℕ) (g : ℕ → Format A) (xs : List ℕ) (v : List A) (i o : ℕ) → length xs ≤ i → ((y j : ℕ) → (j ≡ k + i → ⊥) → Misses l b ix (g y) (at-index j jx)) → Alone l b ix [] (each at-index k (map g xs)) jx o v
+  unfolding each nothing
+  past-from k g [] v i o few h = record { is = listed-none l b ix }
+  past-from k g (y ∷ xs) [] i o few h = record { is = listed-none l b ix }
+  past-from k g (y ∷ xs) (u ∷ v) zero o few h = absurd (omega arith)
+  past-from k g (y ∷ xs) (u ∷ v) (suc i) o few h =
+      record { is = in-back l b ix _ _ (h y k (λ e. omega arith) .none o u) (past-from (k + 1) g xs v i (o + length (g y .bytes u)) (omega arith) (λ z j s. h z j (λ e. s (omega arith))) .is) }
+
+  pub past-cells : (g : ℕ → Format A) (xs : List ℕ) (v : List A) (i : ℕ) {o : ℕ} → length xs ≤ i → ((y j : ℕ) → (j ≡ i → ⊥) → Misses l b ix (g y) (at-index j jx)) → Alone l b ix [] (each at-index 0 (map g xs)) jx o v
+  past-cells g xs v i {o} few h = past-from 0 g xs v i o few (λ y j s. h y j (λ e. s (omega arith)))
+
+  pub past-list : (k most field : ℕ) {f : Format A} (v : List A) (i : ℕ) {o : ℕ} → length v ≤ i → Other l b ix field jx → ((j : ℕ) → (j ≡ i → ⊥) → Misses l b ix f (at-index j jx)) → Alone l b ix [] (list k most field at-index f) jx o v
+  unfolding list
+  past-list k most field {f} v i few h others =
+      in-into _ _ (in-second _ (search (misses, h)) (rw (← same-formats (length v) f) (past-cells (λ u. f) (replicate (length v) 0) v i (rw length-replicate few) (λ u. others))))

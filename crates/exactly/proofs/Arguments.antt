@@ -8,8 +8,9 @@ use lib.ListN.{length, take, drop}
 use lib.Dec.{eqb, ltb, leb}
 use native.Mathlib.Omega.{arith}
 use borrow.Author.Tests.{ne-eqb, eqb-true, eqb-false, ltb-true, leb-true, lt-ltb, le-leb}
+use Rattle.format.specs.declared.Fault.{Fault}
 use Rattle.format.specs.declared.Fault.the-variants.{WireType}
-use Rattle.format.specs.Result.{ok, bind}
+use Rattle.format.specs.Result.{Res, ok, no, bind}
 use Rattle.format.specs.Number.{numBytes, Bytes}
 use Rattle.format.specs.Format.{Index, Entry, number, block, ruled, into, both, counted, piece}
 use Rattle.format.specs.Value.{Value, fixed, body, value, isColumn, tVarbinary, tTinyint, tNull, tArray}
@@ -22,15 +23,15 @@ use Rattle.places.specs.Entries.{entry, Here, valuesIn, elementOf}
 use Rattle.places.proofs.Stands.{stands-at, stands-into, stands-ruled, stands-first, stands-second}
 use Rattle.places.proofs.Lists.{total, stands-entry}
 use Rattle.places.proofs.Layouts.{one-byte}
-use Rattle.places.proofs.Calls.{client-size, call-stands, param-place, param-stands, type-stands, argument-stands, is-null, is-one, is-array, listed, widthFor, element-place}
+use Rattle.places.proofs.Calls.{call-2, callSize, client-size, call-stands, param-place, param-stands, type-stands, argument-stands, is-null, is-one, is-array, listed, widthFor, element-place}
 use Rattle.places.proofs.Values.{body-stands}
 use Rattle.show.specs.declared.Cell.{Cell}
 use Rattle.show.specs.Cells.{plainCell, cellOf, typeOf}
 use Rattle.query.specs.Answers.{Given, givenOf, shownHere, askParameter, askElement}
-use Rattle.exactly.specs.Listed.{listedFor, bytesAt, startOf, bytesFor, byteFor, Says, ofParameter, ParameterReads, ElementReads}
-use Rattle.exactly.proofs.Alone.{Other, Misses, Alone, misses, misses-block, misses-value, misses-nothing, misses-some, none-piece, in-front, in-back, in-into, in-ruled, in-first, in-second, in-list}
+use Rattle.exactly.specs.Listed.{listedFor, bytesAt, startOf, bytesFor, fieldBytes, Says, ofParameter, ParameterReads, ElementReads}
+use Rattle.exactly.proofs.Alone.{Other, Misses, Alone, misses, misses-block, misses-value, misses-nothing, misses-some, none-piece, in-front, in-back, in-into, in-ruled, in-first, in-second, in-list, past-list}
 use Rattle.exactly.proofs.Says.{all-body, alone-number, alone-value, tiled-bytes, kept, number-reads, byte-reads, stands-says, value-reads}
-use Rattle.exactly.proofs.Exactly.{length-ruled, in-message}
+use Rattle.exactly.proofs.Exactly.{length-ruled, in-message, entry-none}
 
 -- ---- parts of an invocation that list nothing for it, if no such field at such indices is it
 up : (k n : ℕ) → leb (suc k) n ≡ true → leb k n ≡ true
@@ -55,13 +56,16 @@ unfolding block
 block-size v h = h
 
 module _ {l b : ℕ} {ix : Index} {es : List Entry} where
+  in-params : (r : Message) → ((n : ℕ) (y : Index) → ltb n 24 ≡ true → Other l b ix n y) → length (invocation-of (r .content) .client) ≡ 8
+      → Alone l b ix es call-2 noIndex (5 + callSize (invocation-of (r .content)) + 8) (paramsOf r) → listedFor l b ix (messageFields 3 r) ≡ es
+  unfolding contentOf invocation
+  in-params r low size w =
+      in-message 3 r (λ n y h. low n y (lt-ltb n 24 (omega (arith, leb-true n 2 h))))
+      (in-into _ _ (in-into _ _ (in-second _ (search (misses, low)) (in-second _ (misses-block 8 22 (low 22 noIndex refl)) (rw (block-size (invocation-of (r .content)) size) w)))))
+
   in-call : (r : Message) (p : ℕ) {q : Param} → ix .i ≡ p → ((n : ℕ) (y : Index) → ltb n 24 ≡ true → Other l b ix n y) → length (invocation-of (r .content) .client) ≡ 8 → entry (paramsOf r) p ≡ ok q
       → Alone l b ix es param (first p noIndex) (paramAt r p) q → listedFor l b ix (messageFields 3 r) ≡ es
-  unfolding contentOf invocation
-  in-call r p same low size e w =
-      in-message 3 r (λ n y h. low n y (lt-ltb n 24 (omega (arith, leb-true n 2 h))))
-      (in-into _ _ (in-into _ _ (in-second _ (search (misses, low)) (in-second _ (misses-block 8 22 (low 22 noIndex refl))
-      (in-list first 2 mostItems 23 (paramsOf r) p e (low 23 noIndex refl) (λ j h. misses-param (omega arith)) (rw (block-size (invocation-of (r .content)) size) (rw (param-place r p size) at w)))))))
+  in-call r p same low size e w = in-params r low size (in-list first 2 mostItems 23 (paramsOf r) p e (low 23 noIndex refl) (λ j h. misses-param (omega arith)) (rw (param-place r p size) at w))
 
 module _ {l b : ℕ} {ix jx : Index} {es : List Entry} {at : ℕ} {q : Param} where
   in-param : Other l b ix 24 jx → Alone l b ix es (argument (q .type)) jx (at + 1) (q .argument) → Alone l b ix es param jx at q
@@ -197,7 +201,7 @@ module _ (m : List ℕ) (all : Bytes m) (r : Message) (accepted : readMessage 3 
   from-call : (l b : ℕ) (ix : Index) {es : List Entry} {q : Param} → ix .i ≡ p → 24 ≤ l → 24 ≤ b → entry (paramsOf r) p ≡ ok q → Alone l b ix es param (first p noIndex) at q → listedFor l b ix fs ≡ es
   from-call l b ix same h k is w = in-call r p same (omega (arith, ltb-true)) (client-size (call-stands m all r accepted)) is w
 
-  type-reads : (q : Param) → entry (paramsOf r) p ≡ ok q → byteFor 24 ix m fs ≡ q .type ∷ []
+  type-reads : (q : Param) → entry (paramsOf r) p ≡ ok q → fieldBytes 24 ix m fs ≡ q .type ∷ []
   type-reads q is = byte-reads m 24 ix fs at (q .type) (type-stands (param-stands m all r accepted p is)) (from-call 24 24 ix refl (omega arith) (omega arith) is (param-type-alone ix at q))
 
   null-reads : (l b : ℕ) → 25 ≤ l → 25 ≤ b → entry (paramsOf r) p ≡ ok (record { type = tNull; argument = null }) → listedFor l b ix fs ≡ []
@@ -216,10 +220,10 @@ module _ (m : List ℕ) (all : Bytes m) (r : Message) (accepted : readMessage 3 
     from-array : (n b : ℕ) (jx : Index) {es : List Entry} → jx .i ≡ p → 26 ≤ n → 26 ≤ b → Alone n b jx es (items t) ix (at + 1 + 1) l → listedFor n b jx fs ≡ es
     from-array n b jx same h k w = from-call n b jx same (omega arith) (omega arith) is (in-param (omega arith) (in-array (omega arith) w))
 
-    element-type-reads : byteFor 25 ix m fs ≡ t ∷ []
+    element-type-reads : fieldBytes 25 ix m fs ≡ t ∷ []
     element-type-reads = byte-reads m 25 ix fs (at + 1) t (stands-ruled isColumn WireType (stands-first (columnType 25) items d)) (from-call 25 25 ix refl (omega arith) (omega arith) is (in-param (omega arith) (element-type-alone ix (at + 1) t l)))
 
-    count-reads : byteFor 26 ix m fs ≡ numBytes (widthFor t) (length (valuesIn l))
+    count-reads : fieldBytes 26 ix m fs ≡ numBytes (widthFor t) (length (valuesIn l))
     count-reads = number-reads m (widthFor t) 26 ix fs (at + 1 + 1) _ (listed t l held .count) (from-array 26 26 ix refl (omega arith) (omega arith) (count-alone ix (at + 1 + 1) t l held))
 
     module _ (e : ℕ) (v : Value) (f : entry (valuesIn l) e ≡ ok v) where
@@ -230,7 +234,7 @@ module _ (m : List ℕ) (all : Bytes m) (r : Message) (accepted : readMessage 3 
       unfolding ruled
       fine = stands-first (columnType 25) items d .good .1
 
-      element-type-is : byteFor 25 ix m fs ≡ typeOf (cellOf t (elementAt at t l e) v) ∷ []
+      element-type-is : fieldBytes 25 ix m fs ≡ typeOf (cellOf t (elementAt at t l e) v) ∷ []
       element-type-is = element-type-reads ∙ ap (λ (z : ℕ). z ∷ []) (sym (kept m all 27 28 t (elementAt at t l e) v fine element-stands .1))
 
   parameter-reads : (q : Param) → entry (paramsOf r) p ≡ ok q → ParameterReads m fs p (givenOf at (q .type) (q .argument))
@@ -293,3 +297,11 @@ element-reads-its-bytes m all r accepted p e x f =
     let q = bound (entry (paramsOf r) p) {k = λ q. bind (elementOf (paramAt r p) (q .argument) e) (λ h. ok (shownHere h))} (rw accepted at f) in
     let h = bound (elementOf (paramAt r p) (q .0 .argument) e) (q .2) in
     subst (ElementReads m (messageFields 3 r) p e) (ok-same (h .2)) (element-reads m all r accepted p e (q .0) (q .1) (h .0) (h .1))
+
+-- ---- for a parameter that is refused nothing is listed
+pub refused-parameter-has-no-bytes : (m : List ℕ) → Bytes m → (r : Message) → readMessage 3 m ≡ ok r → (p : ℕ) {f : Fault} {at : ℕ} → askParameter m p ≡ no f at → (l b : ℕ) → 24 ≤ l → 24 ≤ b → (ix : Index) → ix .i ≡ p → listedFor l b ix (messageFields 3 r) ≡ []
+refused-parameter-has-no-bytes m all r accepted p {f} {at} e l b h k ix same = by-entry (entry (paramsOf r) p) refl (rw accepted at e)
+  where
+    by-entry : (q : Res Param) → entry (paramsOf r) p ≡ q → bind q (λ q. ok (givenOf (paramAt r p) (q .type) (q .argument))) ≡ no f at → listedFor l b ix (messageFields 3 r) ≡ []
+    by-entry (ok q) is g = absurd (no-ok (sym g))
+    by-entry (no f at) is g = in-params r (omega (arith, ltb-true)) (client-size (call-stands m all r accepted)) (past-list first 2 mostItems 23 (paramsOf r) p (entry-none (paramsOf r) p is) (omega arith) (λ j s. misses-param (omega arith)))

@@ -1,34 +1,34 @@
 -- A cell reads as exactly the bytes that are listed for it: on the way from the message to the cell, every part beside the way lists other fields, or has other indices.
-use Prim.Native.Nat.{ℕ, _+_}
+use Prim.Native.Nat.{ℕ, zero, suc, _+_, _≤_, _<_}
 use mathlib.Core.Path.{_≡_, refl, sym, _∙_, ap, subst}
-use mathlib.Core.Bool.{Bool, true}
-use mathlib.Core.List.{List, [], _∷_}
+use mathlib.Core.Bool.{Bool, true, false}
+use mathlib.Core.List.{List, [], _∷_, map}
 use lib.ListN.{length, take}
 use lib.Seq.{length-take-le}
 use lib.Dec.{ltb, leb}
 use native.Mathlib.Omega.{arith}
-use borrow.Author.Tests.{ltb-true, leb-true, lt-ltb}
+use borrow.Author.Tests.{ltb-true, leb-true, leb-false, lt-ltb}
 use Rattle.format.specs.declared.Fault.{Fault}
-use Rattle.format.specs.Result.{ok, bind}
+use Rattle.format.specs.Result.{Res, ok, no, bind}
 use Rattle.format.specs.Number.{Bytes}
-use Rattle.format.specs.Format.{Index, Entry, number, ruled, piece}
+use Rattle.format.specs.Format.{Index, Entry, number, ruled, each, piece}
 use Rattle.format.specs.Value.{Value, value, isColumn}
-use Rattle.format.specs.Message.{first, second, third, count, columnType, unlimited, mostItems, mostColumns, mostRow, metadata, row, Table, table, head, response, Message, message, contentOf, responseLayout, readMessage, messageFields, noIndex}
-use Rattle.format.proofs.Results.{ok-same, bound}
+use Rattle.format.specs.Message.{first, second, third, count, columnType, unlimited, mostItems, mostColumns, mostRow, metadata, row, Table, table, head, response, Message, message, contentOf, response-of, responseLayout, readMessage, messageFields, noIndex}
+use Rattle.format.proofs.Results.{ok-same, no-ok, bound}
 use Rattle.places.specs.Stands.{Stands}
 use Rattle.places.specs.Places.{tablesOf, tableAt, typeAt, rowAt, cellAt}
 use Rattle.places.specs.Entries.{entry, Here, cellHere}
 use Rattle.places.proofs.Stands.{stands-at}
-use Rattle.places.proofs.Lists.{total, entry-below, stands-entry}
+use Rattle.places.proofs.Lists.{total, entry-in, entry-below, stands-entry}
 use Rattle.places.proofs.Layouts.{length-number, length-count, types-total, type-place, row-place, cell-place, metadata-stands, types-stand, type-stands}
 use Rattle.places.proofs.Contents.{content-response}
-use Rattle.places.proofs.Replies.{table-place, table-stands}
+use Rattle.places.proofs.Replies.{tabled, headSize, table-place, table-stands}
 use Rattle.places.proofs.Values.{there}
 use Rattle.show.specs.declared.Cell.{Cell}
 use Rattle.show.specs.Cells.{typeOf}
 use Rattle.query.specs.Answers.{shownHere, askCell}
-use Rattle.exactly.specs.Listed.{listedFor, startOf, bytesFor, byteFor, CellReads, Alike}
-use Rattle.exactly.proofs.Alone.{Other, Misses, Alone, misses, misses-number, misses-ruled, misses-list, misses-value, none-piece, in-back, in-room, in-into, in-ruled, in-first, in-second, in-some, in-cells, in-list}
+use Rattle.exactly.specs.Listed.{listedFor, startOf, bytesFor, fieldBytes, CellReads, Alike}
+use Rattle.exactly.proofs.Alone.{Other, Misses, Alone, misses, misses-number, misses-ruled, misses-list, misses-value, none-piece, in-back, in-room, in-into, in-ruled, in-first, in-second, in-some, in-cells, in-list, past-cells, past-list}
 use Rattle.exactly.proofs.Says.{alone-number, alone-value, kept, byte-reads, value-reads, reads-alike}
 
 -- ---- parts of a response that list nothing for it, if no such field at such indices is it
@@ -63,14 +63,18 @@ module _ {l b : ℕ} {ix : Index} {es : List Entry} where
       let inner : Alone l b ix es (message layout) noIndex 4 r = in-into _ _ (in-second (contentOf layout) (search (misses, low)) (rw length-ruled w)) in
       in-back l b ix (piece 4 0 1 noIndex) _ (none-piece l b ix 4 0 1 noIndex (low 1 noIndex refl)) (inner .is)
 
-  -- table t of a response
+  -- the tables of a response, and table t of them
+  in-tables : (timed : Bool) (r : Message) → ((n : ℕ) (y : Index) → ltb n 41 ≡ true → Other l b ix n y) → Alone l b ix es tabled noIndex (5 + headSize timed (response-of (r .content))) (tablesOf r)
+      → listedFor l b ix (messageFields (responseLayout timed) r) ≡ es
+  unfolding response
+  in-tables timed r low w =
+      in-message (responseLayout timed) r (λ n y h. low n y (lt-ltb n 41 (omega (arith, leb-true n 2 h))))
+      (rw (content-response timed (r .version)) (in-into _ _ (in-into _ _ (in-second _ (misses-head timed low) w))))
+
   in-response : (timed : Bool) (r : Message) (t : ℕ) {tab : Table} → ix .i ≡ t → ((n : ℕ) (y : Index) → ltb n 41 ≡ true → Other l b ix n y) → entry (tablesOf r) t ≡ ok tab
       → Alone l b ix es table (first t noIndex) (tableAt timed r t) tab → listedFor l b ix (messageFields (responseLayout timed) r) ≡ es
-  unfolding response
   in-response timed r t same low e w =
-      in-message (responseLayout timed) r (λ n y h. low n y (lt-ltb n 41 (omega (arith, leb-true n 2 h))))
-      (rw (content-response timed (r .version)) (in-into _ _ (in-into _ _ (in-second _ (misses-head timed low)
-      (in-list first 2 mostItems 40 (tablesOf r) t e (low 40 noIndex refl) (λ j h. misses-table (omega arith)) (rw (table-place timed r t) at w))))))
+      in-tables timed r low (in-list first 2 mostItems 40 (tablesOf r) t e (low 40 noIndex refl) (λ j h. misses-table (omega arith)) (rw (table-place timed r t) at w))
 
 module _ (jx : Index) (at : ℕ) (tab : Table) where
   abbrev types : List ℕ
@@ -95,14 +99,26 @@ module _ (jx : Index) (at : ℕ) (tab : Table) where
           let below = entry-below types c e in
           omega (arith, length-number 1 43 (tab .metadata .status), length-count 2 mostColumns 44 (length types), types-total (take c types), length-take-le c types (omega arith), type-place at (tab .metadata) c (omega arith))
 
-  -- the cell in row k and column c
+  -- the cells of row k, and that in column c
+  in-rows : {es : List Entry} (k c : ℕ) (cells : List Value) → entry (tab .rows) k ≡ ok cells → Alone 50 51 (third c (second k jx)) es (each third 0 (map (value 50 51) types)) (second k jx) (rowAt at tab k + 4) cells
+      → Alone 50 51 (third c (second k jx)) es table jx at tab
+  unfolding table row
+  in-rows k c cells e w =
+      in-room unlimited 41 (omega arith) (in-into _ _ (in-second _ (misses-metadata (omega (arith, ltb-true))) (in-list second 4 unlimited 48 (tab .rows) k e (omega arith) (λ j s. misses-row types (omega arith))
+      (in-room mostRow 49 (omega arith) (rw (row-place at tab k) at w)))))
+
   cell-alone : (k c : ℕ) (cells : List Value) {x : ℕ} {v : Value} → entry (tab .rows) k ≡ ok cells → entry types c ≡ ok x → entry cells c ≡ ok v
       → Alone 50 51 (third c (second k jx)) (value 50 51 x .fields (third c (second k jx)) (cellAt (rowAt at tab k) types cells c) v) table jx at tab
-  unfolding table row
-  cell-alone k c cells {x} in-rows in-types in-row =
-      in-room unlimited 41 (omega arith) (in-into _ _ (in-second _ (misses-metadata (omega (arith, ltb-true))) (in-list second 4 unlimited 48 (tab .rows) k in-rows (omega arith) (λ j s. misses-row types (omega arith))
-      (in-room mostRow 49 (omega arith) (in-cells third (value 50 51) types cells c in-types in-row (λ y j s. misses-value 50 51 y (omega arith) (omega arith))
-      (alone-value 50 51 x (third c (second k jx)) (omega (arith, cell-place (rowAt at tab k) types cells c, row-place at tab k))))))))
+  cell-alone k c cells {x} in-row in-types e =
+      in-rows k c cells in-row (in-cells third (value 50 51) types cells c in-types e (λ y j s. misses-value 50 51 y (omega arith) (omega arith)) (alone-value 50 51 x (third c (second k jx)) (sym (cell-place (rowAt at tab k) types cells c))))
+
+  -- past the rows, or past the columns
+  row-past : (k c : ℕ) → length (tab .rows) ≤ k → Alone 50 51 (third c (second k jx)) [] table jx at tab
+  unfolding table
+  row-past k c few = in-room unlimited 41 (omega arith) (in-into _ _ (in-second _ (misses-metadata (omega (arith, ltb-true))) (past-list second 4 unlimited 48 (tab .rows) k few (omega arith) (λ j s. misses-row types (omega arith)))))
+
+  column-past : (k c : ℕ) (cells : List Value) → entry (tab .rows) k ≡ ok cells → length types ≤ c → Alone 50 51 (third c (second k jx)) [] table jx at tab
+  column-past k c cells e few = in-rows k c cells e (past-cells third (value 50 51) types cells c few (λ y j s. misses-value 50 51 y (omega arith) (omega arith)))
 
 -- ---- a cell that is answered
 module _ (timed : Bool) (m : List ℕ) (all : Bytes m) (r : Message) (accepted : readMessage (responseLayout timed) m ≡ ok r) (t k c : ℕ) {tab : Table} (is : entry (tablesOf r) t ≡ ok tab) where
@@ -115,7 +131,7 @@ module _ (timed : Bool) (m : List ℕ) (all : Bytes m) (r : Message) (accepted :
   stood : Stands table m at tab
   stood = table-stands timed m all r accepted t is
 
-  type-reads : {x : ℕ} → entry (tab .metadata .types) c ≡ ok x → byteFor 45 (record { i = t; j = 0; k = c }) m fs ≡ x ∷ []
+  type-reads : {x : ℕ} → entry (tab .metadata .types) c ≡ ok x → fieldBytes 45 (record { i = t; j = 0; k = c }) m fs ≡ x ∷ []
   type-reads {x} e =
       let below = entry-below (tab .metadata .types) c e in
       byte-reads m 45 _ fs (typeAt at (tab .metadata) c) x (stands-at (omega (arith, type-place at (tab .metadata) c (omega arith))) (type-stands (metadata-stands stood) c (omega arith) e))
@@ -145,10 +161,45 @@ cell-reads-its-bytes m all r accepted t k c x e =
     let h = bound (cellHere (tableAt true r t) (tab .0) k c) (tab .2) in
     subst (CellReads m (messageFields 4 r) t k c) (ok-same (h .2)) (here-reads true m all r accepted t k c (tab .1) (h .0) (h .1))
 
+-- ---- for a cell that is refused nothing is listed
+pub entry-none : {A : Type 0} (l : List A) (i : ℕ) {f : Fault} {p : ℕ} → entry l i ≡ no f p → length l ≤ i
+entry-none [] i e = omega arith
+entry-none (a ∷ l) zero e = absurd (no-ok (sym e))
+entry-none (a ∷ l) (suc i) e = let h = entry-none l i e in omega arith
+
+module _ (timed : Bool) (m : List ℕ) (all : Bytes m) (r : Message) (accepted : readMessage (responseLayout timed) m ≡ ok r) (t k c : ℕ) where
+  abbrev none-listed : Type 0
+  none-listed = listedFor 50 51 (record { i = t; j = k; k = c }) (messageFields (responseLayout timed) r) ≡ []
+
+  no-table : {f : Fault} {p : ℕ} → entry (tablesOf r) t ≡ no f p → none-listed
+  no-table e = in-tables timed r (omega (arith, ltb-true)) (past-list first 2 mostItems 40 (tablesOf r) t (entry-none (tablesOf r) t e) (omega arith) (λ j h. misses-table (omega arith)))
+
+  no-cell : (tab : Table) → entry (tablesOf r) t ≡ ok tab → {f : Fault} {p : ℕ} → cellHere (tableAt timed r t) tab k c ≡ no f p → none-listed
+  no-cell tab is {f} {p} e = in-response timed r t refl (omega (arith, ltb-true)) is (by-row (leb (length (tab .rows)) k) refl)
+    where
+      by-column : k < length (tab .rows) → (b : Bool) → leb (length (tab .metadata .types)) c ≡ b → Alone 50 51 (record { i = t; j = k; k = c }) [] table (first t noIndex) (tableAt timed r t) tab
+      by-column in-rows true h = let cells = entry-in (tab .rows) k in-rows in column-past (first t noIndex) (tableAt timed r t) tab k c (cells .0) (cells .1) (leb-true _ c h)
+      by-column in-rows false h = absurd (no-ok (sym e ∙ there m (table-stands timed m all r accepted t is) k c in-rows (leb-false _ c h) .is))
+
+      by-row : (b : Bool) → leb (length (tab .rows)) k ≡ b → Alone 50 51 (record { i = t; j = k; k = c }) [] table (first t noIndex) (tableAt timed r t) tab
+      by-row true h = row-past (first t noIndex) (tableAt timed r t) tab k c (leb-true _ k h)
+      by-row false h = by-column (leb-false _ k h) (leb (length (tab .metadata .types)) c) refl
+
+pub refused-cell-has-no-bytes : (m : List ℕ) → Bytes m → (r : Message) → readMessage 4 m ≡ ok r → (t k c : ℕ) {f : Fault} {p : ℕ} → askCell m t k c ≡ no f p → listedFor 50 51 (record { i = t; j = k; k = c }) (messageFields 4 r) ≡ []
+refused-cell-has-no-bytes m all r accepted t k c {f} {p} e = by-table (entry (tablesOf r) t) refl (rw accepted at e)
+  where
+    by-cell : (tab : Table) → entry (tablesOf r) t ≡ ok tab → (h : Res Here) → cellHere (tableAt true r t) tab k c ≡ h → bind h (λ h. ok (shownHere h)) ≡ no f p → none-listed true m all r accepted t k c
+    by-cell tab is (ok h) w g = absurd (no-ok (sym g))
+    by-cell tab is (no f p) w g = no-cell true m all r accepted t k c tab is w
+
+    by-table : (tab : Res Table) → entry (tablesOf r) t ≡ tab → bind tab (λ b. bind (cellHere (tableAt true r t) b k c) (λ h. ok (shownHere h))) ≡ no f p → none-listed true m all r accepted t k c
+    by-table (ok tab) is g = by-cell tab is (cellHere (tableAt true r t) tab k c) refl g
+    by-table (no f p) is g = no-table true m all r accepted t k c is
+
 -- ---- no other byte has a part in a cell's value: cells of two messages that have the same bytes listed for them, and for their columns' types, are the same value
 pub cells-alike : (m n : List ℕ) → Bytes m → Bytes n → (r s : Message) → readMessage 4 m ≡ ok r → readMessage 4 n ≡ ok s → (ix jx : Index) (x y : Cell)
     → askCell m (ix .i) (ix .j) (ix .k) ≡ ok x → askCell n (jx .i) (jx .j) (jx .k) ≡ ok y
-    → byteFor 45 (second 0 ix) m (messageFields 4 r) ≡ byteFor 45 (second 0 jx) n (messageFields 4 s) → bytesFor 50 51 ix m (messageFields 4 r) ≡ bytesFor 50 51 jx n (messageFields 4 s)
+    → fieldBytes 45 (second 0 ix) m (messageFields 4 r) ≡ fieldBytes 45 (second 0 jx) n (messageFields 4 s) → bytesFor 50 51 ix m (messageFields 4 r) ≡ bytesFor 50 51 jx n (messageFields 4 s)
     → Alike m n (startOf (listedFor 50 51 ix (messageFields 4 r))) (startOf (listedFor 50 51 jx (messageFields 4 s))) x y
 cells-alike m n all-m all-n r s e f ix jx x y p q type-bytes bytes =
     let a = cell-reads-its-bytes m all-m r e (ix .i) (ix .j) (ix .k) x p in

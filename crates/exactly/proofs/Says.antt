@@ -24,7 +24,7 @@ use Rattle.show.proofs.Kept.{Keeps, read-kept}
 use Rattle.places.specs.Stands.{Stands}
 use Rattle.places.proofs.Stands.{stands-read}
 use Rattle.places.proofs.Layouts.{one-byte}
-use Rattle.exactly.specs.Listed.{listedFor, bytesAt, startOf, bytesFor, byteFor, Says, Reads, Alike}
+use Rattle.exactly.specs.Listed.{listedFor, bytesAt, startOf, bytesFor, fieldBytes, Says, Reads, Alike}
 use Rattle.exactly.proofs.Alone.{Alone, listed-both}
 
 -- ---- a value's entries: all are listed for it, and the first stands at its place
@@ -100,13 +100,13 @@ tiled-bytes m (x ∷ es) o n t =
     rw (t .0, others, ← drop-drop (x .size) o m, ← take-add (x .size) rest (drop o m), n-is)
 
 -- ---- a number that stands, and is listed alone
-pub number-reads : (m : List ℕ) (k field : ℕ) (ix : Index) (fs : List Entry) (at n : ℕ) → Stands (number k field) m at n → listedFor field field ix fs ≡ number k field .fields ix at n → byteFor field ix m fs ≡ numBytes k n
+pub number-reads : (m : List ℕ) (k field : ℕ) (ix : Index) (fs : List Entry) (at n : ℕ) → Stands (number k field) m at n → listedFor field field ix fs ≡ number k field .fields ix at n → fieldBytes field ix m fs ≡ numBytes k n
 unfolding number
 number-reads m k field ix fs at n d w =
     ap (bytesAt m) w ∙ tiled-bytes m (piece k at field ix) at k (tiles-piece k at field ix)
     ∙ rw (← d .whole, drop-at (d .before) (numBytes k n ++ d .after) at (d .start), take-at (numBytes k n) (d .after) k (length-numBytes k n))
 
-pub byte-reads : (m : List ℕ) (field : ℕ) (ix : Index) (fs : List Entry) (at b : ℕ) → Stands (number 1 field) m at b → listedFor field field ix fs ≡ number 1 field .fields ix at b → byteFor field ix m fs ≡ b ∷ []
+pub byte-reads : (m : List ℕ) (field : ℕ) (ix : Index) (fs : List Entry) (at b : ℕ) → Stands (number 1 field) m at b → listedFor field field ix fs ≡ number 1 field .fields ix at b → fieldBytes field ix m fs ≡ b ∷ []
 unfolding number
 byte-reads m field ix fs at b d w = number-reads m 1 field ix fs at b d w ∙ one-byte b (d .good)
 

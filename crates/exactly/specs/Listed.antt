@@ -37,8 +37,8 @@ startOf (e ∷ es) = e .at
 abbrev pub bytesFor : ℕ → ℕ → Index → List ℕ → List Entry → List ℕ
 bytesFor l b ix m fs = bytesAt m (listedFor l b ix fs)
 
-abbrev pub byteFor : ℕ → Index → List ℕ → List Entry → List ℕ
-byteFor n = bytesFor n n
+abbrev pub fieldBytes : ℕ → Index → List ℕ → List Entry → List ℕ
+fieldBytes n = bytesFor n n
 
 -- The bytes bs say x, which shows a value that stands at a place of m; the fields of such a value's length and its body are l and b.
 pub record Says (l b : ℕ) (m bs : List ℕ) (at : ℕ) (x : Cell) : Type 0 where
@@ -57,7 +57,7 @@ pub record Reads (l b : ℕ) (ix : Index) (m : List ℕ) (fs : List Entry) (x : 
 
 -- the cell at table t, row k and column c; its type is its column's
 pub record CellReads (m : List ℕ) (fs : List Entry) (t k c : ℕ) (x : Cell) : Type 0 where
-  pub type-byte : byteFor 45 (record { i = t; j = 0; k = c }) m fs ≡ typeOf x ∷ []
+  pub type-byte : fieldBytes 45 (record { i = t; j = 0; k = c }) m fs ≡ typeOf x ∷ []
   pub cell : Reads 50 51 (record { i = t; j = k; k = c }) m fs x
 
 -- parameter p
@@ -74,10 +74,10 @@ givenType (Given.list t n) = tArray
 abbrev pub ArgumentReads : List ℕ → List Entry → Index → Given → Type 0
 ArgumentReads m fs ix Given.nothing = (listedFor 25 26 ix fs ≡ []) × (listedFor 27 28 ix fs ≡ [])
 ArgumentReads m fs ix (Given.value x) = Reads 27 28 ix m fs x
-ArgumentReads m fs ix (Given.list t n) = (byteFor 25 ix m fs ≡ t ∷ []) × (byteFor 26 ix m fs ≡ numBytes (pick (eqb t tTinyint) 4 2) n)
+ArgumentReads m fs ix (Given.list t n) = (fieldBytes 25 ix m fs ≡ t ∷ []) × (fieldBytes 26 ix m fs ≡ numBytes (pick (eqb t tTinyint) 4 2) n)
 
 pub record ParameterReads (m : List ℕ) (fs : List Entry) (p : ℕ) (g : Given) : Type 0 where
-  pub type-byte : byteFor 24 (ofParameter p) m fs ≡ givenType g ∷ []
+  pub type-byte : fieldBytes 24 (ofParameter p) m fs ≡ givenType g ∷ []
   pub argument : ArgumentReads m fs (ofParameter p) g
 
 -- a byte array is listed as one body, of which the element at e is a byte
@@ -87,7 +87,7 @@ pub record InBody (m : List ℕ) (fs : List Entry) (ix : Index) (e : ℕ) (x : C
 
 -- element e of the array that parameter p is; one that is no byte is listed by itself
 pub record ElementReads (m : List ℕ) (fs : List Entry) (p e : ℕ) (x : Cell) : Type 0 where
-  pub type-byte : byteFor 25 (ofParameter p) m fs ≡ typeOf x ∷ []
+  pub type-byte : fieldBytes 25 (ofParameter p) m fs ≡ typeOf x ∷ []
   pub in-body : typeOf x ≡ tTinyint → InBody m fs (ofParameter p) e x
   pub by-itself : (typeOf x ≡ tTinyint → ⊥) → Reads 27 28 (record { i = p; j = e; k = 0 }) m fs x
 
