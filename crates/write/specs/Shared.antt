@@ -22,10 +22,6 @@ verdictOf (Bad r) = bad (r .fault) (r .place)
 abbrev pub emptyFault : ℕ → ℕ → Bool → List ℕ → Verdict
 emptyFault at t null bs = pick (eqb t tGeography) (pick null fine (placed at (notEmpty bs))) fine
 
--- the greatest lower 64 bits of a number of so many bytes
-abbrev pub mostLower : ℕ → ℕ
-mostLower width = pick (eqb width 1) 0xff (pick (eqb width 2) 0xffff (pick (eqb width 4) 0xffffffff 0xffffffffffffffff))
-
 -- how many types are seen where a state has so many columns: as many as `typesIn` gives
 abbrev pub countIn : ℕ → ℕ
 countIn n = pick (leb n mostColumns) n 1
