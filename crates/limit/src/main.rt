@@ -8,8 +8,12 @@ use libc::STDOUT_FILENO;
 use query::CellAnswer;
 use query::TableAnswer;
 use show::Cell;
+ghost use mathlib.Core.Path.{_≡_};
 ghost use Prim.Native.Nat.{_+_, _≤_};
 ghost use lib.ListN.{length};
+ghost use Rattle.format.specs.Result.{toldAnswer};
+ghost use Rattle.cards.specs.Answers.{askOpen};
+ghost use Rattle.query.specs.Answers.{toldTable, askTable, askPosition, toldCell, askCell};
 
 // The engine that is asked for.
 const ENGINE: i32 = 2;
@@ -64,7 +68,7 @@ fn open_next(card: &[u8]) -> bool {
 }
 
 fn open(reply: &[u8], card: &[u8]) {
-    let opened = cards::open_card(reply, 0, card);
+    let opened = opened_by(reply, card);
     match opened {
         Answer::Is(column) => print_limit(reply, column),
         Answer::No(refusal) => {
@@ -77,7 +81,7 @@ fn open(reply: &[u8], card: &[u8]) {
 // Prints the engine's limit, and whose bytes it was read from.
 fn print_limit(reply: &[u8], column: usize) {
     let row = engine_row(reply);
-    let answer = query::cell(reply, 0, row, column);
+    let answer = cell_of(reply, row, column);
     let CellAnswer::Is(cell) = answer else {
         io::write_all(STDOUT_FILENO, b"no such engine\n");
         return;
@@ -94,7 +98,7 @@ fn print_limit(reply: &[u8], column: usize) {
 // The row of the engine, or how many rows there are if none is its.
 fn engine_row(reply: &[u8]) -> usize {
     let rows = row_count(reply);
-    let found = query::find_column(reply, 0, b"ENGINE_ID");
+    let found = find_in(reply, b"ENGINE_ID");
     match found {
         Answer::Is(column) => first_row(reply, column, rows),
         Answer::No(_) => rows,
@@ -104,7 +108,7 @@ fn engine_row(reply: &[u8]) -> usize {
 fn first_row(reply: &[u8], column: usize, rows: usize) -> usize {
     let mut row = 0;
     while row < rows {
-        if is_engine(query::cell(reply, 0, row, column)) {
+        if is_engine(cell_of(reply, row, column)) {
             return row;
         }
         row += 1;
@@ -113,7 +117,7 @@ fn first_row(reply: &[u8], column: usize, rows: usize) -> usize {
 }
 
 fn row_count(reply: &[u8]) -> usize {
-    let answer = query::table(reply, 0);
+    let answer = layout_of(reply);
     match answer {
         TableAnswer::Is(layout) => layout.rows,
         TableAnswer::No(_) => 0,
@@ -128,6 +132,32 @@ fn is_engine(answer: CellAnswer) -> bool {
         Cell::Integer(n) => n == ENGINE,
         _ => false,
     }
+}
+
+// ---- The questions to a reply's table, each by a reader over it. These four are all that hold one: no other function here needs a walk by hand.
+
+fn layout_of(reply: &[u8]) -> TableAnswer
+    ensures { λ r. ⌜ toldTable r ≡ askTable (now (reply .entry)) 0 ⌝ }
+{
+    held::layout(held::reader(reply, 0))
+}
+
+fn find_in(reply: &[u8], name: &[u8]) -> Answer
+    ensures { λ r. ⌜ toldAnswer r ≡ askPosition (now (reply .entry)) 0 (now (name .entry)) ⌝ }
+{
+    held::find(held::reader(reply, 0), name)
+}
+
+fn opened_by(reply: &[u8], card: &[u8]) -> Answer
+    ensures { λ r. ⌜ toldAnswer r ≡ askOpen (now (reply .entry)) 0 (now (card .entry)) ⌝ }
+{
+    held::opened(held::reader(reply, 0), card)
+}
+
+fn cell_of(reply: &[u8], row: usize, column: usize) -> CellAnswer
+    ensures { λ r. ⌜ toldCell r ≡ askCell (now (reply .entry)) 0 row column ⌝ }
+{
+    held::cell(held::reader(reply, 0), row, column)
 }
 
 // Looks a cell up in the field list, and prints where its bytes stand and who owns the first of them.

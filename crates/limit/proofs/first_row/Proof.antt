@@ -13,8 +13,8 @@ abbrev μ-loop : tie.MeasureT-loop
 loop-holds : tie.Need-loop-holds Inv-loop μ-loop
 loop-holds c = search needs
 
-cell-requires : tie.Need-cell-requires Inv-loop μ-loop
-cell-requires c κs = search needs
+cell-of-requires : tie.Need-cell-of-requires Inv-loop μ-loop
+cell-of-requires c κs = search needs
 
 is-engine-requires : tie.Need-is-engine-requires Inv-loop μ-loop
 is-engine-requires c κs = search needs
@@ -41,7 +41,7 @@ first-row-spec =
     Inv-loop
     μ-loop
     loop-holds
-    cell-requires
+    cell-of-requires
     is-engine-requires
     returns
     add-row
