@@ -51,7 +51,7 @@ meets whole s st types b l m = m
 left-length : (h : Loan) (r : Res ℕ) (new types : List ℕ) → length (left h r new types) ≡ length types
 left-length nothing r new types = refl
 left-length look r new types = refl
-left-length whole (ok n) new types = length-sets types 0 new
+left-length whole (ok n) new types = length-sets types _ new
 left-length whole (no f p) new types = refl
 
 -- a step that is accepted in a sound table has no more columns than a table may have
