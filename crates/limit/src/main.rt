@@ -134,7 +134,8 @@ fn is_engine(answer: CellAnswer) -> bool {
     }
 }
 
-// ---- The questions to a reply's table, each by a reader over it. These four are all that hold one: no other function here needs a walk by hand.
+// ---- The questions to a reply's table, each by a reader over it. These four alone hold one: Rattle makes no proof of such a function by itself, so
+// each does nothing else, and is proved by a walk by hand.
 
 fn layout_of(reply: &[u8]) -> TableAnswer
     ensures { λ r. ⌜ toldTable r ≡ askTable (now (reply .entry)) 0 ⌝ }
