@@ -18,9 +18,11 @@ use Rattle.steps.specs.Spells.{AllHeld}
 use Rattle.steps.specs.Writings.{Writing, requestCall, responseCall, callSteps, replySteps, kindOf, written, HeldWriting, writingOf, overlaid}
 use Rattle.steps.proofs.Plans.{carry-ok}
 use Rattle.steps.proofs.Writes.{good-writes}
+use Rattle.steps.proofs.Typed.{good-held}
 use Rattle.steps.proofs.RoundTrip.{read-written}
-use Rattle.write.specs.Shown.{zero, seen, shownAnswer, Told}
-use Rattle.write.specs.Calls.{Left, Chain, Calls, CallsTo, Finished, Wrote}
+use Rattle.write.specs.declared.State.{State as Code}
+use Rattle.write.specs.Shown.{zero, seen, shownAnswer, came, typesAfter, Told}
+use Rattle.write.specs.Calls.{Left, Loan, nothing, look, whole, loan, Meets, Chain, Calls, CallsTo, Finished, Wrote}
 use Rattle.write.proofs.Chain.{RunsTo, first-ok, run→chain, chain→run}
 
 -- a login's answer is that of its definition
@@ -46,6 +48,27 @@ calls→written (requestCall version h service user hash) types b long n m c e =
 calls→written (responseCall version result w) types b long n m c e = accepted→told (loginResponse version result w b) (c .1) (c .2) n m (c .3) e
 calls→written (callSteps version procedure client ss) types b long n m c e = chain→run (beginCall version procedure client) ss zero types b n m long (c .1) (c .2) (c .3) e
 calls→written (replySteps version o ss) types b long n m c e = chain→run (beginReply version o) ss zero types b n m long (c .1) (c .2) (c .3) e
+
+-- ---- there are such calls: a function answers every input, by its contract, and what a good message spells is of the functions' types
+called : (h : Loan) (s : Step) (st : Code) (types b : List ℕ) → (l : Left) × Meets h s st types b l
+called nothing s st types b = let o = step s (seen st []) b in (record { came = came st o; types = types; buffer = o .buffer }, ((refl, refl), refl))
+called look s st types b = let o = step s (seen st types) b in (record { came = came st o; types = types; buffer = o .buffer }, ((refl, refl), refl))
+called whole s st types b = let o = step s (seen st []) b in (record { came = came st o; types = typesAfter (o .answer) (o .state .outer .types) types; buffer = o .buffer }, ((refl, refl), refl))
+
+chained : (ss : List Step) → AllHeld ss → (l : Left) → Chain ss l
+chained [] h l = tt
+chained (s ∷ ss) h l = let n = called (loan s) s (l .came .state) (l .types) (l .buffer) in (h .0, n .0, n .1, chained ss (h .1) (n .0))
+
+calls-of : (w : Writing) → HeldWriting w → (types b : List ℕ) → Calls w types b
+calls-of (requestCall version h service user hash) k types b = let o = loginRequest version h service user hash b in (k, shownAnswer (o .answer), o .buffer, (refl, refl))
+calls-of (responseCall version result w) k types b = let o = loginResponse version result w b in (k, shownAnswer (o .answer), o .buffer, (refl, refl))
+calls-of (callSteps version procedure client ss) k types b =
+    let n = called nothing (beginCall version procedure client) zero types b in
+    ((k .0, k .1, k .2, tt), n .0, n .1, chained ss (k .3) (n .0))
+calls-of (replySteps version o ss) k types b = let n = called nothing (beginReply version o) zero types b in ((k .0, k .1, tt), n .0, n .1, chained ss (k .2) (n .0))
+
+pub spelled-calls : (kind : ℕ) (r : Message) → isKind kind ≡ true → GoodMessage kind r → (types b : List ℕ) → Calls (writingOf r) types b
+spelled-calls kind r known g types b = calls-of (writingOf r) (good-held kind r known g) types b
 
 -- the calls that a good message spells, on a buffer with room for it: whatever they answer by their contracts, each is accepted, the last answers the message's length,
 -- and the message stands in front of the buffer, with all behind it as it was. The memory for types is an array of as many bytes as a table may have columns.
