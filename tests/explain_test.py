@@ -1,109 +1,286 @@
-"""Tests of ./explain. The listing of the sample is stored (explain/engines.list), so that they need no built program;
-where target/bin/list is built, the stored listing is held to it. Run: python3 tests/explain_test.py"""
+"""Tests of ./explain and ./list. The listing of the sample is stored (explain/engines.list), so that most need no built program; where the kit is, the programs are
+built and asked too. Run: python3 tests/explain_test.py"""
 
+import array
 import contextlib
 import io
+import json
 import os
 import pathlib
+import re
+import shutil
+import signal
 import struct
 import subprocess
 import sys
 import tempfile
+import time
 import unittest
 from unittest import mock
 
 sys.dont_write_bytecode = True
 ROOT = pathlib.Path(__file__).resolve().parents[1]
-sys.path.insert(0, str(ROOT / "tools"))
+sys.path[:0] = [str(ROOT / "tools"), str(ROOT / "tests" / "second")]
 
-from explain import lines, listing, main, page, paper, values
+import encoder
+import generate
+import harbour
+import reader
+import wire
+from explain import building, cells, command, lines, listing, main, paper, records, refusals, values
 from explain.fields import Explained
 
-SAMPLE = ROOT / "tests" / "explain" / "engines.reply"
 STORED = ROOT / "tests" / "explain"
+SAMPLE = STORED / "engines.reply"
 MESSAGE = SAMPLE.read_bytes()
 LISTED = (STORED / "engines.list").read_text()
+ENGINES = ROOT / "samples" / "4-engines.bin"
 
 
 def sample():
-    return Explained(MESSAGE, listing.parsed(LISTED)[1])
+    return Explained(MESSAGE, listing.from_text(LISTED)[1])
 
 
 def explained(hex_bytes, *entries):
     return Explained(bytes.fromhex(hex_bytes), list(entries))
 
 
+def read_by_second(message, kind=wire.REPLY):
+    return Explained(message, reader.read(kind, message)[1])
+
+
+def reply(types, names, rows):
+    return encoder.encode(wire.REPLY, harbour.reply({"status": 0, "types": types, "names": names, "rows": rows}))
+
+
+def chosen(message, *words):
+    return cells.Chosen(read_by_second(message), command.Options(["4", "x", *words]))
+
+
 class Sample(unittest.TestCase):
     def test_lines(self):
-        self.assertEqual("\n".join(lines.field_lines(sample().fields)) + "\n", (STORED / "engines.txt").read_text())
+        self.assertEqual("\n".join(lines.field_lines(sample())) + "\n", (STORED / "engines.txt").read_text())
 
     def test_every_byte_has_the_line_of_its_field(self):
         shown = sample()
         for offset in range(len(MESSAGE)):
             field = shown.owner(offset)
             self.assertTrue(field.offset <= offset < field.end)
+        self.assertIsNone(shown.owner(len(MESSAGE)))
 
     def test_byte(self):
         first, line = lines.byte_lines(sample(), 157)
         self.assertEqual(first, "byte 157 (hex 8b, decimal 139) is number 14 of the 16 bytes of:")
         self.assertEqual(line, "144  16  00 00 00 00 .. 8b d8 00  cell  table 0, row 0, column 2 THROTTLE_LIMIT (decimal)  5.500000000000")
 
-    def test_cell(self):
-        self.assertEqual(lines.cell_lines(sample(), 0, 0, 1)[:4], [
-            'table 0, row 0, column 1 MODEL (string) is "Honda BF20 · short shaft"',
-            "read from bytes 115 to 143:",
-            "115   4  00 00 00 19              cell length         table 0, row 0, column 1 MODEL (string)  25 bytes",
-            '119  25  48 6f 6e 64 .. 61 66 74  cell                table 0, row 0, column 1 MODEL (string)  "Honda BF20 · short shaft"',
-        ])
+    def test_a_long_list_comes_in_blocks(self):
+        with mock.patch.object(lines, "BLOCK", 10):
+            told = list(lines.field_lines(sample()))
+        self.assertEqual([line.split() for line in told], [line.split() for line in (STORED / "engines.txt").read_text().splitlines()])
+
+    def test_json(self):
+        told = [json.loads(line) for line in records.field_records(sample())]
+        self.assertEqual(b"".join(bytes.fromhex(record["bytes"]) for record in told), MESSAGE)
+        self.assertEqual(told[34], {"offset": 144, "size": 16, "field": 51, "indices": [0, 0, 2], "name": "cell", "bytes": "00000000000000000000050091 8bd800".replace(" ", ""),
+                                    "where": "table 0, row 0, column 2 THROTTLE_LIMIT (decimal)", "value": "5.500000000000"})
+
+
+class InsurersQuestion(unittest.TestCase):
+    """Which bytes set the limit of engine 2?"""
+
+    def setUp(self):
+        self.message = ENGINES.read_bytes()
+
+    def asked(self, *words):
+        return lines.cell_lines(chosen(self.message, "--cell", "0", *words))
+
+    def test_by_engine(self):
+        told = self.asked("--where", "ENGINE_ID=2", "--column", "THROTTLE_LIMIT")
+        self.assertEqual(told[:3], ["table 0, row 1, column 3 THROTTLE_LIMIT (decimal) is 0.800000000000",
+                                    "the number or bytes behind it: 800000000000 x 10^-12", "row 1 is the only one of 4 rows whose ENGINE_ID is 2"])
+        self.assertIn("The bytes that are the value, bytes 238 to 253:", told)
+        self.assertTrue(any(line.startswith("238  16  00 00 00 00 00 00 00 00 00 00 00 ba 43 b7 40 00  cell") for line in told))
+        self.assertTrue(any("`cells-alike`" in line for line in told))
+
+    def test_the_promises_it_names_are_there(self):
+        promises = (ROOT / "docs" / "PROMISES.md").read_text() + (ROOT / "crates" / "exactly" / "proofs" / "Exactly.antt").read_text()
+        for name in ("cells-alike", "cell-reads-its-bytes"):
+            self.assertIn("`%s`" % name, lines.PROMISE)
+            self.assertIn("pub %s :" % name, promises)
+
+    def test_the_three_groups(self):
+        groups = chosen(self.message, "--cell", "0", "--where", "ENGINE_ID=2", "--column", "THROTTLE_LIMIT").cell.groups()
+        self.assertEqual([(field.offset, field.size) for field in groups["value"]], [(238, 16)])
+        self.assertEqual([field.offset for field in groups["name"]], [39, 42, 46, 50, 79, 83, 212])
+        self.assertEqual([field.offset for field in groups["place"]], [0, 13, 15, 26, 28, 32, 37, 40, 41, 59, 69, 97, 110, 119, 131, 135, 208, 216, 225])
+
+    def test_the_groups_fix_the_cell(self):
+        """A byte outside them can be changed, as long as the message is accepted, and the cell stays where it is and what it is."""
+        cell = chosen(self.message, "--cell", "0", "1", "THROTTLE_LIMIT").cell
+        listed = {at for fields in cell.groups().values() for field in fields for at in range(field.offset, field.end)}
+        tried = 0
+        for at in set(range(len(self.message))) - listed:
+            changed = bytearray(self.message)
+            changed[at] ^= 1
+            with contextlib.suppress(reader.Refused):
+                other = cells.Cell(read_by_second(bytes(changed)), 0, 1, 3)
+                self.assertEqual((other.start, other.raw), (cell.start, cell.raw))
+                tried += 1
+        self.assertGreater(tried, 200)
+
+    def test_by_number_and_name(self):
+        first = self.asked("1", "THROTTLE_LIMIT")[0]
+        for words in (["1", "3"], ["--row", "1", "--column", "3"], ["--row=1", "--column=THROTTLE_LIMIT"]):
+            self.assertEqual(self.asked(*words)[0], first)
+
+    def test_keys_of_each_type(self):
+        for where, row in (("ENGINE_ID=9", 3), ("VESSEL=Ærø", 2), ("THROTTLE_LIMIT=0.8", 1), ("THROTTLE_LIMIT=.85", 0), ("COOLANT_C=76", 3), ("SERVICED=0", 2)):
+            self.assertEqual(chosen(self.message, "--cell", "0", "--where", where, "--column", "0").cell.row, row)
+
+    def test_several_rows(self):
+        self.assertIn("2 rows have the VESSEL Bodil: this is the first of them; the others are 1", self.asked("--where", "VESSEL=Bodil", "--column", "0"))
+
+    def test_not_there(self):
+        for words, told in ((["--where", "ENGINE_ID=3", "--column", "0"], 'no row of table 0 has ENGINE_ID "3"; it has 4 rows'),
+                            (["--where", "ENGINE_ID=x", "--column", "0"], '"x" is no value that a column of type integer can be asked for'),
+                            (["--where", "BERTH=0", "--column", "0"], '"0" is no value that a column of type point can be asked for'),
+                            (["--where", "ENGINE=", "--column", "0"], 'no row of table 0 has ENGINE ""; it has 4 rows'),
+                            (["4", "0"], "there is no row 4: table 0 has 4 rows"),
+                            (["0", "7"], "table 0 has no column 7; it has ENGINE_ID, VESSEL, ENGINE, THROTTLE_LIMIT, COOLANT_C, BERTH, SERVICED")):
+            with self.assertRaises(cells.NotThere) as stopped:
+                self.asked(*words)
+            self.assertEqual(str(stopped.exception), told)
+        with self.assertRaisesRegex(cells.NotThere, "there is no table 1: the message has 1 table"):
+            chosen(self.message, "--cell", "1", "0", "X")
+
+    def test_two_columns_of_one_name(self):
+        message = reply([wire.INTEGER] * 3, [b"A", b"LIMIT", b"LIMIT"], [[1, 2, 3]])
+        first, second = (chosen(message, "--cell", "0", "0", word) for word in ("LIMIT", "2"))
+        self.assertEqual((first.cell.column, second.cell.column), (1, 2))
+        self.assertIn("2 columns have this name, 1 and 2: this is the first, as the search for a name takes it", first.notes)
+        self.assertIn("2 columns have this name, 1 and 2: this is the one asked for by its number", second.notes)
+
+    def test_odd_names(self):
+        message = reply([wire.INTEGER] * 4, [b"-A", b"--column", b"A=B", b"7"], [[1, 2, 3, 4]])
+        for words, column in ((["0", "-A"], 0), (["--row", "0", "--column", "--column"], 1), (["--row", "0", "--column=--column"], 1), (["0", "7"], 3),
+                              (["--where", "A=B=3", "--column", "-A"], 0)):
+            self.assertEqual(chosen(message, "--cell", "0", *words).cell.column, column)
 
     def test_null_and_empty_cells_differ(self):
-        self.assertEqual(lines.cell_lines(sample(), 0, 1, 1)[0], "table 0, row 1, column 1 MODEL (string) is null")
-        self.assertEqual(lines.cell_lines(sample(), 0, 2, 1)[0], 'table 0, row 2, column 1 MODEL (string) is ""')
+        told = [lines.cell_lines(chosen(MESSAGE, "--cell", "0", str(row), "MODEL")) for row in (1, 2)]
+        self.assertEqual(told[0][:2], ["table 0, row 1, column 1 MODEL (string) is null", "the number or bytes behind it: no bytes: the length says null"])
+        self.assertEqual(told[1][:2], ['table 0, row 2, column 1 MODEL (string) is ""', "the number or bytes behind it: 0 bytes"])
 
-    def test_the_cell_names_its_column_too(self):
-        answer = lines.cell_lines(sample(), 0, 0, 2)
-        self.assertEqual(answer[3], "by the column that stands at:")
-        self.assertEqual([line.split()[0] for line in answer[4:]], ["41", "66", "70"])
+    def test_no_byte_is_left_out(self):
+        message = reply([wire.STRING], [b"NOTE"], [[bytes(range(40))]])
+        told = lines.cell_lines(chosen(message, "--cell", "0", "0", "NOTE"))
+        start = told.index(next(line for line in told if line.startswith("The bytes that are the value")))
+        shown = re.findall(r"(?<=  )[0-9a-f]{2}(?: [0-9a-f]{2})+", "\n".join(told[start + 1:start + 5]))
+        self.assertEqual(bytes.fromhex("".join(shown)), (40).to_bytes(4, "big") + bytes(range(40)))
+
+    def test_a_long_way_is_shortened(self):
+        message = reply([wire.INTEGER], [b"N"], [[n] for n in range(100)])
+        told = lines.cell_lines(chosen(message, "--cell", "0", "--where", "N=90", "--column", "N"))
+        self.assertTrue(any("85 more of the same" in line for line in told))
+        rows = [json.loads(line) for line in records.cell_records(chosen(message, "--cell", "0", "90", "N"))]
+        self.assertEqual(sum(record.get("name") == "row length" for record in rows), 91)
 
 
-class Asked(unittest.TestCase):
-    def test_answers_that_are_not_there(self):
-        self.assertEqual(main.one_byte(sample(), 288), (1, ["there is no byte 288: the message has 288 bytes"]))
-        self.assertEqual(main.one_cell(sample(), 1, 0, b"MODEL"), (1, ["there is no table 1"]))
-        self.assertEqual(main.one_cell(sample(), 0, 3, b"MODEL"), (1, ["there is no row 3: table 0 has 3 rows"]))
-        self.assertEqual(main.one_cell(sample(), 0, 0, b"model"), (1, ["table 0 has no column of that name"]))
+class Command(unittest.TestCase):
+    def test_words(self):
+        options = command.Options(["--byte", "7", "4", "--", "-file"])
+        self.assertEqual((options.kind, options.file, options.byte), (4, "-file", 7))
+        options = command.Options(["file", "--json"])
+        self.assertEqual((options.kind, options.file, options.json), (None, "file", True))
+        self.assertEqual(command.Options(["--kind=2", "-"]).file, "-")
 
     def test_bad_words(self):
-        for words in (["5", "x"], ["4"], ["4", "x", "--byte", "-1"], ["4", "x", "--cell", "0", "a", "b"]):
-            with self.assertRaises(SystemExit) as stopped, contextlib.redirect_stderr(io.StringIO()):
-                main.arguments(words)
-            self.assertEqual(stopped.exception.code, 2)
+        bad = ("5 x", "4", "x y z", "04 x", "4 x --byte -1", "4 x --byte 1_0", "4 x --byte", "4 x --cell", "4 x --cell 0", "4 x --cell 0 a b", "4 x --cell 0 --row 1",
+               "4 x --cell 0 --row 1 --where A=1 --column B", "4 x --column B", "4 x --cell 0 --where A --column B", "4 x --byte 1 --cell 0 0 A", "4 x --json --html y",
+               "--kind 4 4 x", "4 x --what", "")
+        for words in bad:
+            with self.assertRaises(command.Usage, msg=words):
+                options = command.Options(words.split())
+                if options.kind == 4 and words == "4":
+                    raise AssertionError("a lone word is a file's name")
+                if words == "4":
+                    raise command.Usage
+
+
+def damaged(message, at, *new):
+    return message[:at] + bytes(new) + message[at + len(new):]
 
 
 class Refused(unittest.TestCase):
-    def test_words_and_mark(self):
-        self.assertEqual(lines.refusal_lines((6, 5), bytes.fromhex("000000020017")), [
-            "refused 6 at 5: the wire type is unknown or not permitted there, or there is no such kind",
-            "the place is: that byte; 0 for a kind",
-            "",
-            " 0  00 00 00 02 00 17                                ......",
-            "                   ^^ 5",
-        ])
+    """The second reader's refusal stands in for the library's, which tests/compare holds it against."""
 
-    def test_a_place_past_the_end(self):
-        answer = lines.refusal_lines((1, 6), bytes.fromhex("000000020000"))
-        self.assertIn("the message ends before it: it has 6 bytes", answer)
-        self.assertEqual(answer[-1], "                      ^^ 6")
+    def words(self, message, kind=wire.REPLY):
+        with self.assertRaises(reader.Refused) as stopped:
+            reader.read(kind, message)
+        no = stopped.exception
+        return refusals.Refusal(kind, message, (no.number, no.place)).words
 
-    def test_each_number_of_reading_has_words(self):
-        for number in range(1, 8):
-            self.assertIn(number, paper.REFUSALS)
+    def test_what_the_bytes_say(self):
+        m = ENGINES.read_bytes()
+        for message, told in (
+                (m[:200], ["The field is: message length. Its bytes are 00 00 01 a8: 424 bytes.",
+                           "It says 424 bytes, and 196 are there, up to the end of the message at 200: 228 bytes are missing."]),
+                (m + m, ["The message's length says 424, so it ends at 428, and the file has 428 bytes more.",
+                         "Another message seems to begin at 428: its length says 424, and so many bytes are there."]),
+                (m + b"\0\0\0\7", ["The message's length says 424, so it ends at 428, and the file has 4 bytes more."]),
+                (m[:2], ["The field is: message length, at 0; the message has 2 bytes.", "It would have 4 bytes, and 2 are there, up to the end of the message at 2."]),
+                (damaged(m, 0, 0, 0, 0, 0), ["The field is: message length. Its bytes are 00 00 00 00: 0.", "A message has at least its version byte, so its length isn't 0."]),
+                (damaged(m, 4, 2), ["The field is: version. Its bytes are 02: 2.", "It is 0 or 1, and this one is 2."]),
+                (damaged(m, 13, 0x21), ["The field is: flags. Its bytes are 21: 33: status string.",
+                                        "Only the bits 32 (status string), 64 (exception), 128 (application string) have a meaning; 1 must not be set."]),
+                (damaged(m, 28, 0, 0, 1, 0x8d), ["The field is: table length, table 0. Its bytes are 00 00 01 8d: 397 bytes.",
+                                                 "It says 397 bytes, and 396 are there, up to the end of the message at 428: 1 byte is missing."]),
+                (damaged(m, 37, 0, 65), ["The field is: column count, table 0. Its bytes are 00 41: 65.", "It says 65, and the limit is 64."]),
+                (damaged(m, 41, 1), ["The field is: column type, table 0, column 2 (null). Its bytes are 01: 1: null.", "A column or an element of an array can't be null."]),
+                (damaged(m, 84, 0xc3), ['The field is: column name, table 0, column 3 "T\\xc3ROTTLE_LIMIT" (decimal). Its bytes are 54 c3 52 4f .. 4d 49 54: "T\\xc3ROTTLE_LIMIT".',
+                                        "A column's name has bytes from 0 to 127, and this one, number 2 of 14, is 195."]),
+                (damaged(m, 131, 0, 0, 0, 5), ["The field is: row length, table 0, row 4, at 428; the message has 428 bytes.",
+                                               "It would have 4 bytes, and 0 are there, up to the end of table 0 at 428.",
+                                               "The row count, at 131, says 5, and this is number 5 of them."]),
+                (damaged(m, 208, 0, 0, 0, 75), ["The row length of table 0, row 1, at 208, says 75, so its room ends at 287, and 1 byte is left in it after its last field."])):
+            self.assertEqual(self.words(message)[1:], told)
 
-    def test_a_message_too_long_for_the_listing(self):
-        self.assertEqual(lines.refusal_lines((3, 0), bytes(65_537)), ["not looked at: the message has 65537 bytes, and the listing takes at most 65536"])
+    def test_the_fields_before_are_shown(self):
+        m = damaged(ENGINES.read_bytes(), 41, 7)
+        told = lines.refusal_lines(refusals.Refusal(wire.REPLY, m, (6, 41)))
+        self.assertTrue(told[-8].startswith("41  1  07") and told[-3].strip() == "^^ 41", told)
 
-    def test_the_listing_says_so(self):
-        self.assertEqual(listing.parsed("refused 4 6\n"), ((4, 6), []))
+    def test_a_reader_that_disagrees_is_not_followed(self):
+        refused = refusals.Refusal(wire.REPLY, ENGINES.read_bytes(), (4, 5))
+        self.assertEqual(len(refused.explained), 0)
+        self.assertIn("one of the two is wrong", refused.words[-1])
+
+    def test_another_kind(self):
+        refused = refusals.Refusal(wire.LOGIN_REPLY, ENGINES.read_bytes(), (3, 30), [wire.REPLY])
+        self.assertEqual(refused.words[-1], "As 4, invocation response, the same bytes are accepted.")
+
+    def test_every_made_up_refusal_has_words(self):
+        """And the fields before it stand side by side from byte 0, up to the place or past it."""
+        numbers = set()
+        for kind, message in generate.messages(3000, 11):
+            try:
+                reader.read(kind, message)
+            except reader.Refused as no:
+                if kind not in wire.KINDS:
+                    continue
+                refused = refusals.Refusal(kind, message, (no.number, no.place))
+                numbers.add(no.number)
+                self.assertGreaterEqual(len(refused.words), 2)
+                list(lines.refusal_lines(refused))
+                end = 0
+                for offset, size, *_ in refused.explained.entries():
+                    self.assertEqual(offset, end)
+                    end += size
+                self.assertTrue(end >= no.place or refused.goes_on())
+        self.assertEqual(numbers, set(range(1, 8)))
+
+    def test_a_place_past_the_end_is_marked(self):
+        self.assertEqual(lines.around(bytes.fromhex("000000020000"), 6)[-1], "                      ^^ 6")
 
 
 class Values(unittest.TestCase):
@@ -144,6 +321,11 @@ class Values(unittest.TestCase):
         self.assertEqual(values.value_text(3, b"\x80"), "-128")
         self.assertEqual(values.value_text(6, b"\xff" * 8), "-1")
 
+    def test_what_stands_behind_a_value(self):
+        for wire_type, raw, told in ((22, (800_000_000_000).to_bytes(16, "big"), "800000000000 x 10^-12"), (3, b"\xff", "-1"), (8, b"\0" * 8, "the bits 0x0000000000000000"),
+                                     (11, b"\0" * 8, "0 microseconds since 1970-01-01 00:00 UTC"), (9, b"abc", "3 bytes")):
+            self.assertEqual(values.raw_text(wire_type, raw), told)
+
     def test_flags(self):
         self.assertEqual(values.flags(0), "0: none")
         self.assertEqual(values.flags(0xe0), "224: status string, exception, application string")
@@ -156,7 +338,7 @@ class OtherKinds(unittest.TestCase):
                           (0, 1, 24, 0, 0, 0), (1, 1, 25, 0, 0, 0), (2, 2, 26, 0, 0, 0), (4, 4, 27, 0, 0, 0), (8, 1, 28, 0, 0, 0), (9, 4, 27, 0, 1, 0),
                           (13, 1, 24, 1, 0, 0), (14, 16, 28, 1, 0, 0),
                           (30, 1, 24, 2, 0, 0), (31, 1, 25, 2, 0, 0), (32, 4, 26, 2, 0, 0), (36, 2, 28, 2, 0, 0), (38, 1, 24, 3, 0, 0))
-        self.assertEqual([(field.where, field.value) for field in shown.fields], [
+        self.assertEqual([(field.where, field.value) for field in shown], [
             ("parameter 0", "-99: array"), ("parameter 0", "9: string"), ("parameter 0", "2 elements"),
             ("parameter 0, element 0", "1 byte"), ("parameter 0, element 0", '"f"'), ("parameter 0, element 1", "0 bytes"),
             ("parameter 1", "22: decimal"), ("parameter 1", "-23325.234250000000"),
@@ -166,7 +348,7 @@ class OtherKinds(unittest.TestCase):
 
     def test_a_login_response(self):
         shown = explained("00" "0000000000000069" "c0a80001", (0, 1, 10, 0, 0, 0), (1, 8, 13, 0, 0, 0), (9, 4, 14, 0, 0, 0))
-        self.assertEqual([field.value for field in shown.fields], ["0: accepted", "1970-01-01 00:00:00.105000 UTC", "192.168.0.1"])
+        self.assertEqual([field.value for field in shown], ["0: accepted", "1970-01-01 00:00:00.105000 UTC", "192.168.0.1"])
 
     def test_every_field_can_be_shown(self):
         """Each field number of the paper has a name, and a way to be shown."""
@@ -176,70 +358,206 @@ class OtherKinds(unittest.TestCase):
         for number in numbers:
             declared = [(0, 1, paper.PARAMETER_TYPE, 0, 0, 0), (0, 1, paper.ELEMENT_TYPE, 0, 0, 0), (0, 1, paper.COLUMN_TYPE, 0, 0, 0)]
             size = 1 if paper.FIELDS[number][1] == "type" else 16
-            self.assertTrue(explained(raw, *declared, (0, size, number, 0, 0, 0)).fields[-1].value)
+            self.assertTrue(list(explained(raw, *declared, (0, size, number, 0, 0, 0)))[-1].value)
+
+    def test_each_number_of_reading_has_words(self):
+        self.assertEqual(sorted(paper.REFUSALS), list(range(1, 8)))
 
 
-class Page(unittest.TestCase):
-    def test_it_has_every_field_and_every_byte_and_asks_no_network(self):
-        text = page.page(4, "engines.reply", MESSAGE, None, sample())
-        self.assertEqual(text.count("<tr class="), len(sample().fields))
-        self.assertIn('data-bytes="%s"' % MESSAGE.hex(), text)
-        self.assertNotIn("{{", text)
-        for word in ("http:", "https:", "src=", "href=", "url(", "@import"):
-            self.assertNotIn(word, text)
+class Listing(unittest.TestCase):
+    def test_what_the_programs_say(self):
+        self.assertEqual(listing.from_text("refused 4 6\n"), ((4, 6), array.array("I")))
+        self.assertEqual(listing.from_text("0 4 1 0 0 0\n4 1 2 0 0 0\n")[1].tolist(), [0, 4, 1, 0, 0, 0, 4, 1, 2, 0, 0, 0])
+        self.assertEqual(listing.from_numbers(bytes([4, 6, 0, 0, 0, 0, 0, 0])), ((4, 6), array.array("I")))
+        self.assertEqual(listing.from_numbers(bytes(8) + bytes([9, 1, 0, 0]))[1].tolist(), [265])
 
-    def test_names_are_escaped(self):
-        name = b"<script>{{told}}"
-        shown = explained("06" + name.hex(), (0, 1, 45, 0, 0, 0), (1, len(name), 47, 0, 0, 0))
-        text = page.page(4, "<b>", shown.message, None, shown)
-        self.assertIn("&lt;script&gt;{{told}}", text)
-        self.assertIn("&lt;b&gt;", text)
-        self.assertEqual(text.count("<script>"), 1)
-
-    def test_a_refusal(self):
-        text = page.page(2, "x", bytes.fromhex("000000020000"), (1, 6), None)
-        self.assertIn('data-bad="6"', text)
-        self.assertIn("refused 1 at 6", text)
-
-    def test_a_refusal_far_on_shows_the_bytes_around_it(self):
-        text = page.page(4, "x", bytes(65_000), (4, 30_000), None)
-        self.assertIn('data-start="25904"', text)
-        self.assertIn('data-bytes="%s"' % ("00" * (30_000 + 4096 - 25_904)), text)
+    def test_fields_that_do_not_cover_the_message_are_told(self):
+        good = [0, 4, 1, 0, 0, 0, 4, 1, 2, 0, 0, 0, 5, 1, 10, 0, 0, 0]
+        listing.check_tiling(array.array("I", good), 6)
+        for at, number in ((0, 1), (1, 3), (7, 0), (6, 5), (13, 2)):
+            with self.assertRaises(listing.Untiled):
+                listing.check_tiling(array.array("I", good[:at] + [number] + good[at + 1:]), 6)
 
 
 class Building(unittest.TestCase):
-    def test_a_missing_program_is_built_first(self):
+    def test_the_crates_of_a_program(self):
+        self.assertEqual(building.closure("list"), {"list", "listing", "fields", "tour", "message", "quick", "scan", "format"})
+
+    def test_a_line_for_each_crate(self):
+        said = io.StringIO()
+        with contextlib.redirect_stderr(said):
+            progress = building.Progress(3)
+            for line in ("fn scan::x: proved", "rt: format proved (unchanged since it was last proved)", "rt: scan proved (37 s)", "rt: quick proved (16 s)"):
+                progress.line(line)
+        self.assertEqual(said.getvalue(), "explain: 2 of 3: scan proved (37 s)\nexplain: 3 of 3: quick proved (16 s)\n")
+
+    def test_what_is_older_than_its_sources_is_made_again(self):
         with tempfile.TemporaryDirectory() as folder:
-            program, rt = pathlib.Path(folder) / "list", pathlib.Path(folder) / "rt"
-            rt.write_text("#!/bin/sh\nprintf '#!/bin/sh\\ncat' >'%s' && chmod +x '%s'\n" % (program, program))
-            rt.chmod(0o755)
-            with mock.patch.object(listing, "PROGRAM", program), mock.patch.object(listing, "command", lambda: [str(program)]), \
-                    mock.patch.dict(os.environ, PATH=folder + os.pathsep + os.environ["PATH"]):
-                self.assertEqual(listing.run(b"refused 6 0\n"), "refused 6 0\n")
+            made, source = pathlib.Path(folder, "made"), pathlib.Path(folder, "source")
+            source.touch()
+            self.assertFalse(building.fresh(made, source))
+            made.touch()
+            os.utime(source, (1, 1))
+            self.assertTrue(building.fresh(made, source))
+            os.utime(made, (0, 0))
+            self.assertFalse(building.fresh(made, source))
+
+    def test_no_kit(self):
+        done = subprocess.run([sys.executable, str(ROOT / "explain"), "4", str(SAMPLE)], env={"PATH": "/nowhere"}, stderr=subprocess.PIPE, encoding="utf-8")
+        self.assertEqual(done.returncode, 2)
+        self.assertIn("the Rattle kit's command `rt` isn't found", done.stderr)
+        self.assertNotIn("Traceback", done.stderr)
 
 
-@unittest.skipUnless(listing.PROGRAM.exists(), "target/bin/list isn't built")
-class WithTheProvedListing(unittest.TestCase):
-    def run_it(self, *words):
-        return subprocess.run([sys.executable, str(ROOT / "explain"), *words], stdout=subprocess.PIPE, encoding="utf-8")
+@unittest.skipUnless(shutil.which("rt"), "the Rattle kit isn't here")
+class WithTheProvedLibrary(unittest.TestCase):
+    @classmethod
+    def setUpClass(cls):
+        cls.folder = tempfile.TemporaryDirectory()
+        cls.addClassCleanup(cls.folder.cleanup)
 
-    def test_the_stored_listing_is_the_programs(self):
-        self.assertEqual(listing.run(b"\x04" + MESSAGE), LISTED)
+    def path(self, name, data=None):
+        file = os.path.join(self.folder.name, name)
+        if data is not None:
+            pathlib.Path(file).write_bytes(data)
+        return file
+
+    def run_it(self, *words, program="explain", **more):
+        more = {"stdout": subprocess.PIPE, "stderr": subprocess.PIPE, **more}
+        return subprocess.run([str(ROOT / program), *words], encoding="utf-8", **more)
+
+    def failed(self, told, *words, **more):
+        done = self.run_it(*words, **more)
+        self.assertEqual((done.returncode, done.stdout or ""), (2, ""))
+        self.assertIn(told, done.stderr)
+        self.assertNotIn("Traceback", done.stderr)
+
+    def test_both_programs_list_alike(self):
+        for file in sorted((ROOT / "samples").glob("*.bin")):
+            kind = int(file.name[0])
+            stored = listing.listing(kind, file.read_bytes())
+            with mock.patch.object(paper, "MOST_LISTED", -1):
+                self.assertEqual(listing.listing(kind, file.read_bytes()), stored)
 
     def test_the_whole_command(self):
         done = self.run_it("4", str(SAMPLE))
-        self.assertEqual((done.returncode, done.stdout), (0, (STORED / "engines.txt").read_text()))
+        told, _, ending = done.stdout.partition("\n\n")
+        self.assertEqual((done.returncode, told + "\n"), (0, (STORED / "engines.txt").read_text()))
+        self.assertIn("49 fields, side by side from byte 0 to byte 287: every byte has one owner", ending)
+        self.assertIn("message: 288 bytes, SHA-256 ", ending)
+        self.assertIn("\nchaloenpik: commit ", ending)
+        kit = subprocess.run(["rt", "version"], stdout=subprocess.PIPE, encoding="utf-8").stdout
+        self.assertTrue(ending.endswith("kit: " + kit))
+
+    def test_the_insurers_question(self):
+        done = self.run_it("4", str(ENGINES), "--cell", "0", "--where", "ENGINE_ID=2", "--column", "THROTTLE_LIMIT")
+        self.assertEqual((done.returncode, done.stdout.splitlines()[0]), (0, "table 0, row 1, column 3 THROTTLE_LIMIT (decimal) is 0.800000000000"))
+        self.assertIn("SHA-256", done.stdout)
 
     def test_a_refused_message(self):
-        done = self.run_it("2", str(SAMPLE))
+        done = self.run_it("2", str(ENGINES))
         self.assertEqual((done.returncode, done.stdout.splitlines()[0]), (1, "refused 3 at 30: a limit is passed"))
+        self.assertIn("As 4, invocation response, the same bytes are accepted.", done.stdout)
+
+    def test_the_kind_is_guessed(self):
+        done = self.run_it(str(ENGINES), "--byte", "0")
+        self.assertEqual((done.returncode, done.stdout.splitlines()[0]), (0, "kind 4, invocation response: no other kind accepts these bytes"))
+        self.failed("no kind accepts these bytes", self.path("none", b"abc"))
+
+    def test_json_and_standard_input(self):
+        done = self.run_it("4", "-", "--json", input=None, stdin=open(ENGINES, "rb"))
+        told = [json.loads(line) for line in done.stdout.splitlines()]
+        self.assertEqual((len(told), told[-1]["fields"], told[-1]["kind"]), (76, 75, 4))
+        self.assertEqual("".join(record["bytes"] for record in told[:-1]), ENGINES.read_bytes().hex())
+        refused = [json.loads(line) for line in self.run_it("2", str(ENGINES), "--json").stdout.splitlines()]
+        self.assertEqual((refused[0]["refused"], refused[0]["place"]), (3, 30))
+
+    def test_failures_have_a_sentence(self):
+        self.failed("Is a directory", "4", self.folder.name)
+        self.failed("No such file or directory", "4", self.path("missing"))
+        self.failed("is longer than a message can be, which has at most 4194308 bytes", "4", "/dev/zero")
+        large = self.path("large", ENGINES.read_bytes())
+        os.truncate(large, 3 << 30)
+        self.failed("`head -c 428` cuts it out", "4", large)
+        self.failed("there is no kind 9", "9", str(ENGINES))
+        self.failed("is the message itself", "4", large.replace("large", "copy"), "--html", self.path("copy", MESSAGE))
+        with open("/dev/full", "w") as full:
+            done = self.run_it("4", str(ENGINES), stdout=full)
+            self.assertEqual((done.returncode, done.stderr), (2, "explain: No space left on device\n"))
+        self.failed("No space left on device", "4", str(ENGINES), "--html", "/dev/full")
+        self.failed("No such file or directory", "4", str(ENGINES), "--html", self.path("no/such"))
+
+    @unittest.skipIf(os.geteuid() == 0, "root reads every file")
+    def test_an_unreadable_file(self):
+        file = self.path("secret", MESSAGE)
+        os.chmod(file, 0)
+        self.failed("Permission denied", "4", file)
+
+    def test_odd_file_names(self):
+        for name in ("two words", "line\nfeed", "Ærø", os.fsdecode(b"\xff\xfe"), "<b>", "-"):
+            file = self.path(name, MESSAGE)
+            done = self.run_it("4", file, "--html", self.path("page.html"))
+            self.assertEqual((done.returncode, done.stderr), (0, ""), name)
 
     def test_a_page(self):
-        with tempfile.TemporaryDirectory() as folder:
-            out = pathlib.Path(folder) / "page.html"
-            done = self.run_it("4", str(SAMPLE), "--html", str(out))
-            self.assertEqual((done.returncode, done.stdout), (0, "%s shows 49 fields\n" % out))
-            self.assertTrue(out.read_text(encoding="utf-8").startswith("<!doctype html>"))
+        out = self.path("page.html")
+        done = self.run_it("4", str(SAMPLE), "--html", out)
+        self.assertEqual((done.returncode, done.stdout.splitlines()[0]), (0, "%s shows 49 fields" % out))
+        self.assertTrue(pathlib.Path(out).read_text(encoding="utf-8").startswith("<!doctype html>"))
+        self.assertEqual(self.run_it("2", str(SAMPLE), "--html", out).returncode, 1)
+        self.assertIn("refused 3 at 30", pathlib.Path(out).read_text(encoding="utf-8"))
+
+    def test_a_closed_pipe(self):
+        done = subprocess.run("'%s' 4 '%s' | head -n 1" % (ROOT / "explain", ENGINES), shell=True, stdout=subprocess.PIPE, stderr=subprocess.PIPE, encoding="utf-8")
+        self.assertEqual(done.stderr, "")
+
+    def test_stopped_by_the_keyboard(self):
+        running = subprocess.Popen([str(ROOT / "explain"), "4", "-"], stdin=subprocess.PIPE, stderr=subprocess.PIPE, encoding="utf-8")
+        time.sleep(0.7)
+        running.send_signal(signal.SIGINT)
+        self.assertEqual((running.communicate()[1], running.returncode), ("explain: stopped\n", 2))
+
+    def test_a_message_of_4_megabytes(self):
+        """Of the harbour's table as many rows as a message may have; one more byte is too many."""
+        row = harbour.ENGINES["rows"][1]
+        table = dict(harbour.ENGINES, rows=[row] * ((4_194_304 - 200) // 78))
+        message = encoder.encode(wire.REPLY, harbour.reply(table))
+        self.assertGreater(len(message), 4_190_000)
+        file = self.path("whole", message)
+        count = len(table["rows"])
+        done = self.run_it("4", file, "--cell", "0", str(count - 1), "THROTTLE_LIMIT")
+        self.assertEqual((done.returncode, done.stdout.splitlines()[0]), (0, "table 0, row %d, column 3 THROTTLE_LIMIT (decimal) is 0.800000000000" % (count - 1)))
+        self.assertEqual(listing.listing(4, message)[1].tolist()[-6:], [len(message) - 8, 8, 51, 0, count - 1, 6])
+
+
+@unittest.skipUnless(shutil.which("rt"), "the Rattle kit isn't here")
+class List(unittest.TestCase):
+    def run_it(self, *words, **more):
+        more = {"stdout": subprocess.PIPE, "stderr": subprocess.PIPE, **more}
+        return subprocess.run([str(ROOT / "list"), *words], encoding="utf-8", **more)
+
+    def test_the_papers_own(self):
+        done = self.run_it("2", "-", input="\0\0\0\2\0\3")
+        self.assertEqual((done.returncode, done.stdout), (0, "0 4 1 0 0 0\n4 1 2 0 0 0\n5 1 10 0 0 0\n"))
+
+    def test_the_sample(self):
+        self.assertEqual(self.run_it("4", str(SAMPLE)).stdout, LISTED)
+
+    def test_refused(self):
+        self.assertEqual(self.run_it("4", "/dev/null").stdout, "refused 1 0\n")
+        done = self.run_it("9", "/dev/zero")
+        self.assertEqual((done.returncode, done.stdout), (1, "refused 6 0\n"))
+
+    def test_failures(self):
+        for words, told in ((["4", str(ROOT)], "is a directory"), (["4", "/no/such"], "there is no file /no/such"), (["010", str(SAMPLE)], "KIND is a byte in decimal"),
+                            (["08", str(SAMPLE)], "KIND is a byte"), (["256", str(SAMPLE)], "KIND is a byte"), (["4"], "usage"), ([], "usage")):
+            done = self.run_it(*words)
+            self.assertEqual((done.returncode, done.stdout), (2, ""))
+            self.assertIn(told, done.stderr)
+        with open("/dev/full", "w") as full:
+            done = self.run_it("4", str(SAMPLE), stdout=full)
+            self.assertEqual(done.returncode, 2)
+            self.assertIn("list: the list couldn't be written", done.stderr)
 
 
 if __name__ == "__main__":

@@ -14,22 +14,32 @@ from wire import *
 
 
 class Refused(Exception):
-    """A refusal: its number and place. `field` is the field that was being read, for statistics alone."""
+    """A refusal: its number and place. For statistics, and for people, also the field that was being read, with its indices; where the
+    room that it stands in ends; how many bytes it would have; its limit; and the fields that were read up to it, perhaps with it."""
 
-    def __init__(self, number, place, field=0):
+    def __init__(self, number, place, field=0, index=(0, 0, 0), room=None, size=None, most=None):
         super().__init__(number, place)
-        self.number, self.place, self.field = number, place, field
+        self.number, self.place, self.field, self.index = number, place, field, index
+        self.room, self.size, self.most, self.fields = room, size, most, []
 
 
 def read(kind, message):
     if kind not in KINDS:
         raise Refused(BAD_TYPE, 0)
     reading = Reading(message)
+    try:
+        return read_message(kind, reading), reading.fields
+    except Refused as no:
+        no.fields = reading.fields
+        raise
+
+
+def read_message(kind, reading):
     end = reading.message_end()
     record = {"version": reading.version(F_VERSION, end)}
     {LOGIN: login, LOGIN_REPLY: login_reply, INVOCATION: invocation, REPLY: reply}[kind](reading, end, record)
     reading.finish(end, F_LENGTH)
-    return record, reading.fields
+    return record
 
 
 def login(reading, end, record):
@@ -99,14 +109,14 @@ def table(reading, t, message_end):
     columns = range(reading.count(2, MOST_COLUMNS, F_COLUMNS, metadata_end, index))
     types = [reading.wire_type(COLUMN_TYPES, F_COLUMN_TYPE, metadata_end, (t, 0, c)) for c in columns]
     names = [reading.name(metadata_end, (t, 0, c)) for c in columns]
-    reading.finish(metadata_end, F_METADATA)
+    reading.finish(metadata_end, F_METADATA, index)
     count = reading.count(4, MOST_ROWS, F_ROWS, end, index)
     rows = []
     for r in range(count):
         row_end = reading.room(MOST_ROW, F_ROW, end, (t, r, 0))
         rows.append([reading.value(types[c], F_CELL, row_end, (t, r, c)) for c in columns])
-        reading.finish(row_end, F_ROW)
-    reading.finish(end, F_TABLE)
+        reading.finish(row_end, F_ROW, (t, r, 0))
+    reading.finish(end, F_TABLE, index)
     return {"status": status, "types": types, "names": names, "rows": rows}
 
 
@@ -124,7 +134,7 @@ class Reading:
         """The next `size` bytes, as a field of their own."""
         at = self.at
         if at + size > end:
-            raise Refused(NO_ROOM, at, field)
+            raise Refused(NO_ROOM, at, field, index, room=end, size=size)
         self.at = at + size
         self.fields.append((at, size, field) + index)
         return self.message[at:self.at]
@@ -143,7 +153,7 @@ class Reading:
         at = self.at
         wire_type = self.number(1, field, end, index)
         if wire_type not in permitted:
-            raise Refused(BAD_TYPE, at, field)
+            raise Refused(BAD_TYPE, at, field, index)
         return wire_type
 
     def flags(self, end):
@@ -160,9 +170,9 @@ class Reading:
         at = self.at
         count = self.number(size, field, end, index)
         if count < 0:
-            raise Refused(BAD_SIGN, at, field)
+            raise Refused(BAD_SIGN, at, field, index)
         if count > most:
-            raise Refused(LIMIT, at, field)
+            raise Refused(LIMIT, at, field, index, most=most)
         return count
 
     def length(self, most, field, end, index, null=False):
@@ -172,11 +182,11 @@ class Reading:
         if null and length == -1:
             return length
         if length < 0:
-            raise Refused(BAD_SIGN, at, field)
+            raise Refused(BAD_SIGN, at, field, index)
         if most is not None and length > most:
-            raise Refused(LIMIT, at, field)
+            raise Refused(LIMIT, at, field, index, most=most)
         if self.at + length > end:
-            raise Refused(NO_ROOM, at, field)
+            raise Refused(NO_ROOM, at, field, index, room=end)
         return length
 
     def room(self, most, field, end, index):
@@ -184,9 +194,9 @@ class Reading:
         length = self.length(most, field, end, index)
         return self.at + length
 
-    def finish(self, end, field):
+    def finish(self, end, field, index=(0, 0, 0)):
         if self.at < end:
-            raise Refused(LEFT_OVER, self.at, field)
+            raise Refused(LEFT_OVER, self.at, field, index, room=end)
 
     def message_end(self):
         """The message length, which is never 0, and then the input's own length."""
@@ -194,11 +204,11 @@ class Reading:
         if length <= 0:
             raise Refused(BAD_SIGN, 0, F_LENGTH)
         if length > MOST_MESSAGE:
-            raise Refused(LIMIT, 0, F_LENGTH)
+            raise Refused(LIMIT, 0, F_LENGTH, most=MOST_MESSAGE)
         if length + 4 > len(self.message):
-            raise Refused(NO_ROOM, 0, F_LENGTH)
+            raise Refused(NO_ROOM, 0, F_LENGTH, room=len(self.message))
         if length + 4 < len(self.message):
-            raise Refused(LEFT_OVER, length + 4, F_LENGTH)
+            raise Refused(LEFT_OVER, length + 4, F_LENGTH, room=len(self.message))
         return length + 4
 
     # -- Counted bodies and values.
@@ -217,7 +227,7 @@ class Reading:
         name = self.counted(F_COLUMN_NAME, end, index)
         for i, byte in enumerate(name):
             if byte > 127:
-                raise Refused(BAD_VALUE, self.at - len(name) + i, F_COLUMN_NAME + 1)
+                raise Refused(BAD_VALUE, self.at - len(name) + i, F_COLUMN_NAME + 1, index)
         return name
 
     def value(self, wire_type, field, end, index):
@@ -230,15 +240,15 @@ class Reading:
         if wire_type == DECIMAL:
             decimal = self.number(16, field + 1, end, index)
             if not -MOST_DECIMAL <= decimal <= MOST_DECIMAL and decimal != NULL_DECIMAL:
-                raise Refused(BAD_VALUE, at, field + 1)
+                raise Refused(BAD_VALUE, at, field + 1, index)
             return decimal
         if wire_type == POINT:
             longitude, latitude = struct.unpack(">dd", self.block(16, field + 1, end, index))
             # A comparison with a NaN is false, so a NaN is refused here too.
             if not (-180.0 <= longitude <= 180.0 and -90.0 <= latitude <= 90.0):
-                raise Refused(BAD_VALUE, at, field + 1)
+                raise Refused(BAD_VALUE, at, field + 1, index)
             return longitude, latitude
         body = self.counted(field, end, index, null=True)
         if wire_type == GEOGRAPHY and body == b"":
-            raise Refused(BAD_VALUE, at, field)
+            raise Refused(BAD_VALUE, at, field, index)
         return body

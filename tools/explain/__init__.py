@@ -1,11 +1,18 @@
 """Explains a message's bytes to people.
 
-The fields come from the proved program `list` (listing.py); nothing here reads the wire. The other modules only put words to them:
+Where each field stands comes from the proved library (listing.py); nothing here reads the wire. The other modules only put words to it, outside the proof:
 
-    paper.py    names of fields, types, refusals
-    values.py   the bytes of one value, as plain text
-    fields.py   a listed field with its name, its place (table, row, column) and its value
-    lines.py    the answers as lines of text
-    page.py     the answer as one page for a browser (page.html is its frame)
-    main.py     the command line
+    command.py   the words of the command line
+    building.py  the programs that list fields, proved and built when they aren't there or the crates have changed
+    listing.py   the field list of a message, or its refusal, by these programs
+    paper.py     names of fields, types, refusals
+    values.py    the bytes of one value, as plain text
+    fields.py    a listed field with its name, its place (table, row, column) and its value
+    cells.py     one cell: which one is meant, and the bytes that are it, name it and fix its place
+    refusals.py  why a message is refused, in words; the fields before the place are the second reader's (tests/second)
+    sources.py   what an answer was made from: the file, the project's commit, the kit
+    lines.py     the answers as lines of text
+    records.py   the answers as lines of JSON
+    page.py      the answer as one page for a browser (page.html is its frame)
+    main.py      the answers to what is asked
 """

@@ -3,7 +3,13 @@
 A value's type, and a column's name, are themselves fields of the message; they are looked up in the listing too.
 """
 
+import array
+import bisect
+
 from . import paper, values
+from .listing import NUMBERS
+
+LOOKED_UP = {paper.PARAMETER_TYPE, paper.ELEMENT_TYPE, paper.COLUMN_TYPE, paper.COLUMN_NAME_LENGTH, paper.COLUMN_NAME}
 
 
 class Field:
@@ -20,18 +26,52 @@ class Field:
 
 
 class Explained:
-    """An accepted message: its bytes and its fields in wire order."""
+    """A message's bytes and its fields in wire order: all of them, or those before the place of a refusal. A field is put into words when it is asked for."""
 
-    def __init__(self, message, entries):
+    def __init__(self, message, numbers):
         self.message = message
-        self.raw_of = {entry[2:]: message[entry[0]:entry[0] + entry[1]] for entry in entries if entry[2] in LOOKED_UP}
-        self.fields = [self.field(entry) for entry in entries]
+        self.numbers = numbers if isinstance(numbers, array.array) else array.array("I", [n for entry in numbers for n in entry])
+        self.raw_of = {}
+        for n, number in enumerate(self.numbers[2::NUMBERS]):
+            if number in LOOKED_UP:
+                offset, size, *key = self.entry(n)
+                self.raw_of[tuple(key)] = message[offset:offset + size]
+
+    # -- Fields
+
+    def __len__(self):
+        return len(self.numbers) // NUMBERS
+
+    def entry(self, n):
+        return tuple(self.numbers[NUMBERS * n:NUMBERS * (n + 1)])
+
+    def entries(self):
+        """All entries, as tuples of six."""
+        return zip(*[iter(self.numbers)] * NUMBERS)
+
+    def __getitem__(self, n):
+        if not 0 <= n < len(self):
+            raise IndexError(n)
+        return self.field(self.entry(n))
 
     def field(self, entry):
         offset, size, number = entry[:3]
         raw = self.message[offset:offset + size]
         name, shape = paper.FIELDS[number]
         return Field(entry, raw, name, self.where(number, *entry[3:]), self.value(shape, raw, entry))
+
+    def matching(self, wanted):
+        """The fields whose entry is wanted, in wire order."""
+        return [self.field(entry) for entry in self.entries() if wanted(*entry)]
+
+    def at(self, numbers, indices):
+        """The fields that have one of these numbers, and these indices."""
+        return self.matching(lambda offset, size, number, *found: number in numbers and tuple(found) == indices)
+
+    def owner(self, offset):
+        """The field that a byte belongs to, or None past the end."""
+        n = bisect.bisect_right(self.numbers[0::NUMBERS], offset) - 1
+        return self[n] if n >= 0 and offset < self[n].end else None
 
     # -- Places
 
@@ -46,22 +86,23 @@ class Explained:
         return "table %d%s%s" % (i, row, ", " + self.column_text(i, k) if has_column else "")
 
     def column_text(self, table, column):
-        return "column %d %s (%s)" % (column, shown_name(self.column_name(table, column)), self.column_type_name(table, column))
+        """A column in words. In a message that is refused before they were read, it has no name, and perhaps no type."""
+        empty = self.raw_of.get((paper.COLUMN_NAME_LENGTH, table, 0, column)) == bytes(4)
+        name = self.column_name(table, column)
+        wire_type = paper.TYPES.get(self.column_type(table, column))
+        return "column %d%s%s" % (column, " " + shown_name(name) if name or empty else "", " (%s)" % wire_type if wire_type else "")
 
     def column_name(self, table, column):
         return self.raw_of.get((paper.COLUMN_NAME, table, 0, column), b"")
 
     def column_type(self, table, column):
-        return values.signed(self.raw_of[(paper.COLUMN_TYPE, table, 0, column)])
-
-    def column_type_name(self, table, column):
-        return paper.TYPES[self.column_type(table, column)]
+        return values.signed(self.raw_of.get((paper.COLUMN_TYPE, table, 0, column), b"\0"))
 
     def parameter_type(self, parameter):
-        return values.signed(self.raw_of[(paper.PARAMETER_TYPE, parameter, 0, 0)])
+        return values.signed(self.raw_of.get((paper.PARAMETER_TYPE, parameter, 0, 0), b"\0"))
 
     def element_type(self, parameter):
-        return values.signed(self.raw_of[(paper.ELEMENT_TYPE, parameter, 0, 0)])
+        return values.signed(self.raw_of.get((paper.ELEMENT_TYPE, parameter, 0, 0), b"\0"))
 
     def in_array(self, parameter):
         """Whether the parameter's values are elements with an index of their own."""
@@ -70,23 +111,7 @@ class Explained:
     # -- Values
 
     def value(self, shape, raw, entry):
-        shown = {
-            "length": lambda: values.length(values.signed(raw)),
-            "number": lambda: str(values.signed(raw)),
-            "text": lambda: values.quoted(raw),
-            "opaque": lambda: values.opaque(raw),
-            "type": lambda: values.named(values.signed(raw), paper.TYPES),
-            "flags": lambda: values.flags(raw[0]),
-            "status": lambda: values.named(values.signed(raw), paper.STATUSES),
-            "result": lambda: values.named(values.signed(raw), paper.RESULTS),
-            "hash version": lambda: values.named(values.signed(raw), paper.HASHES),
-            "address": lambda: values.address(raw),
-            "milliseconds": lambda: values.utc(1000 * values.signed(raw)),
-            "duration": lambda: "%d ms" % values.signed(raw),
-            "element count": lambda: self.element_count(values.signed(raw), entry[3]),
-            "value": lambda: self.typed_value(raw, entry),
-        }
-        return shown[shape]()
+        return SHAPES[shape](raw) if shape in SHAPES else self.typed_value(raw, entry) if shape == "value" else self.element_count(values.signed(raw), entry[3])
 
     def element_count(self, number, parameter):
         is_bytes = self.element_type(parameter) == paper.TINYINT
@@ -103,33 +128,22 @@ class Explained:
                 return values.hexadecimal(raw)
         return values.value_text(wire_type, raw)
 
-    # -- Questions
 
-    def owner(self, offset):
-        """The field that a byte belongs to, or None past the end."""
-        return next((field for field in self.fields if field.offset <= offset < field.end), None)
-
-    def find_column(self, table, name):
-        """The first column of a table whose name is equal, byte for byte; None if there is none."""
-        columns = [field.indices[2] for field in self.of(paper.COLUMN_TYPE, table)]
-        return next((column for column in columns if self.column_name(table, column) == name), None)
-
-    def of(self, number, table):
-        return [field for field in self.fields if field.number == number and field.indices[0] == table]
-
-    def cell(self, table, row, column):
-        """The fields that a cell was read from: its length, its body, or both."""
-        wanted = (table, row, column)
-        return [field for field in self.fields if field.number in (paper.CELL_LENGTH, paper.CELL) and field.indices == wanted]
-
-    def column_fields(self, table, column):
-        """The fields that say what a column is: its type, its name's length and its name."""
-        wanted = (table, 0, column)
-        declared = (paper.COLUMN_TYPE, paper.COLUMN_NAME_LENGTH, paper.COLUMN_NAME)
-        return [field for field in self.fields if field.number in declared and field.indices == wanted]
-
-
-LOOKED_UP = (paper.PARAMETER_TYPE, paper.ELEMENT_TYPE, paper.COLUMN_TYPE, paper.COLUMN_NAME)
+# How a field's bytes are shown by its shape alone; "value" and "element count" also depend on a type.
+SHAPES = {
+    "length": lambda raw: values.length(values.signed(raw)),
+    "number": lambda raw: str(values.signed(raw)),
+    "text": values.quoted,
+    "opaque": values.opaque,
+    "type": lambda raw: values.named(values.signed(raw), paper.TYPES),
+    "flags": lambda raw: values.flags(raw[0]),
+    "status": lambda raw: values.named(values.signed(raw), paper.STATUSES),
+    "result": lambda raw: values.named(values.signed(raw), paper.RESULTS),
+    "hash version": lambda raw: values.named(values.signed(raw), paper.HASHES),
+    "address": values.address,
+    "milliseconds": lambda raw: values.utc(1000 * values.signed(raw)),
+    "duration": lambda raw: "%d ms" % values.signed(raw),
+}
 
 
 def shown_name(name):

@@ -1,31 +1,51 @@
 """The answers as lines of text."""
 
-from . import paper, values
+import itertools
+
+from . import cells, values
 
 BYTES_SHOWN = 8     # bytes of a field shown in hex before they are cut
-BYTES_IN_LINE = 16  # of the bytes around a place
+BYTES_IN_LINE = 16  # of a field shown whole, and of the bytes around a place
 LINES_AROUND = 2    # before and after the place's own line
+BLOCK = 4096        # fields put into words at once, so that the first lines of a long list come at once
+RUN_SHOWN = 3       # fields shown at each end of a long run of one number
+
+PROMISE = """\
+No byte but those of the value and the one of its column's type has a part in what is read: two accepted replies in which these are equal show the same
+value, whatever their other bytes are (proved: `cells-alike`, over `cell-reads-its-bytes`; docs/PROMISES.md, demand 3). The other bytes above say
+which cell it is and where it stands. Whether the message is accepted at all hangs on all its bytes. The digits and words are put to them outside the proof."""
 
 
 class Columns:
-    """How wide each column must be for all of some fields, so that their lines stand below each other."""
+    """How wide each column must be for all of some fields, so that their lines stand below each other; never less than for the fields before them."""
 
-    def __init__(self, fields):
-        self.offset = max((len(str(field.offset)) for field in fields), default=1)
-        self.size = max((len(str(field.size)) for field in fields), default=1)
-        self.bytes = max((len(short_hex(field.raw)) for field in fields), default=0)
-        self.name = max((len(field.name) for field in fields), default=0)
-        self.where = max((len(field.where) for field in fields), default=0)
+    def __init__(self, hexed=None):
+        self.hexed = hexed or short_hex
+        self.offset = self.size = self.bytes = self.name = self.where = 0
+
+    def widen(self, fields):
+        self.offset = max(self.offset, *(len(str(field.offset)) for field in fields))
+        self.size = max(self.size, *(len(str(field.size)) for field in fields))
+        self.bytes = max(self.bytes, *(len(self.hexed(field.raw)) for field in fields))
+        self.name = max(self.name, *(len(field.name) for field in fields))
+        self.where = max(self.where, *(len(field.where) for field in fields))
 
     def line(self, field):
         return "%*d  %*d  %-*s  %-*s  %-*s  %s" % (
-            self.offset, field.offset, self.size, field.size, self.bytes, short_hex(field.raw),
+            self.offset, field.offset, self.size, field.size, self.bytes, self.hexed(field.raw),
             self.name, field.name, self.where, field.where, field.value)
 
 
 def field_lines(fields):
-    columns = Columns(fields)
-    return [columns.line(field) for field in fields]
+    """A line for each field, a block at a time."""
+    columns, fields = Columns(), iter(fields)
+    for block in iter(lambda: list(itertools.islice(fields, BLOCK)), []):
+        columns.widen(block)
+        yield from map(columns.line, block)
+
+
+def tiling_line(explained):
+    return "%s, side by side from byte 0 to byte %d: every byte has one owner" % (values.count_of(len(explained), "field"), len(explained.message) - 1)
 
 
 def short_hex(raw):
@@ -33,6 +53,11 @@ def short_hex(raw):
     if len(raw) <= BYTES_SHOWN:
         return raw.hex(" ")
     return "%s .. %s" % (raw[:BYTES_SHOWN // 2].hex(" "), raw[1 - BYTES_SHOWN // 2:].hex(" "))
+
+
+def first_hex(raw):
+    """The bytes of a line's length; the rest is shown below."""
+    return raw[:BYTES_IN_LINE].hex(" ")
 
 
 def span(offset, size):
@@ -45,47 +70,58 @@ def byte_lines(explained, offset):
     field = explained.owner(offset)
     byte = explained.message[offset]
     place = "byte %d (hex %02x, decimal %d)" % (offset, byte, byte)
-    return ["%s is number %d of the %s of:" % (place, offset - field.offset + 1, values.count_of(field.size, "byte"))] + field_lines([field])
+    return ["%s is number %d of the %s of:" % (place, offset - field.offset + 1, values.count_of(field.size, "byte")), *field_lines([field])]
 
 
 # -- One cell
 
-def cell_lines(explained, table, row, column):
-    fields = explained.cell(table, row, column)
-    offset, end = fields[0].offset, fields[-1].end
-    told = "table %d, row %d, %s is %s" % (table, row, explained.column_text(table, column), cell_value(explained, fields, table, column))
-    lines = field_lines(fields + explained.column_fields(table, column))
-    return [told, "read from %s:" % span(offset, end - offset)] + lines[:len(fields)] + ["by the column that stands at:"] + lines[len(fields):]
+def cell_lines(chosen):
+    cell = chosen.cell
+    groups = cell.groups()
+    columns = Columns(first_hex)
+    for fields in groups.values():
+        columns.widen(fields)
+    where = "table %d, row %d, %s" % (cell.table, cell.row, cell.explained.column_text(cell.table, cell.column))
+    return [
+        "%s is %s" % (where, cell.value()), "the number or bytes behind it: %s" % cell.raw_number(), *chosen.notes, "",
+        "The bytes that are the value, %s:" % span(cell.start, cell.end - cell.start), *whole_lines(columns, groups[cells.VALUE]), "",
+        "The bytes that name it, its column's type and name%s:" % (", and the column and the cell that chose its row" if cell.key is not None else ""),
+        *whole_lines(columns, groups[cells.NAMES]), "",
+        "The bytes that fix its place, the lengths, counts and types that are read on the way to it:", *shortened(columns, groups[cells.PLACE]), "",
+        *PROMISE.splitlines()]
 
 
-def cell_value(explained, fields, table, column):
-    last = fields[-1]
-    if last.number == paper.CELL or values.signed(last.raw) == -1:
-        return last.value
-    return values.value_text(explained.column_type(table, column), b"")  # a counted cell of no bytes
+def whole_lines(columns, fields):
+    """Lines that leave no byte out."""
+    for field in fields:
+        yield columns.line(field)
+        for at in range(BYTES_IN_LINE, field.size, BYTES_IN_LINE):
+            yield "%*d  %*s  %s" % (columns.offset, field.offset + at, columns.size, "", field.raw[at:at + BYTES_IN_LINE].hex(" "))
+
+
+def shortened(columns, fields):
+    """Lines in which the middle of a long run of fields of one number, such as the lengths of all rows before, is one sentence."""
+    for _, run in itertools.groupby(fields, lambda field: field.number):
+        run = list(run)
+        left_out = run[RUN_SHOWN:-RUN_SHOWN]
+        if len(left_out) <= RUN_SHOWN:
+            yield from whole_lines(columns, run)
+            continue
+        yield from whole_lines(columns, run[:RUN_SHOWN])
+        yield "%*s  .. %d more of the same, between bytes %d and %d (--json lists each)" % (columns.offset, "", len(left_out), left_out[0].offset, left_out[-1].end - 1)
+        yield from whole_lines(columns, run[-RUN_SHOWN:])
 
 
 # -- A refusal
 
-def refusal_lines(refusal, message):
-    words = refusal_words(refusal, message)
-    return words if too_long(message) else words + [""] + around(message, refusal[1])
-
-
-def too_long(message):
-    """Whether the listing refuses a message for its size alone, without a look at it."""
-    return len(message) > paper.MOST_LISTED
-
-
-def refusal_words(refusal, message):
-    number, place = refusal
-    if too_long(message):
-        return ["not looked at: the message has %d bytes, and the listing takes at most %d" % (len(message), paper.MOST_LISTED)]
-    means, place_means = paper.REFUSALS.get(number, ("a refusal that this tool has no words for", "unknown"))
-    lines = ["refused %d at %d: %s" % (number, place, means), "the place is: %s" % place_means]
-    if place >= len(message):
-        lines.append("the message ends before it: it has %s" % values.count_of(len(message), "byte"))
-    return lines
+def refusal_lines(refused):
+    fields = refused.last_fields()
+    left_out = len(refused.explained) - len(fields)
+    lines = list(refused.words)
+    if fields:
+        lines += ["", "The fields up to there, by the second reader (tests/second), which refuses the message at the same place for the same fault:"]
+        lines += ["(%d fields before these)" % left_out] * (left_out > 0) + list(field_lines(fields))
+    return lines + [""] + around(refused.message, refused.place)
 
 
 def around(message, place):

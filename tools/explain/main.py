@@ -1,93 +1,218 @@
-"""The command line. Exit status: 0 answered, 1 refused or not there, 2 the command can't be carried out."""
+"""The answers to what is asked. Exit status: 0 answered, 1 refused or not there, 2 the command can't be carried out."""
 
-import argparse
 import os
-import pathlib
 import sys
+import traceback
 
-from . import lines, page, paper
+from . import cells, lines, page, paper, records, values
+from .building import Missing, say
+from .command import USAGE, Options, Usage
 from .fields import Explained
-from .listing import Missing, listing
+from .listing import Untiled, listing
+from .refusals import Refusal
+from .sources import Sources
 
 ANSWERED, REFUSED, FAILED = 0, 1, 2
 
-EPILOG = """\
-Each line: offset, size, bytes in hex, the field's name, where it belongs, and what it says. Tables, rows, columns, parameters
-and elements are counted from 0. The fields are those of the proved program target/bin/list."""
+
+class Failed(Exception):
+    """The command can't be carried out, for a reason that people can do something about."""
 
 
 def main(words):
-    options = arguments(words)
     try:
-        message = pathlib.Path(options.file).read_bytes()
-        refusal, entries = listing(options.kind, message)
-        explained = None if refusal else Explained(message, entries)
-        if options.html:
-            text = page.page(options.kind, pathlib.Path(options.file).name, message, refusal, explained)
-            pathlib.Path(options.html).write_text(text, encoding="utf-8")
-    except (OSError, Missing) as problem:
-        print("explain: %s" % problem, file=sys.stderr)
-        return FAILED
-    status, answer = answered(options, message, refusal, explained)
+        return answer(words)
+    except Usage as problem:
+        say("%s\n%s" % (problem, USAGE.split("\n\n")[0]))
+    except OSError as problem:
+        where = ": " + shown_file(problem.filename) if problem.filename is not None else ""
+        say("%s%s" % (problem.strerror or problem, where))
+    except (Failed, Missing, Untiled) as problem:
+        say(str(problem))
+    except MemoryError:
+        say("there isn't enough memory")
+    except KeyboardInterrupt:
+        say("stopped")
+    except Exception as problem:  # people who ask for bytes are helped by a sentence, not by a trace of this program
+        at = traceback.extract_tb(problem.__traceback__)[-1]
+        say("an error of this program, please report it: %s: %s (%s, line %d)" % (type(problem).__name__, problem, os.path.basename(at.filename), at.lineno))
+    forget_output()
+    return FAILED
+
+
+def answer(words):
+    options = Options(words)
+    if options.help:
+        put([USAGE])
+        return ANSWERED
+    message = read_message(options.file)
+    question = Question(options, message)
+    if options.html is not None:
+        question.write_page()
+    put(question.answer())
+    return question.status
+
+
+class Question:
+    """What is asked of a message, and what the library says of it."""
+
+    def __init__(self, options, message):
+        self.options, self.message = options, message
+        self.kind, self.guessed = options.kind, options.kind is None
+        self.refused = self.explained = None
+        self.status = ANSWERED
+        found = {kind: listing(kind, message) for kind in ([self.kind] if self.kind else paper.KINDS)}
+        accepting = [kind for kind, (refusal, _) in found.items() if refusal is None]
+        if self.guessed:
+            self.kind = guess(found, accepting)
+        refusal, numbers = found[self.kind]
+        if refusal:
+            self.status = REFUSED
+            self.refused = Refusal(self.kind, message, refusal, others_accepting(self.kind, message))
+        else:
+            self.explained = Explained(message, numbers)
+
+    def answer(self):
+        """The lines of the answer, and at the end what it was made from."""
+        sources = Sources(self.message)
+        if self.options.json:
+            yield from self.json_lines()
+            yield records.last_record(kind=self.kind, guessed=self.guessed, fields=len(self.explained or ()), **sources.record())
+            return
+        if self.guessed:
+            yield "kind %d, %s: no other kind accepts these bytes" % (self.kind, paper.KINDS[self.kind])
+        yield from self.text_lines()
+        yield ""
+        yield from sources.lines()
+
+    def text_lines(self):
+        if self.refused:
+            return lines.refusal_lines(self.refused)
+        if self.options.byte is not None:
+            return self.one_byte(lambda: lines.byte_lines(self.explained, self.options.byte))
+        if self.options.table is not None:
+            return self.one_cell(lines.cell_lines)
+        if self.options.html is not None:
+            return ["%s shows %s" % (shown_file(self.options.html), values.count_of(len(self.explained), "field"))]
+        return self.all_fields()
+
+    def all_fields(self):
+        yield from lines.field_lines(self.explained)
+        yield ""
+        yield lines.tiling_line(self.explained)
+
+    def json_lines(self):
+        if self.refused:
+            return records.refusal_records(self.refused)
+        if self.options.byte is not None:
+            return self.one_byte(lambda: records.field_records([self.explained.owner(self.options.byte)]))
+        if self.options.table is not None:
+            return self.one_cell(records.cell_records)
+        return records.field_records(self.explained)
+
+    def one_byte(self, told):
+        if self.options.byte < len(self.message):
+            return told()
+        return self.not_there("there is no byte %d: the message has %d bytes" % (self.options.byte, len(self.message)))
+
+    def one_cell(self, told):
+        try:
+            return told(cells.Chosen(self.explained, self.options))
+        except cells.NotThere as problem:
+            return self.not_there(str(problem))
+
+    def not_there(self, text):
+        self.status = REFUSED
+        return [records.last_record(not_there=text) if self.options.json else text]
+
+    def write_page(self):
+        out = self.options.html
+        check_other_file(self.options.file, out)
+        known = self.explained or self.refused.explained
+        refusal = (self.refused.number, self.refused.place) if self.refused else None
+        words = self.refused.words if self.refused else ()
+        name = "standard input" if self.options.file == "-" else shown_file(os.path.basename(self.options.file))
+        text = page.page(self.kind, name, self.message, known.numbers, refusal, words, Sources(self.message).lines())
+        write_file(out, text.encode("utf-8", errors="backslashreplace"))
+
+
+def guess(found, accepting):
+    if len(accepting) == 1:
+        return accepting[0]
+    if accepting:
+        raise Failed("the kinds %s accept these bytes: say which is meant" % " and ".join(map(str, accepting)))
+    told = "; ".join("%d %s: refused %d at %d" % (kind, paper.KINDS[kind], *refusal) for kind, (refusal, _) in found.items())
+    raise Failed("no kind accepts these bytes: say which is meant, and why it is refused will be explained (%s)" % told)
+
+
+def others_accepting(kind, message):
+    return [other for other in paper.KINDS if other != kind and listing(other, message)[0] is None]
+
+
+# -- Files
+
+def read_message(name):
+    """The bytes of a file, which may be no longer than a message."""
+    if name == "-" and sys.stdin is None:
+        raise Failed("there is no standard input")
+    with open(0 if name == "-" else name, "rb", closefd=name != "-") as file:
+        message = file.read(paper.MOST_BYTES + 1)
+    if len(message) > paper.MOST_BYTES:
+        first = 4 + values.signed(message[:4])
+        hint = "; its first 4 bytes say that a message of %d bytes stands in front: `head -c %d` cuts it out" % (first, first) if 4 < first <= paper.MOST_BYTES else ""
+        raise Failed("%s is longer than a message can be, which has at most %d bytes%s" % (shown_file(name), paper.MOST_BYTES, hint))
+    return message
+
+
+def check_other_file(name, out):
+    """A page never takes the place of the message that it shows."""
+    try:
+        given = os.fstat(0) if name == "-" else os.stat(name)
+        if os.path.samestat(given, os.stat(out)):
+            raise Failed("%s is the message itself: the page needs another name" % shown_file(out))
+    except FileNotFoundError:
+        pass
+
+
+def write_file(name, data):
+    """Writes a file beside its place and then moves it there, so that a full disk leaves what was there."""
+    if os.path.exists(name) and not os.path.isfile(name):
+        with open(name, "wb") as file:
+            file.write(data)
+        return
+    place = os.path.realpath(name)
+    part = "%s.%d.part" % (place, os.getpid())
+    try:
+        with open(part, "xb") as file:
+            file.write(data)
+        os.replace(part, place)
+    except BaseException:
+        if os.path.exists(part):
+            os.remove(part)
+        raise
+
+
+def shown_file(name):
+    """A file's name, in quotes and with escapes if it is an odd one."""
+    raw = os.fsencode(name)
+    return raw.decode() if raw.isascii() and raw.decode().isprintable() and b" " not in raw and raw else values.quoted(raw)
+
+
+# -- Output
+
+def put(text_lines):
     sys.stdout.reconfigure(encoding="utf-8", errors="backslashreplace")
     try:
-        print("\n".join(answer))
+        for text in text_lines:
+            print(text)
+        sys.stdout.flush()
     except BrokenPipeError:  # the reader of a pipe has seen enough
-        os.dup2(os.open(os.devnull, os.O_WRONLY), sys.stdout.fileno())
-    return status
+        forget_output()
 
 
-def arguments(words):
-    kinds = ", ".join("%d %s" % kind for kind in paper.KINDS.items())
-    parser = argparse.ArgumentParser(prog="explain", description="Says what each byte of a message means.", epilog=EPILOG)
-    parser.add_argument("kind", metavar="KIND", type=int, choices=sorted(paper.KINDS), help=kinds)
-    parser.add_argument("file", metavar="FILE", help="a file that holds one message, its length first")
-    parser.add_argument("--byte", metavar="N", type=natural, help="only the field that owns byte N")
-    parser.add_argument("--cell", metavar=("TABLE", "ROW", "COLUMN-NAME"), nargs=3, help="the bytes that a cell was read from")
-    parser.add_argument("--html", metavar="OUT", help="write a page that shows the bytes, for a browser")
-    options = parser.parse_args(words)
-    if options.cell:
-        try:
-            options.cell = natural(options.cell[0]), natural(options.cell[1]), os.fsencode(options.cell[2])
-        except ValueError:
-            parser.error("--cell takes a table's number, a row's number and a column's name")
-    return options
-
-
-def natural(word):
-    number = int(word)
-    if number < 0:
-        raise ValueError(word)
-    return number
-
-
-def answered(options, message, refusal, explained):
-    """The exit status and the lines for what was asked."""
-    if refusal:
-        return REFUSED, lines.refusal_lines(refusal, message)
-    if options.byte is not None:
-        return one_byte(explained, options.byte)
-    if options.cell:
-        return one_cell(explained, *options.cell)
-    if options.html:
-        return ANSWERED, ["%s shows %d fields" % (options.html, len(explained.fields))]
-    return ANSWERED, lines.field_lines(explained.fields)
-
-
-def one_byte(explained, offset):
-    if offset >= len(explained.message):
-        return REFUSED, ["there is no byte %d: the message has %d bytes" % (offset, len(explained.message))]
-    return ANSWERED, lines.byte_lines(explained, offset)
-
-
-def one_cell(explained, table, row, name):
-    """Asked as the paper orders it: table and row past the end before a name that no column has."""
-    row_counts = explained.of(paper.ROW_COUNT, table)
-    if not row_counts:
-        return REFUSED, ["there is no table %d" % table]
-    if row >= int(row_counts[0].value):
-        return REFUSED, ["there is no row %d: table %d has %s rows" % (row, table, row_counts[0].value)]
-    column = explained.find_column(table, name)
-    if column is None:
-        return REFUSED, ["table %d has no column of that name" % table]
-    return ANSWERED, lines.cell_lines(explained, table, row, column)
+def forget_output():
+    """Lets nothing be written when Python ends: what couldn't be written now can't be then."""
+    try:
+        os.dup2(os.open(os.devnull, os.O_WRONLY), 1)
+    except OSError:
+        pass

@@ -52,12 +52,13 @@ FIELDS = {
     51: ("cell", "value"),
 }
 
-# The fields that the indices are told for, and those that this tool looks up.
+# The fields that the indices are told for, and those that this tool looks up or looks at.
 PARAMETER_FIELDS = range(24, 29)
 TABLE_FIELDS = range(41, 52)
-PARAMETER_TYPE, ELEMENT_TYPE, ELEMENT_COUNT, VALUE_LENGTH, VALUE = 24, 25, 26, 27, 28
+MESSAGE_LENGTH, FLAG_BYTE, STATUS_LENGTH, APPLICATION_LENGTH, EXCEPTION_LENGTH = 1, 30, 32, 35, 38
+PARAMETER_COUNT, PARAMETER_TYPE, ELEMENT_TYPE, ELEMENT_COUNT, VALUE_LENGTH, VALUE = 23, 24, 25, 26, 27, 28
+TABLE_COUNT, TABLE_LENGTH, METADATA_LENGTH, TABLE_STATUS, COLUMN_COUNT = 40, 41, 42, 43, 44
 COLUMN_TYPE, COLUMN_NAME_LENGTH, COLUMN_NAME, ROW_COUNT, ROW_LENGTH, CELL_LENGTH, CELL = 45, 46, 47, 48, 49, 50, 51
-TABLE_COUNT = 40
 
 ARRAY, NULL, TINYINT, STRING, DECIMAL, FLOAT, TIMESTAMP, VARBINARY, POINT, GEOGRAPHY = -99, 1, 3, 9, 22, 8, 11, 25, 26, 27
 TYPES = {
@@ -82,5 +83,6 @@ REFUSALS = {
         "the value; a name's first byte above 127; an empty geography's length field"),
 }
 
-# The longest message that the listing program takes; a longer one is refused 3 at 0.
+# The longest message, its length field included, and the longest that the listing program takes.
+MOST_BYTES = 4_194_308
 MOST_LISTED = 65_536

@@ -32,6 +32,20 @@ def value_text(wire_type, raw):
     return shown.get(wire_type, lambda r: str(signed(r)))(raw)
 
 
+def raw_text(wire_type, raw):
+    """The number or the bits that a value was made from."""
+    shown = {
+        paper.FLOAT: lambda r: "the bits 0x%s" % r.hex(),
+        paper.STRING: lambda r: count_of(len(r), "byte"),
+        paper.TIMESTAMP: lambda r: "%d microseconds since 1970-01-01 00:00 UTC" % signed(r),
+        paper.DECIMAL: lambda r: "%d x 10^-%d" % (signed(r), DECIMAL_PLACES),
+        paper.VARBINARY: lambda r: count_of(len(r), "byte"),
+        paper.POINT: lambda r: "the bits 0x%s and 0x%s" % (r[:8].hex(), r[8:].hex()),
+        paper.GEOGRAPHY: lambda r: count_of(len(r), "byte"),
+    }
+    return shown.get(wire_type, lambda r: str(signed(r)))(raw)
+
+
 def quoted(raw):
     """Text in quotes. Bytes that are no UTF-8, and characters that can't be printed, are escaped."""
     text = raw.decode("utf-8", errors="surrogateescape")

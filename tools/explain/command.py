@@ -1,0 +1,116 @@
+"""The words of the command line."""
+
+import os
+
+from . import paper
+
+USAGE = """\
+usage: explain [KIND] FILE [--byte N | --cell TABLE ..] [--json | --html OUT]
+
+Says what each byte of a message means.
+
+  KIND            %s;
+                  if it is left out, the only kind that accepts the message
+  FILE            holds one message, its length first, of at most %d bytes; - is standard input
+  --byte N        only the field that owns byte N
+  --cell TABLE ROW COLUMN
+  --cell TABLE --row ROW --column COLUMN
+  --cell TABLE --where NAME=VALUE --column COLUMN
+                  the value of a cell, and the bytes that are it, that name it and that fix its place. COLUMN is a name, or if no
+                  column has that name a number. With --where, the cell is of the first row whose column NAME is VALUE
+  --json          the fields as lines of JSON
+  --html OUT      writes a page that shows the bytes, for a browser
+  --              what follows is KIND and FILE, even if it begins with -
+
+Each line: offset, size, bytes in hex, the field's name, where it belongs, and what it says. Tables, rows, columns, parameters
+and elements are counted from 0. Where fields stand is told by the proved library; words, decimals and moments are put to their bytes
+outside the proof. Exit status: 0 answered, 1 refused or not there, 2 the command can't be carried out.""" % (
+    ", ".join("%d %s" % kind for kind in paper.KINDS.items()), paper.MOST_BYTES)
+
+TAKES_WORD = ("--kind", "--byte", "--row", "--column", "--where", "--html")
+OPTIONS = TAKES_WORD + ("--cell", "--json", "--help", "-h", "--")
+
+
+class Usage(Exception):
+    """The command line asks for nothing that can be done."""
+
+
+class Options:
+    def __init__(self, words):
+        self.kind = self.file = self.byte = self.table = self.row = self.column = self.where = self.html = None
+        self.json = self.help = False
+        self.take(list(words))
+        if not self.help:
+            self.check()
+
+    def take(self, words):
+        places = []
+        while words:
+            word = words.pop(0)
+            if word == "--":
+                places, words = places + words, []
+            elif word in ("--help", "-h"):
+                self.help = True
+            elif word == "--json":
+                self.json = True
+            elif word == "--cell":
+                self.take_cell(words)
+            elif word.split("=")[0] in TAKES_WORD:
+                self.take_word(*word.split("=", 1), words=words)
+            elif word.startswith("-") and word != "-":
+                raise Usage("there is no option %s" % word)
+            else:
+                places.append(word)
+        self.take_places(places)
+
+    def take_word(self, option, *joined, words):
+        """An option and its word, which may be joined to it by = and may begin with -."""
+        if not joined and not words:
+            raise Usage("%s needs a word" % option)
+        word = joined[0] if joined else words.pop(0)
+        setattr(self, option[2:], word)
+
+    def take_cell(self, words):
+        """TABLE, or TABLE ROW COLUMN: a column's name may be any word but an option's."""
+        if not words:
+            raise Usage("--cell needs a table's number")
+        self.table = words.pop(0)
+        if len(words) >= 2 and words[0].isdecimal() and words[1] not in OPTIONS:
+            self.row, self.column = words.pop(0), words.pop(0)
+
+    def take_places(self, places):
+        if not self.help and len(places) not in (1, 2):
+            raise Usage("one FILE is needed, and a KIND may stand before it")
+        if len(places) == 2:
+            if self.kind is not None:
+                raise Usage("the kind is given twice")
+            self.kind = places[0]
+        self.file = places[-1] if places else None
+
+    def check(self):
+        for name in ("kind", "byte", "table", "row"):
+            setattr(self, name, natural(name, getattr(self, name)))
+        if self.kind is not None and self.kind not in paper.KINDS:
+            raise Usage("there is no kind %d: they are 1 to %d" % (self.kind, max(paper.KINDS)))
+        if self.table is None and (self.row, self.column, self.where) != (None, None, None):
+            raise Usage("--row, --where and --column go with --cell TABLE")
+        if self.table is not None and (self.column is None or (self.row is None) == (self.where is None)):
+            raise Usage("--cell needs a row, by its number or by --where NAME=VALUE, and a column")
+        if [self.byte, self.table].count(None) == 0 or (self.json and self.html is not None):
+            raise Usage("--byte and --cell, or --json and --html, don't go together")
+        if self.where is not None and "=" not in self.where:
+            raise Usage("--where takes NAME=VALUE")
+        self.column, self.where = as_bytes(self.column), as_bytes(self.where)
+
+
+def natural(name, word):
+    """A number from 0 on, in decimal digits without a sign or a 0 before it."""
+    if word is None:
+        return None
+    if not (word.isascii() and word.isdecimal() and len(word) <= 18) or (word[0] == "0" and word != "0"):
+        raise Usage("%s is a number from 0 on, and not %s" % (name.upper(), ascii(word)))
+    return int(word)
+
+
+def as_bytes(word):
+    return None if word is None else os.fsencode(word)
