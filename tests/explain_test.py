@@ -531,6 +531,18 @@ class WithTheProvedLibrary(unittest.TestCase):
 
 
 @unittest.skipUnless(shutil.which("rt"), "the Rattle kit isn't here")
+class Readme(unittest.TestCase):
+    def test_its_examples_are_what_the_commands_print(self):
+        """An example is a line with $ and the lines below it, which are the beginning of what the command prints."""
+        examples = re.findall(r"^    \$ (.*)\n((?:    .*\n|\n(?=    (?!\$)))+)", (ROOT / "README.md").read_text(), re.MULTILINE)
+        self.assertGreaterEqual(len(examples), 3)
+        for command_line, shown in examples:
+            printed = subprocess.run(command_line, shell=True, cwd=ROOT, stdout=subprocess.PIPE, encoding="utf-8").stdout.splitlines()
+            told = [line[4:] for line in shown.rstrip("\n").split("\n")]
+            self.assertEqual([line.rstrip() for line in printed[:len(told)]], told, command_line)
+
+
+@unittest.skipUnless(shutil.which("rt"), "the Rattle kit isn't here")
 class List(unittest.TestCase):
     def run_it(self, *words, **more):
         more = {"stdout": subprocess.PIPE, "stderr": subprocess.PIPE, **more}
