@@ -1,4 +1,4 @@
-"""Tests of ./explain and ./list. The listing of the sample is stored (explain/engines.list), so that most need no built program; where the kit is, the programs are
+"""Tests of ./explain, ./list and the words of tests/compare. The listing of the sample is stored (explain/engines.list), so that most need no built program; where the kit is, the programs are
 built and asked too. Run: python3 tests/explain_test.py"""
 
 import array
@@ -402,6 +402,17 @@ class Building(unittest.TestCase):
             os.utime(made, (0, 0))
             self.assertFalse(building.fresh(made, source))
 
+    def test_the_prover_is_asked_before_each_answer(self):
+        """So that no program answers that is older than the crates."""
+        with tempfile.TemporaryDirectory() as folder:
+            rt, asked = pathlib.Path(folder, "rt"), pathlib.Path(folder, "asked")
+            rt.write_text("#!/bin/sh\necho $* >>'%s'\nexit $(wc -l <'%s')\n" % (asked, asked))
+            rt.chmod(0o755)
+            with mock.patch.dict(os.environ, PATH=folder + os.pathsep + os.environ["PATH"]), mock.patch.object(building, "LOGS", ROOT / "target" / "explain" / "test"):
+                with self.assertRaisesRegex(building.Missing, "`rt check list` failed; target/explain/test/list.log says why"):
+                    building.list_program()
+            self.assertEqual(asked.read_text(), "check list\n")
+
     def test_no_kit(self):
         done = subprocess.run([sys.executable, str(ROOT / "explain"), "4", str(SAMPLE)], env={"PATH": "/nowhere"}, stderr=subprocess.PIPE, encoding="utf-8")
         self.assertEqual(done.returncode, 2)
@@ -513,7 +524,7 @@ class WithTheProvedLibrary(unittest.TestCase):
 
     def test_stopped_by_the_keyboard(self):
         running = subprocess.Popen([str(ROOT / "explain"), "4", "-"], stdin=subprocess.PIPE, stderr=subprocess.PIPE, encoding="utf-8")
-        time.sleep(0.7)
+        time.sleep(1.5)  # until it reads its input
         running.send_signal(signal.SIGINT)
         self.assertEqual((running.communicate()[1], running.returncode), ("explain: stopped\n", 2))
 
@@ -570,6 +581,14 @@ class List(unittest.TestCase):
             done = self.run_it("4", str(SAMPLE), stdout=full)
             self.assertEqual(done.returncode, 2)
             self.assertIn("list: the list couldn't be written", done.stderr)
+
+
+class Compare(unittest.TestCase):
+    def test_nonsense_is_refused(self):
+        for words in (["0"], ["-5"], ["x"], ["010"], ["1e5"], ["10", "-1"], ["10", "x"], ["1", "2", "3"]):
+            done = subprocess.run([str(ROOT / "tests" / "compare"), *words], stdout=subprocess.PIPE, stderr=subprocess.PIPE, encoding="utf-8")
+            self.assertEqual((done.returncode, done.stdout), (2, ""))
+            self.assertTrue(done.stderr.startswith("usage: tests/compare"))
 
 
 if __name__ == "__main__":
