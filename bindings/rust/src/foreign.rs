@@ -40,23 +40,16 @@ extern "C" {
     ) -> u64;
 
     pub fn chaloenpik_begin_call(
-        out: *mut u8, size: usize, state: *mut State, version: u8, procedure: *const u8, procedure_length: usize,
-        client: *const [u8; 8],
+        out: *mut u8, size: usize, state: *mut State, version: u8, procedure: *const u8, procedure_length: usize, client: *const [u8; 8],
     ) -> u64;
     pub fn chaloenpik_null_param(out: *mut u8, size: usize, state: *mut State) -> u64;
-    pub fn chaloenpik_fixed_param(
-        out: *mut u8, size: usize, state: *mut State, wire_type: u8, upper: u64, lower: u64,
-    ) -> u64;
+    pub fn chaloenpik_fixed_param(out: *mut u8, size: usize, state: *mut State, wire_type: u8, upper: u64, lower: u64) -> u64;
     pub fn chaloenpik_body_param(
         out: *mut u8, size: usize, state: *mut State, wire_type: u8, null: bool, bytes: *const u8, length: usize,
     ) -> u64;
-    pub fn chaloenpik_bytes_param(
-        out: *mut u8, size: usize, state: *mut State, bytes: *const u8, length: usize,
-    ) -> u64;
+    pub fn chaloenpik_bytes_param(out: *mut u8, size: usize, state: *mut State, bytes: *const u8, length: usize) -> u64;
     pub fn chaloenpik_open_array(out: *mut u8, size: usize, state: *mut State, wire_type: u8) -> u64;
-    pub fn chaloenpik_fixed_element(
-        out: *mut u8, size: usize, state: *mut State, wire_type: u8, upper: u64, lower: u64,
-    ) -> u64;
+    pub fn chaloenpik_fixed_element(out: *mut u8, size: usize, state: *mut State, wire_type: u8, upper: u64, lower: u64) -> u64;
     pub fn chaloenpik_body_element(
         out: *mut u8, size: usize, state: *mut State, wire_type: u8, null: bool, bytes: *const u8, length: usize,
     ) -> u64;
@@ -64,13 +57,13 @@ extern "C" {
     pub fn chaloenpik_finish_call(out: *mut u8, size: usize, state: *mut State) -> u64;
 
     pub fn chaloenpik_begin_reply(
-        out: *mut u8, size: usize, state: *mut State, version: u8, client: *const [u8; 8], flags: u8, status: u8,
-        status_null: bool, status_string: *const u8, status_length: usize, app_status: u8, app_null: bool, app_string: *const u8,
-        app_length: usize, round_trip: u32, exception: *const u8, exception_length: usize,
+        out: *mut u8, size: usize, state: *mut State, version: u8, client: *const [u8; 8], flags: u8, status: u8, status_null: bool,
+        status_string: *const u8, status_length: usize, app_status: u8, app_null: bool, app_string: *const u8, app_length: usize,
+        round_trip: u32, exception: *const u8, exception_length: usize,
     ) -> u64;
     pub fn chaloenpik_open_table(
-        out: *mut u8, size: usize, state: *mut State, types: *mut Types, status: u8, columns: *const u64, numbers: usize,
-        names: *const u8, names_length: usize,
+        out: *mut u8, size: usize, state: *mut State, types: *mut Types, status: u8, columns: *const u64, numbers: usize, names: *const u8,
+        names_length: usize,
     ) -> u64;
     pub fn chaloenpik_open_row(out: *mut u8, size: usize, state: *mut State, types: *const Types) -> u64;
     pub fn chaloenpik_fixed_cell(

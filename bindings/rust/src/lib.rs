@@ -1,131 +1,107 @@
-//! Reads and writes messages of the VoltDB client wire protocol with the proved library `exports`.
+//! Reads and writes messages of the VoltDB client wire protocol, and says which bytes of a message say what.
 //!
-//! The proved functions ask nothing of their arguments but that slices are slices, which Rust's types give. What is unsafe
-//! here is only the call of a foreign function.
+//! A safe wrapper over the C interface of the proved library Chaloenpik (`include/chaloenpik.h`). A message is accepted exactly if it
+//! encodes a record of its kind, every byte of an accepted message has one owner, and every call ends on every input, with its result
+//! or one [`Refusal`], which says itself in words.
+//!
+//! # Is this a message?
+//!
+//! ```
+//! use chaloenpik::{accept, Kind};
+//!
+//! let reply = include_bytes!("../../../samples/4-engines.bin");
+//! accept(Kind::Response, reply)?;
+//!
+//! let refusal = accept(Kind::LoginResponse, reply).unwrap_err();
+//! assert_eq!(refusal.to_string(), "a length or count passes its limit (refusal 3) at byte 30");
+//! # Ok::<(), chaloenpik::Refusal>(())
+//! ```
+//!
+//! # Which bytes set the limit of engine 2?
+//!
+//! A [`Table`] goes through the message when it is opened, and then knows the place of each of its cells.
+//!
+//! ```
+//! use chaloenpik::{Table, Value};
+//!
+//! let reply = include_bytes!("../../../samples/4-engines.bin");
+//! let table = Table::new(reply, 0)?;
+//! let engine = table.find("ENGINE_ID")?;
+//! for row in table.rows() {
+//!     if row.cell(engine)?.value == Value::Integer(2) {
+//!         let limit = row.get("THROTTLE_LIMIT")?;
+//!         assert_eq!(limit.place, 238..254);
+//!         assert!(matches!(limit.value, Value::Decimal(Some(x)) if x.to_string() == "0.8"));
+//!     }
+//! }
+//! # Ok::<(), chaloenpik::Refusal>(())
+//! ```
+//!
+//! # The rest
+//!
+//! | To | Take |
+//! |---|---|
+//! | list a message's fields, ask for a byte's owner | [`fields`], [`field()`], [`owner`] |
+//! | read what a message says | [`login_request`], [`login_response`], [`invocation`], [`response`] |
+//! | read tables; parameters | [`Table`], or [`cell`] for one cell; [`parameter`] and [`element`] |
+//! | keep a column on a card | [`make_card`], [`open_card`] |
+//! | write a message | [`write_login_request`], [`write_login_response`], [`CallWriter`], [`ReplyWriter`] |
+//!
+//! # What is proved
+//!
+//! The functions of the archive are, and each call here is one or two of them. Outside the proof are this crate's own lines, which are
+//! tested: numbers become Rust's types, and a [`Table`] takes its values from the bytes that the proved field list gives them.
+//!
+//! # What is unsafe
+//!
+//! Only the calls of foreign functions. They ask nothing of their arguments but that each pointer has so many elements as its length
+//! says, and that memory lent for writing overlaps nothing else: slices and references have both by Rust's own rules. A writer's state
+//! can't be reached from outside; and whatever stood in it, a step would be carried out or refused, and would stay inside its buffer.
 
+#![warn(missing_docs)]
+
+mod call;
+mod card;
+mod field;
 mod foreign;
-mod records;
-mod values;
-mod writer;
+mod login;
+mod query;
+mod refusal;
+mod reply;
+mod table;
+mod value;
 
-pub use records::{invocation, login_request, login_response, response, Invocation, LoginRequest, LoginResponse, Optional, Response};
-pub use values::{cell, element, parameter, wire, Parameter, Value};
-pub use writer::{write_login_request, write_login_response, Column, Opening, Welcome, Writer};
+pub use call::{element, invocation, parameter, CallWriter, Invocation, Parameter};
+pub use card::{make_card, open_card, Card, CARD_SIZE};
+pub use field::{field, fields, owner, Field};
+pub use login::{login_request, login_response, write_login_request, write_login_response, LoginRequest, LoginResponse, Welcome};
+pub use query::{cell, column_type, columns, find_column, rows, tables};
+pub use refusal::{Cause, Refusal};
+pub use reply::{response, ColumnEntry, Optional, ReplyHead, ReplyWriter, Response};
+pub use table::{Cell, Column, Row, Table};
+pub use value::{Decimal, Value, WireType};
 
-/// The four kinds of messages.
-#[derive(Clone, Copy, Debug, PartialEq, Eq)]
+/// The four kinds of messages, by the paper's numbers.
+#[derive(Clone, Copy, Debug, PartialEq, Eq, Hash)]
+#[repr(u8)]
 pub enum Kind {
+    /// What a client sends first.
     LoginRequest = 1,
+    /// What the server answers to that.
     LoginResponse = 2,
+    /// A call of a procedure.
     Invocation = 3,
+    /// What the server answers to that, with tables.
     Response = 4,
 }
 
-/// Why a call refuses: the paper's number, and its place.
-#[derive(Clone, Copy, Debug, PartialEq, Eq)]
-pub struct Refusal {
-    pub number: u8,
-    pub place: u64,
-}
-
-impl std::fmt::Display for Refusal {
-    fn fmt(&self, f: &mut std::fmt::Formatter<'_>) -> std::fmt::Result {
-        write!(f, "refused {} at {}", self.number, self.place)
-    }
-}
-
-impl std::error::Error for Refusal {}
-
 /// Whether a message of a kind is accepted.
 pub fn accept(kind: Kind, message: &[u8]) -> Result<(), Refusal> {
-    // SAFETY: the pointer and the length are those of a slice, which the function only reads.
-    found(unsafe { foreign::chaloenpik_accept(kind as u8, message.as_ptr(), message.len()) }).map(|_| ())
+    // SAFETY: the pointer and the length are those of a slice, which is only read.
+    refusal::found(unsafe { foreign::chaloenpik_accept(kind as u8, message.as_ptr(), message.len()) }).map(|_| ())
 }
 
-/// A field of a message: where it stands, how long it is, its number and its three indices.
-#[derive(Clone, Copy, Debug, PartialEq, Eq)]
-pub struct Field {
-    pub offset: u64,
-    pub size: u64,
-    pub number: u64,
-    pub indices: [u64; 3],
-}
-
-/// All fields of a message of a kind, in wire order.
-pub fn fields(kind: Kind, message: &[u8]) -> Result<Vec<Field>, Refusal> {
-    // SAFETY: as above.
-    let count = found(unsafe { foreign::chaloenpik_field_count(kind as u8, message.as_ptr(), message.len()) })?;
-    let mut numbers = vec![0u64; 6 * count as usize];
-    // SAFETY: as above; the list is lent for writing and is nobody else's.
-    found(unsafe {
-        foreign::chaloenpik_fields(kind as u8, message.as_ptr(), message.len(), 0, numbers.as_mut_ptr(), numbers.len())
-    })?;
-    Ok(numbers.chunks_exact(6).map(|n| Field { offset: n[0], size: n[1], number: n[2], indices: [n[3], n[4], n[5]] }).collect())
-}
-
-/// The number, in the list of fields, of the one that owns a byte.
-pub fn owner(kind: Kind, message: &[u8], offset: usize) -> Result<usize, Refusal> {
-    // SAFETY: as above.
-    found(unsafe { foreign::chaloenpik_owner(kind as u8, message.as_ptr(), message.len(), offset) }).map(|n| n as usize)
-}
-
-/// How many tables a response has.
-pub fn tables(message: &[u8]) -> Result<usize, Refusal> {
-    // SAFETY: as above.
-    found(unsafe { foreign::chaloenpik_tables(message.as_ptr(), message.len()) }).map(|n| n as usize)
-}
-
-/// How many rows a table of a response has.
-pub fn rows(message: &[u8], table: usize) -> Result<usize, Refusal> {
-    // SAFETY: as above.
-    found(unsafe { foreign::chaloenpik_rows(message.as_ptr(), message.len(), table) }).map(|n| n as usize)
-}
-
-/// How many columns a table of a response has.
-pub fn columns(message: &[u8], table: usize) -> Result<usize, Refusal> {
-    // SAFETY: as above.
-    found(unsafe { foreign::chaloenpik_columns(message.as_ptr(), message.len(), table) }).map(|n| n as usize)
-}
-
-/// The wire type of a column of a response.
-pub fn column_type(message: &[u8], table: usize, column: usize) -> Result<u8, Refusal> {
-    // SAFETY: as above.
-    found(unsafe { foreign::chaloenpik_column_type(message.as_ptr(), message.len(), table, column) }).map(|n| n as u8)
-}
-
-/// The position of the first column of a table whose name is equal, byte for byte.
-pub fn find_column(message: &[u8], table: usize, name: &[u8]) -> Result<usize, Refusal> {
-    // SAFETY: as above, for both slices.
-    let answer = unsafe { foreign::chaloenpik_find_column(message.as_ptr(), message.len(), table, name.as_ptr(), name.len()) };
-    found(answer).map(|n| n as usize)
-}
-
-/// A shortcut card: a column's position, type and name.
-pub type Card = [u8; 36];
-
-/// The card of the first column of a name in a table of a response.
-pub fn make_card(message: &[u8], table: usize, name: &[u8]) -> Result<Card, Refusal> {
-    let mut card = [0; 36];
-    // SAFETY: as above; the card is lent for writing and is nobody else's.
-    found(unsafe {
-        foreign::chaloenpik_make_card(
-            message.as_ptr(), message.len(), table, name.as_ptr(), name.len(), card.as_mut_ptr(), card.len(),
-        )
-    })?;
-    Ok(card)
-}
-
-/// The position of the column that a card stands for, if the table still has it there.
-pub fn open_card(message: &[u8], table: usize, card: &[u8]) -> Result<usize, Refusal> {
-    // SAFETY: as above, for both slices.
-    let answer = unsafe { foreign::chaloenpik_open_card(message.as_ptr(), message.len(), table, card.as_ptr(), card.len()) };
-    found(answer).map(|n| n as usize)
-}
-
-/// An answer taken apart: what was found, or the refusal.
-fn found(answer: u64) -> Result<u64, Refusal> {
-    match (answer & 255) as u8 {
-        0 => Ok(answer >> 8),
-        number => Err(Refusal { number, place: answer >> 8 }),
-    }
+/// The message that was written in front of a buffer.
+fn written(out: &[u8], size: usize) -> Result<&[u8], Refusal> {
+    out.get(..size).ok_or(Refusal::UNKNOWN_ANSWER)
 }

@@ -1,6 +1,6 @@
 use chaloenpik::{
-    cell, columns, find_column, parameter, rows, wire, write_login_request, write_login_response, Column, Opening, Parameter, Refusal, Value,
-    Welcome, Writer,
+    cell, columns, find_column, login_response, parameter, response, rows, write_login_request, write_login_response, CallWriter, Cause,
+    Cell, ColumnEntry, Decimal, LoginRequest, Optional, Parameter, Refusal, ReplyHead, ReplyWriter, Table, Value, Welcome, WireType,
 };
 
 const LOGIN: &[u8] = include_bytes!("../../../samples/1-login.bin");
@@ -9,74 +9,158 @@ const CALL: &[u8] = include_bytes!("../../../samples/3-engine-limits.bin");
 const REPLY: &[u8] = include_bytes!("../../../samples/4-engines.bin");
 const CLIENT: [u8; 8] = 42u64.to_be_bytes();
 
+/// The cause of a step's refusal; the step may not be carried out.
+fn cause<T>(step: Result<T, Refusal>) -> Cause {
+    step.map(|_| ()).expect_err("carried out").cause
+}
+
 #[test]
 fn the_logins() {
     let hash: Vec<u8> = (0..20).collect();
+    let login = LoginRequest { version: 1, hash_version: Some(0), service: b"database", user: b"harbour", hash: &hash };
     let mut out = [7; 100];
-    assert_eq!(write_login_request(&mut out, 1, 0, b"database", b"harbour", &hash), Ok(LOGIN.len()));
-    assert_eq!(&out[..LOGIN.len()], LOGIN);
+    assert_eq!(write_login_request(&mut out, login), Ok(LOGIN));
     assert!(out[LOGIN.len()..].iter().all(|&b| b == 7));
 
-    let welcome = Welcome { host: 3, connection: 12, start: 1_760_000_000_000, leader: [10, 0, 0, 1], build: b"6.0 harbour" };
-    assert_eq!(write_login_response(&mut out, 1, 0, welcome), Ok(LOGIN_REPLY.len()));
-    assert_eq!(&out[..LOGIN_REPLY.len()], LOGIN_REPLY);
+    let welcome = login_response(LOGIN_REPLY).unwrap().welcome.unwrap();
+    assert_eq!(write_login_response(&mut out, 1, 0, welcome), Ok(LOGIN_REPLY));
 
-    assert_eq!(write_login_request(&mut out, 1, 1, b"", b"", &hash), Err(Refusal { number: 1, place: 0 }));
-    assert_eq!(write_login_response(&mut out[..5], 0, 3, Welcome::default()), Err(Refusal { number: 8, place: 6 }));
+    assert_eq!(cause(write_login_request(&mut out, LoginRequest { hash_version: Some(1), ..login })), Cause::NoRoom);
+    assert_eq!(cause(write_login_request(&mut out, LoginRequest { hash_version: None, ..login })), Cause::Version);
+    assert!(write_login_request(&mut out, LoginRequest { version: 0, hash_version: None, ..login }).is_ok());
+    let short = Refusal { cause: Cause::ShortOutput, place: 6 };
+    assert_eq!(write_login_response(&mut out[..5], 0, 3, Welcome::default()), Err(short));
+    assert_eq!(write_login_response(&mut out, 0, 3, Welcome::default()), Ok(&[0, 0, 0, 2, 0, 3][..]));
 }
 
 #[test]
 fn the_sample_call() -> Result<(), Refusal> {
     let mut out = [0; 200];
-    let mut w = Writer::begin_call(&mut out, 0, b"EngineLimits", CLIENT)?;
-    w.param(Value::Text(Some(b"Bodil")))?;
-    w.open_array(wire::INTEGER)?;
-    w.element(Value::Integer(1))?;
-    assert_eq!(w.element(Value::Bigint(1)).map_err(|no| no.number), Err(6));
-    w.element(Value::Integer(2))?;
-    assert_eq!(w.finish_call().map_err(|no| no.number), Err(13));
-    w.close_array()?;
-    w.bytes_param(&[1, 2])?;
-    w.null_param()?;
-    let size = w.finish_call()?;
-    assert_eq!(&out[..size], CALL);
+    let mut w = CallWriter::begin(&mut out, 0, "EngineLimits", CLIENT)?;
+    w.param("Bodil")?;
+    w.open_array(WireType::Integer)?.element(1)?;
+    assert_eq!(cause(w.element(1i64)), Cause::WireType);
+    w.element(2)?;
+    assert_eq!(cause(w.null()), Cause::WrongStage);
+    w.close_array()?.bytes(&[1, 2])?.null()?;
+    assert_eq!(w.position(), CALL.len());
+    assert_eq!(w.finish()?, CALL);
     Ok(())
 }
 
-/// The sample's table, copied: each name and each cell as it is read.
+#[test]
+fn a_refused_array_leaves_the_writer_as_it_was() -> Result<(), Refusal> {
+    let mut out = [0; 200];
+    let mut w = CallWriter::begin(&mut out, 0, "EngineLimits", CLIENT)?;
+    w.param("Bodil")?;
+    let position = w.position();
+    assert_eq!(cause(w.array(WireType::Integer, [Value::Integer(1), Value::Bigint(2)])), Cause::WireType);
+    assert_eq!(cause(w.array(WireType::Tinyint, [1i8, 2])), Cause::WireType);
+    assert_eq!(cause(w.array(WireType::Integer, [0; 100])), Cause::ShortOutput);
+    assert_eq!(w.position(), position);
+    w.array(WireType::Integer, [1, 2])?.bytes(&[1, 2])?.null()?;
+    assert_eq!(w.finish()?, CALL);
+    Ok(())
+}
+
+#[test]
+fn what_is_open_can_t_be_finished() -> Result<(), Refusal> {
+    let mut out = [0; 200];
+    let mut call = CallWriter::begin(&mut out, 1, "P", CLIENT)?;
+    call.open_array(WireType::Float)?;
+    assert_eq!(cause(call.finish()), Cause::WrongStage);
+
+    let mut reply = ReplyWriter::begin(&mut out, ReplyHead::default())?;
+    reply.open_table(0, [("A", WireType::Float)])?;
+    assert_eq!(cause(reply.finish()), Cause::WrongStage);
+    Ok(())
+}
+
+fn sample_head() -> ReplyHead<'static> {
+    let status_string = Optional::There(b"ok");
+    ReplyHead { client: CLIENT, status: 1, status_string, app_status: -128, round_trip: 2, ..ReplyHead::default() }
+}
+
+/// The sample's table, copied: each name by its place in lent bytes, and each cell as it is read.
 #[test]
 fn the_sample_reply() -> Result<(), Refusal> {
+    use WireType::{Decimal, Float, Integer, Point, String, Timestamp};
     let names = b"ENGINE_IDVESSELENGINETHROTTLE_LIMITCOOLANT_CBERTHSERVICED";
-    let sizes = [9, 6, 6, 14, 9, 5, 8];
-    let types = [wire::INTEGER, wire::STRING, wire::STRING, wire::DECIMAL, wire::FLOAT, wire::POINT, wire::TIMESTAMP];
+    let types = [(Integer, 9), (String, 6), (String, 6), (Decimal, 14), (Float, 9), (Point, 5), (Timestamp, 8)];
     let mut start = 0;
-    let table: Vec<Column> = sizes
-        .iter()
-        .zip(types)
-        .map(|(&size, wire_type)| {
-            start += size;
-            Column { wire_type, start: start - size, size }
-        })
-        .collect();
+    let table = types.map(|(wire_type, size)| {
+        start += size;
+        ColumnEntry { wire_type, start: start - size, size }
+    });
     assert_eq!(find_column(REPLY, 0, &names[21..35]), Ok(3));
 
     let mut out = vec![0; REPLY.len()];
-    let opening =
-        Opening { client: CLIENT, flags: 32, status: 1, status_string: Some(b"ok"), app_status: -128, round_trip: 2, ..Opening::default() };
-    let mut w = Writer::begin_reply(&mut out, 0, opening)?;
-    assert_eq!(w.open_table(0, &table, &names[1..]), Err(Refusal { number: 11, place: 0 }));
-    w.open_table(0, &table, names)?;
+    let mut w = ReplyWriter::begin(&mut out, sample_head())?;
+    assert_eq!(cause(w.open_table_named(0, &table, &names[1..])), Cause::PastEnd);
+    w.open_table_named(0, &table, names)?;
     for row in 0..rows(REPLY, 0)? {
         w.open_row()?;
         for column in 0..columns(REPLY, 0)? {
-            assert_eq!(w.close_row().map_err(|no| no.number), Err(13));
+            assert_eq!(cause(w.close_row()), Cause::WrongStage);
             w.cell(cell(REPLY, 0, row, column)?)?;
         }
         w.close_row()?;
     }
     w.close_table()?;
-    assert_eq!(w.finish_reply(), Ok(REPLY.len()));
-    assert_eq!(out, REPLY);
+    assert_eq!(w.finish()?, REPLY);
+    Ok(())
+}
+
+/// The sample once more, copied in the short way: head, columns and rows as they are read.
+#[test]
+fn a_reply_is_copied() -> Result<(), Refusal> {
+    let table = Table::new(REPLY, 0)?;
+    let mut out = vec![0; REPLY.len()];
+    assert_eq!(response(REPLY)?.head, sample_head());
+    let mut w = ReplyWriter::begin(&mut out, response(REPLY)?.head)?;
+    w.open_table(0, table.columns())?;
+    for row in table.rows() {
+        let cells: Vec<Cell> = row.cells().collect::<Result<_, _>>()?;
+        w.row(cells.iter().map(|cell| cell.value))?;
+    }
+    w.close_table()?;
+    assert_eq!(w.finish()?, REPLY);
+    Ok(())
+}
+
+#[test]
+fn a_refused_row_leaves_the_writer_as_it_was() -> Result<(), Refusal> {
+    let mut out = [0; 100];
+    let mut w = ReplyWriter::begin(&mut out, ReplyHead::default())?;
+    w.open_table(0, [("A", WireType::Integer), ("B", WireType::String)])?;
+    w.row([1.into(), "one".into()])?;
+    let position = w.position();
+    assert_eq!(cause(w.row([1.into()])), Cause::WrongStage);
+    assert_eq!(cause(w.row([1.into(), "one".into(), 1.into()])), Cause::WrongStage);
+    assert_eq!(cause(w.row([1.into(), 1.into()])), Cause::WireType);
+    assert_eq!(cause(w.row([1.into(), Value::Text(Some(&[0; 100]))])), Cause::ShortOutput);
+    assert_eq!(w.position(), position);
+    w.row([2.into(), Value::Text(None)])?.close_table()?;
+    let message = w.finish()?;
+    assert_eq!(rows(message, 0), Ok(2));
+    assert_eq!(cell(message, 0, 1, 0), Ok(Value::Integer(2)));
+    Ok(())
+}
+
+/// Each string and the exception, absent, null and there: the flags follow from them.
+#[test]
+fn heads_read_back_as_they_were_written() -> Result<(), Refusal> {
+    let strings = [Optional::Absent, Optional::Null, Optional::There(b""), Optional::There(b"why")];
+    for status_string in strings {
+        for app_string in strings {
+            for exception in [None, Some(&b""[..]), Some(b"how")] {
+                let head = ReplyHead { version: 1, status_string, app_string, exception, ..sample_head() };
+                let mut out = [0; 100];
+                let message = ReplyWriter::begin(&mut out, head)?.finish()?;
+                assert_eq!(response(message)?.head, head);
+            }
+        }
+    }
     Ok(())
 }
 
@@ -92,8 +176,8 @@ fn values_of_every_type() -> Result<(), Refusal> {
         Value::Text(Some(b"")),
         Value::Text(None),
         Value::Timestamp(-1),
-        Value::Decimal(-800_000_000_000),
-        Value::Decimal(i128::MIN),
+        Value::Decimal(Decimal::from_units(-800_000_000_000)),
+        Value::Decimal(None),
         Value::Binary(Some(&[0, 255])),
         Value::Binary(None),
         Value::Point { longitude: -12.25, latitude: 55.5 },
@@ -101,13 +185,27 @@ fn values_of_every_type() -> Result<(), Refusal> {
         Value::Geography(None),
     ];
     let mut out = [0; 300];
-    let mut w = Writer::begin_call(&mut out, 1, b"Every", CLIENT)?;
+    let mut w = CallWriter::begin(&mut out, 1, "Every", CLIENT)?;
     for value in values {
         w.param(value)?;
     }
-    let size = w.finish_call()?;
+    assert_eq!(cause(w.param(Decimal::from_units(10i128.pow(38)).unwrap())), Cause::BadValue);
+    assert_eq!(cause(w.param(Value::Geography(Some(b"")))), Cause::BadValue);
+    let message = w.finish()?;
     for (number, value) in values.into_iter().enumerate() {
-        assert_eq!(parameter(&out[..size], number), Ok(Parameter::One(value)));
+        assert_eq!(parameter(message, number), Ok(Parameter::One(value)));
     }
     Ok(())
+}
+
+#[test]
+fn rust_s_own_types_are_values() {
+    assert_eq!(Value::from(1i8), Value::Tinyint(1));
+    assert_eq!(Value::from(1i16), Value::Smallint(1));
+    assert_eq!(Value::from(1i32), Value::Integer(1));
+    assert_eq!(Value::from(1i64), Value::Bigint(1));
+    assert_eq!(Value::from(1.0), Value::Float(1.0));
+    assert_eq!(Value::from("1"), Value::Text(Some(b"1")));
+    let one = Decimal::from_units(1);
+    assert_eq!(one.map(Value::from), Some(Value::Decimal(one)));
 }

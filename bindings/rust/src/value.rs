@@ -1,0 +1,330 @@
+//! Wire types and values.
+
+use crate::refusal::Refusal;
+use std::fmt;
+
+/// A wire type, by the paper's number.
+#[derive(Clone, Copy, Debug, PartialEq, Eq, Hash)]
+#[repr(i8)]
+pub enum WireType {
+    /// Elements of one type; among parameters alone.
+    Array = -99,
+    /// Nothing; among parameters alone.
+    Null = 1,
+    /// A number of 1 byte.
+    Tinyint = 3,
+    /// A number of 2 bytes.
+    Smallint = 4,
+    /// A number of 4 bytes.
+    Integer = 5,
+    /// A number of 8 bytes.
+    Bigint = 6,
+    /// 8 bytes of IEEE 754.
+    Float = 8,
+    /// Text with its length.
+    String = 9,
+    /// Microseconds, in 8 bytes.
+    Timestamp = 11,
+    /// Units of 10^-12, in 16 bytes.
+    Decimal = 22,
+    /// Bytes with their length.
+    Varbinary = 25,
+    /// Longitude and latitude, two floats.
+    Point = 26,
+    /// A shape on the earth, with its length.
+    Geography = 27,
+}
+
+impl WireType {
+    /// All wire types.
+    pub const ALL: [WireType; 13] = [
+        WireType::Array,
+        WireType::Null,
+        WireType::Tinyint,
+        WireType::Smallint,
+        WireType::Integer,
+        WireType::Bigint,
+        WireType::Float,
+        WireType::String,
+        WireType::Timestamp,
+        WireType::Decimal,
+        WireType::Varbinary,
+        WireType::Point,
+        WireType::Geography,
+    ];
+
+    /// The byte that stands for the type in a message.
+    pub fn byte(self) -> u8 {
+        self as i8 as u8
+    }
+
+    /// The type that a byte stands for, if it is one's.
+    pub fn from_byte(byte: u8) -> Option<WireType> {
+        WireType::ALL.into_iter().find(|wire_type| wire_type.byte() == byte)
+    }
+
+    /// Whether its values are bytes with their length before them.
+    fn is_counted(self) -> bool {
+        matches!(self, WireType::String | WireType::Varbinary | WireType::Geography)
+    }
+}
+
+/// The type in an answer of a foreign function.
+pub(crate) fn answered_type(number: u64) -> Result<WireType, Refusal> {
+    u8::try_from(number).ok().and_then(WireType::from_byte).ok_or(Refusal::UNKNOWN_ANSWER)
+}
+
+/// A value, by its wire type. Text and binary values read from a message are parts of it. Text isn't checked as UTF-8.
+#[derive(Clone, Copy, Debug, PartialEq)]
+pub enum Value<'m> {
+    /// A number of 1 byte.
+    Tinyint(i8),
+    /// A number of 2 bytes.
+    Smallint(i16),
+    /// A number of 4 bytes.
+    Integer(i32),
+    /// A number of 8 bytes.
+    Bigint(i64),
+    /// A float, with every bit as in the message, those of a NaN too.
+    Float(f64),
+    /// A string, or its null.
+    Text(Option<&'m [u8]>),
+    /// Microseconds.
+    Timestamp(i64),
+    /// A decimal, or its null.
+    Decimal(Option<Decimal>),
+    /// A varbinary, or its null.
+    Binary(Option<&'m [u8]>),
+    /// A point on the earth, in degrees.
+    Point {
+        /// From -180 to 180.
+        longitude: f64,
+        /// From -90 to 90.
+        latitude: f64,
+    },
+    /// A geography, which the library doesn't look into, or its null.
+    Geography(Option<&'m [u8]>),
+}
+
+/// A value as the foreign functions take it: the bits of one of a fixed size, or the bytes of another, or its null.
+pub(crate) enum Form<'m> {
+    Fixed(u128),
+    Body(Option<&'m [u8]>),
+}
+
+/// The form, in numbers, of a text or binary value that is there.
+const BYTES: u64 = 1;
+
+/// The length field of a null.
+const NULL_LENGTH: [u8; 4] = (-1i32).to_be_bytes();
+
+impl<'m> Value<'m> {
+    /// The value's wire type.
+    pub fn wire_type(&self) -> WireType {
+        match self {
+            Value::Tinyint(_) => WireType::Tinyint,
+            Value::Smallint(_) => WireType::Smallint,
+            Value::Integer(_) => WireType::Integer,
+            Value::Bigint(_) => WireType::Bigint,
+            Value::Float(_) => WireType::Float,
+            Value::Text(_) => WireType::String,
+            Value::Timestamp(_) => WireType::Timestamp,
+            Value::Decimal(_) => WireType::Decimal,
+            Value::Binary(_) => WireType::Varbinary,
+            Value::Point { .. } => WireType::Point,
+            Value::Geography(_) => WireType::Geography,
+        }
+    }
+
+    /// Whether it is the null of its type.
+    pub fn is_null(&self) -> bool {
+        matches!(self, Value::Text(None) | Value::Decimal(None) | Value::Binary(None) | Value::Geography(None))
+    }
+
+    /// Each number is brought to its own width without a sign, so none is cut.
+    pub(crate) fn form(self) -> Form<'m> {
+        match self {
+            Value::Tinyint(n) => Form::Fixed((n as u8).into()),
+            Value::Smallint(n) => Form::Fixed((n as u16).into()),
+            Value::Integer(n) => Form::Fixed((n as u32).into()),
+            Value::Bigint(n) | Value::Timestamp(n) => Form::Fixed((n as u64).into()),
+            Value::Float(x) => Form::Fixed(x.to_bits().into()),
+            Value::Decimal(decimal) => Form::Fixed(decimal.map_or(Decimal::NULL, Decimal::units) as u128),
+            Value::Point { longitude, latitude } => Form::Fixed(u128::from(longitude.to_bits()) << 64 | u128::from(latitude.to_bits())),
+            Value::Text(bytes) | Value::Binary(bytes) | Value::Geography(bytes) => Form::Body(bytes),
+        }
+    }
+
+    /// The value that a foreign function shows in numbers: wire type, form, and two that the form decides.
+    pub(crate) fn from_numbers(message: &'m [u8], numbers: [u64; 4]) -> Result<Self, Refusal> {
+        let [wire_type, form, upper, lower] = numbers;
+        let wire_type = answered_type(wire_type)?;
+        let value = if !wire_type.is_counted() {
+            Value::fixed(wire_type, u128::from(upper) << 64 | u128::from(lower))
+        } else if form == BYTES {
+            Value::counted(wire_type, Some(part(message, upper, lower)?))
+        } else {
+            Value::counted(wire_type, None)
+        };
+        value.ok_or(Refusal::UNKNOWN_ANSWER)
+    }
+
+    /// The value of a type that its bytes in an accepted message say, a length field among them.
+    pub(crate) fn from_bytes(wire_type: WireType, bytes: &'m [u8]) -> Option<Self> {
+        if wire_type.is_counted() {
+            let (length, body) = (bytes.get(..4)?, bytes.get(4..)?);
+            return Value::counted(wire_type, (length != NULL_LENGTH).then_some(body));
+        }
+        let mut wide = [0; 16];
+        let zeros = wide.len().checked_sub(bytes.len())?;
+        wide[zeros..].copy_from_slice(bytes);
+        Value::fixed(wire_type, u128::from_be_bytes(wide))
+    }
+
+    /// A value of a fixed size, by its bits.
+    fn fixed(wire_type: WireType, bits: u128) -> Option<Self> {
+        let (upper, lower) = ((bits >> 64) as u64, bits as u64);
+        Some(match wire_type {
+            WireType::Tinyint => Value::Tinyint(lower as i8),
+            WireType::Smallint => Value::Smallint(lower as i16),
+            WireType::Integer => Value::Integer(lower as i32),
+            WireType::Bigint => Value::Bigint(lower as i64),
+            WireType::Float => Value::Float(f64::from_bits(lower)),
+            WireType::Timestamp => Value::Timestamp(lower as i64),
+            WireType::Decimal => Value::Decimal(Decimal::from_units(bits as i128)),
+            WireType::Point => Value::Point { longitude: f64::from_bits(upper), latitude: f64::from_bits(lower) },
+            _ => return None,
+        })
+    }
+
+    /// A text or binary value.
+    fn counted(wire_type: WireType, body: Option<&'m [u8]>) -> Option<Self> {
+        match wire_type {
+            WireType::String => Some(Value::Text(body)),
+            WireType::Varbinary => Some(Value::Binary(body)),
+            WireType::Geography => Some(Value::Geography(body)),
+            _ => None,
+        }
+    }
+}
+
+/// A part of the message, by its start and size.
+pub(crate) fn part(message: &[u8], start: u64, size: u64) -> Result<&[u8], Refusal> {
+    let (start, size) = (start as usize, size as usize);
+    message.get(start..).and_then(|rest| rest.get(..size)).ok_or(Refusal::UNKNOWN_ANSWER)
+}
+
+impl From<i8> for Value<'_> {
+    fn from(n: i8) -> Self {
+        Value::Tinyint(n)
+    }
+}
+
+impl From<i16> for Value<'_> {
+    fn from(n: i16) -> Self {
+        Value::Smallint(n)
+    }
+}
+
+impl From<i32> for Value<'_> {
+    fn from(n: i32) -> Self {
+        Value::Integer(n)
+    }
+}
+
+impl From<i64> for Value<'_> {
+    fn from(n: i64) -> Self {
+        Value::Bigint(n)
+    }
+}
+
+impl From<f64> for Value<'_> {
+    fn from(x: f64) -> Self {
+        Value::Float(x)
+    }
+}
+
+impl<'m> From<&'m str> for Value<'m> {
+    fn from(text: &'m str) -> Self {
+        Value::Text(Some(text.as_bytes()))
+    }
+}
+
+impl From<Decimal> for Value<'_> {
+    fn from(decimal: Decimal) -> Self {
+        Value::Decimal(Some(decimal))
+    }
+}
+
+/// A decimal that is no null: a signed number of units of 10^-12.
+///
+/// ```
+/// use chaloenpik::Decimal;
+///
+/// let limit = Decimal::from_units(800_000_000_000).unwrap();
+/// assert_eq!(limit.to_string(), "0.8");
+/// ```
+#[derive(Clone, Copy, Debug, PartialEq, Eq, PartialOrd, Ord, Hash)]
+pub struct Decimal(i128);
+
+impl Decimal {
+    /// The units of the null.
+    const NULL: i128 = i128::MIN;
+
+    /// The decimal of so many units of 10^-12; `None` for -2^127, which in a message is the null. One of more than 38 digits can't be
+    /// written: that is refused 7.
+    pub fn from_units(units: i128) -> Option<Decimal> {
+        (units != Decimal::NULL).then_some(Decimal(units))
+    }
+
+    /// How many units of 10^-12 it is.
+    pub fn units(self) -> i128 {
+        self.0
+    }
+}
+
+/// All digits that it has, without zeros behind them.
+impl fmt::Display for Decimal {
+    fn fmt(&self, f: &mut fmt::Formatter<'_>) -> fmt::Result {
+        const ONE: u128 = 1_000_000_000_000;
+        let units = self.0.unsigned_abs();
+        let digits = format!("{}.{:012}", units / ONE, units % ONE);
+        f.pad_integral(self.0 >= 0, "", digits.trim_end_matches('0').trim_end_matches('.'))
+    }
+}
+
+#[cfg(test)]
+mod tests {
+    use super::*;
+
+    #[test]
+    fn bytes_stand_for_types_and_back() {
+        for wire_type in WireType::ALL {
+            assert_eq!(WireType::from_byte(wire_type.byte()), Some(wire_type));
+        }
+        assert_eq!((0..=255).filter_map(WireType::from_byte).count(), WireType::ALL.len());
+    }
+
+    #[test]
+    fn decimals_have_all_their_digits() {
+        let digits = |units| Decimal::from_units(units).unwrap().to_string();
+        assert_eq!(digits(0), "0");
+        assert_eq!(digits(1), "0.000000000001");
+        assert_eq!(digits(-800_000_000_000), "-0.8");
+        assert_eq!(digits(100_000_000_000_000), "100");
+        assert_eq!(digits(10i128.pow(38) - 1), "99999999999999999999999999.999999999999");
+        assert_eq!(Decimal::from_units(i128::MIN), None);
+    }
+
+    #[test]
+    fn bytes_of_no_value_have_none() {
+        for wire_type in WireType::ALL {
+            assert_eq!(Value::from_bytes(wire_type, &[0; 17]).is_some(), wire_type.is_counted());
+        }
+        assert_eq!(Value::from_bytes(WireType::String, &[0; 3]), None);
+        assert_eq!(Value::from_bytes(WireType::Null, &[]), None);
+        assert_eq!(Value::from_numbers(&[], [7, 0, 0, 0]), Err(Refusal::UNKNOWN_ANSWER));
+        assert_eq!(Value::from_numbers(&[1], [9, BYTES, 1, 1]), Err(Refusal::UNKNOWN_ANSWER));
+        assert_eq!(Value::from_numbers(&[1], [9, BYTES, u64::MAX, u64::MAX]), Err(Refusal::UNKNOWN_ANSWER));
+    }
+}

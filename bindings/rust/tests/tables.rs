@@ -1,0 +1,197 @@
+//! The reader over a table, held against the proved functions that answer for one cell at a time.
+
+use chaloenpik::{
+    accept, cell, column_type, columns, fields, find_column, rows, tables, Cause, Cell, Decimal, Field, Kind, Refusal, ReplyHead,
+    ReplyWriter, Table, Value, WireType,
+};
+use std::ops::Range;
+
+const LOGIN: &[u8] = include_bytes!("../../../samples/1-login.bin");
+const LOGIN_REPLY: &[u8] = include_bytes!("../../../samples/2-login-reply.bin");
+const CALL: &[u8] = include_bytes!("../../../samples/3-engine-limits.bin");
+const REPLY: &[u8] = include_bytes!("../../../samples/4-engines.bin");
+const WITHOUT_VESSEL: &[u8] = include_bytes!("../../../samples/4-engines-without-vessel.bin");
+
+/// The bytes that the field list has for a cell: the entries 50 and 51 with its indices.
+fn listed(list: &[Field], indices: [usize; 3]) -> Range<usize> {
+    let mut own = list.iter().filter(|field| field.indices == indices && (field.number == 50 || field.number == 51));
+    let first = own.next().unwrap().place();
+    first.start..own.next().map_or(first.end, |body| body.place().end)
+}
+
+/// Equal with every bit: NaN too, and -0.0 is not 0.0.
+fn assert_same(one: Value<'_>, other: Value<'_>) {
+    let bits = |value| match value {
+        Value::Float(x) => Some([x.to_bits(), 0]),
+        Value::Point { longitude, latitude } => Some([longitude.to_bits(), latitude.to_bits()]),
+        _ => None,
+    };
+    assert_eq!((one.wire_type(), bits(one)), (other.wire_type(), bits(other)));
+    assert!(bits(one).is_some() || one == other, "{one:?} is not {other:?}");
+}
+
+/// All that the reader says of a message's tables is what the proved functions answer.
+fn hold_against_the_proved(message: &[u8]) -> Result<(), Refusal> {
+    let list = fields(Kind::Response, message)?;
+    let all = Table::all(message)?;
+    assert_eq!(all.len(), tables(message)?);
+    for (number, table) in all.iter().enumerate() {
+        assert_eq!(table.columns().len(), columns(message, number)?);
+        assert_eq!(table.rows().len(), rows(message, number)?);
+        for (position, column) in table.columns().iter().enumerate() {
+            assert_eq!(column.wire_type, column_type(message, number, position)?);
+            assert_eq!(table.find(column.name), find_column(message, number, column.name));
+        }
+        let same = Table::new(message, number)?;
+        assert_eq!(same.columns(), table.columns());
+        assert_eq!(same.rows().len(), table.rows().len());
+        for (row, other) in table.rows().zip(same.rows()) {
+            for position in 0..table.columns().len() {
+                let Cell { value, place } = row.cell(position)?;
+                assert_same(value, cell(message, number, row.number(), position)?);
+                assert_eq!(place, listed(&list, [number, row.number(), position]));
+                assert_eq!(other.cell(position)?.place, place);
+            }
+            assert_eq!(row.cell(table.columns().len()), Err(cell(message, number, row.number(), table.columns().len()).unwrap_err()));
+        }
+        let past = table.rows().len();
+        assert_eq!(table.row(past).map(|_| ()), Err(cell(message, number, past, 0).unwrap_err()));
+        assert_eq!(table.find("no such name"), find_column(message, number, "no such name"));
+    }
+    assert_eq!(Table::new(message, all.len()).map(|_| ()), Err(rows(message, all.len()).unwrap_err()));
+    Ok(())
+}
+
+#[test]
+fn the_samples() -> Result<(), Refusal> {
+    hold_against_the_proved(REPLY)?;
+    hold_against_the_proved(WITHOUT_VESSEL)?;
+    for other in [LOGIN, LOGIN_REPLY, CALL] {
+        let refusal = accept(Kind::Response, other).unwrap_err();
+        assert_eq!(Table::new(other, 0).map(|_| ()), Err(refusal));
+        assert_eq!(Table::all(other).map(|_| ()), Err(refusal));
+    }
+    Ok(())
+}
+
+#[test]
+fn the_insurer_s_question() -> Result<(), Refusal> {
+    let table = Table::new(REPLY, 0)?;
+    let limit = table.row(1)?.get("THROTTLE_LIMIT")?;
+    assert_eq!(limit.value, Value::Decimal(Decimal::from_units(800_000_000_000)));
+    assert_eq!(limit.place, 238..254);
+    let vessel = table.row(1)?.get("VESSEL")?;
+    assert_eq!((vessel.value, &REPLY[vessel.place]), (Value::from("Bodil"), &b"\0\0\0\x05Bodil"[..]));
+    Ok(())
+}
+
+/// Values of every type at both ends of their ranges, with nulls and with what floats alone can be.
+fn rows_of_every_type() -> Vec<Vec<Value<'static>>> {
+    let decimal = |units| Value::Decimal(Decimal::from_units(units));
+    let point = |longitude, latitude| Value::Point { longitude, latitude };
+    let most = 10i128.pow(38) - 1;
+    let numbers = |low| -> Vec<Value<'static>> {
+        let pick = |least, most| if low { least } else { most };
+        vec![
+            Value::Tinyint(pick(i8::MIN.into(), i8::MAX.into()) as i8),
+            Value::Smallint(pick(i16::MIN.into(), i16::MAX.into()) as i16),
+            Value::Integer(pick(i32::MIN.into(), i32::MAX.into()) as i32),
+            Value::Bigint(pick(i64::MIN, i64::MAX)),
+            Value::Timestamp(pick(i64::MIN, i64::MAX)),
+        ]
+    };
+    let rest = [
+        [Value::Float(f64::NAN), decimal(most), point(180.0, 90.0), Value::Text(None), Value::Binary(None), Value::Geography(None)],
+        [
+            Value::Float(f64::from_bits(0xfff4_0000_0000_0001)),
+            decimal(-most),
+            point(-180.0, -90.0),
+            Value::from(""),
+            Value::Binary(Some(b"")),
+            Value::Geography(Some(&[0])),
+        ],
+        [
+            Value::Float(-0.0),
+            decimal(i128::MIN),
+            point(-0.0, 0.0),
+            Value::Text(Some(&[255, 0])),
+            Value::Binary(Some(&[255; 4])),
+            Value::Geography(Some(&[1, 2])),
+        ],
+        [
+            Value::Float(f64::NEG_INFINITY),
+            decimal(-1),
+            point(-12.25, 55.5),
+            Value::from("Bodil"),
+            Value::Binary(Some(&[0, 255])),
+            Value::Geography(None),
+        ],
+    ];
+    rest.iter().enumerate().map(|(number, rest)| [&numbers(number % 2 == 0), &rest[..]].concat()).collect()
+}
+
+/// A table of these rows, then one of no columns and two rows, then one of no rows.
+#[test]
+fn values_of_every_type() -> Result<(), Refusal> {
+    let written = rows_of_every_type();
+    let mut out = vec![0; 2000];
+    let mut w = ReplyWriter::begin(&mut out, ReplyHead::default())?;
+    w.open_table(0, written[0].iter().map(|value| ("", value.wire_type())))?;
+    for row in &written {
+        w.row(row.iter().copied())?;
+    }
+    w.close_table()?.open_table::<(&str, WireType)>(1, [])?.row([])?.row([])?;
+    w.close_table()?.open_table(2, [("A", WireType::Point)])?.close_table()?;
+    let message = w.finish()?;
+    hold_against_the_proved(message)?;
+
+    let all = Table::all(message)?;
+    for (row, values) in all[0].rows().zip(&written) {
+        for (column, value) in values.iter().enumerate() {
+            assert_same(row.cell(column)?.value, *value);
+        }
+    }
+    assert_eq!(all.iter().map(|table| table.rows().len()).collect::<Vec<_>>(), [written.len(), 2, 0]);
+    Ok(())
+}
+
+#[test]
+fn of_two_columns_of_a_name_the_first_is_found() -> Result<(), Refusal> {
+    let mut out = [0; 100];
+    let mut w = ReplyWriter::begin(&mut out, ReplyHead::default())?;
+    w.open_table(0, [("A", WireType::Integer), ("B", WireType::Integer), ("B", WireType::Integer)])?;
+    w.row([1, 2, 3].map(Value::Integer))?.close_table()?;
+    let message = w.finish()?;
+    hold_against_the_proved(message)?;
+    assert_eq!(Table::new(message, 0)?.row(0)?.get("B")?.value, Value::Integer(2));
+    assert_eq!(Table::new(message, 0)?.row(0)?.get("C").unwrap_err().cause, Cause::NoColumn);
+    Ok(())
+}
+
+#[test]
+fn no_tables() -> Result<(), Refusal> {
+    let mut out = [0; 100];
+    let message = ReplyWriter::begin(&mut out, ReplyHead::default())?.finish()?;
+    hold_against_the_proved(message)
+}
+
+/// Rows are many here: one pass for each cell would take minutes.
+#[test]
+fn fifty_thousand_rows() -> Result<(), Refusal> {
+    let mut out = vec![0; 4_000_000];
+    let mut w = ReplyWriter::begin(&mut out, ReplyHead::default())?;
+    w.open_table(0, [("ENGINE_ID", WireType::Integer), ("VESSEL", WireType::String)])?;
+    let names = ["Bodil", "", "Karen"];
+    let vessel = |number: usize| Value::Text(names.get(number % 4).map(|name| name.as_bytes()));
+    for number in 0..50_000 {
+        w.row([Value::Integer(number as i32), vessel(number)])?;
+    }
+    w.close_table()?;
+    let table = Table::new(w.finish()?, 0)?;
+    assert_eq!(table.rows().len(), 50_000);
+    for row in table.rows() {
+        assert_eq!(row.cell(0)?.value, Value::Integer(row.number() as i32));
+        assert_eq!(row.get("VESSEL")?.value, vessel(row.number()));
+    }
+    Ok(())
+}
