@@ -99,6 +99,7 @@ pub fn element(message: &[u8], number: usize, element: usize) -> Result<Value<'_
 /// call.null();
 /// ```
 #[derive(Debug)]
+#[must_use = "before it is finished there is no message"]
 pub struct CallWriter<'b> {
     out: &'b mut [u8],
     state: State,

@@ -105,3 +105,8 @@ pub fn accept(kind: Kind, message: &[u8]) -> Result<(), Refusal> {
 fn written(out: &[u8], size: usize) -> Result<&[u8], Refusal> {
     out.get(..size).ok_or(Refusal::UNKNOWN_ANSWER)
 }
+
+/// The examples of the README, as tests.
+#[cfg(doctest)]
+#[doc = include_str!("../README.md")]
+struct Readme;

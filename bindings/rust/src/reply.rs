@@ -140,6 +140,7 @@ pub struct ColumnEntry {
 /// # Ok::<(), chaloenpik::Refusal>(())
 /// ```
 #[derive(Debug)]
+#[must_use = "before it is finished there is no message"]
 pub struct ReplyWriter<'b> {
     out: &'b mut [u8],
     state: State,
