@@ -1,6 +1,6 @@
 //! limit FILE COLUMN: prints a column of a reply's first table, with the place of the bytes that each value was read from.
 
-use chaloenpik::{Table, Value};
+use chaloenpik::Table;
 use std::error::Error;
 
 fn main() {
@@ -23,16 +23,7 @@ fn print_column() -> Result<(), Box<dyn Error>> {
     for row in table.rows() {
         let cell = row.cell(column)?;
         let (first, last) = (cell.place.start, cell.place.end - 1);
-        println!("row {}: {}, bytes {first} to {last}", row.number(), words_for(cell.value));
+        println!("row {}: {}, bytes {first} to {last}", row.number(), cell.value);
     }
     Ok(())
-}
-
-fn words_for(value: Value<'_>) -> String {
-    match value {
-        null if null.is_null() => "null".to_string(),
-        Value::Decimal(Some(decimal)) => decimal.to_string(),
-        Value::Text(Some(text)) => String::from_utf8_lossy(text).into_owned(),
-        other => format!("{other:?}"),
-    }
 }

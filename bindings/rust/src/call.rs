@@ -4,6 +4,7 @@ use crate::foreign::{self, State};
 use crate::refusal::{found, Refusal};
 use crate::value::{answered_type, part, Form, Value, WireType};
 use crate::written;
+use std::fmt;
 
 /// What an invocation says before its parameters.
 #[derive(Clone, Copy, Debug, PartialEq, Eq)]
@@ -98,7 +99,6 @@ pub fn element(message: &[u8], number: usize, element: usize) -> Result<Value<'_
 /// call.finish();
 /// call.null();
 /// ```
-#[derive(Debug)]
 #[must_use = "before it is finished there is no message"]
 pub struct CallWriter<'b> {
     out: &'b mut [u8],
@@ -109,6 +109,13 @@ pub struct CallWriter<'b> {
 type Step = unsafe extern "C" fn(*mut u8, usize, *mut State) -> u64;
 type FixedStep = unsafe extern "C" fn(*mut u8, usize, *mut State, u8, u64, u64) -> u64;
 type BodyStep = unsafe extern "C" fn(*mut u8, usize, *mut State, u8, bool, *const u8, usize) -> u64;
+
+/// Without the buffer, which may be long.
+impl fmt::Debug for CallWriter<'_> {
+    fn fmt(&self, f: &mut fmt::Formatter<'_>) -> fmt::Result {
+        f.debug_struct("CallWriter").field("position", &self.position).finish_non_exhaustive()
+    }
+}
 
 impl<'b> CallWriter<'b> {
     /// Begins an invocation of a procedure. The client's bytes come back in the response.

@@ -31,7 +31,7 @@
 //!     if row.cell(engine)?.value == Value::Integer(2) {
 //!         let limit = row.get("THROTTLE_LIMIT")?;
 //!         assert_eq!(limit.place, 238..254);
-//!         assert!(matches!(limit.value, Value::Decimal(Some(x)) if x.to_string() == "0.8"));
+//!         assert_eq!(limit.value.to_string(), "0.8");
 //!     }
 //! }
 //! # Ok::<(), chaloenpik::Refusal>(())

@@ -5,6 +5,7 @@ use crate::refusal::{found, Refusal};
 use crate::table::Column;
 use crate::value::{part, Form, Value, WireType};
 use crate::written;
+use std::fmt;
 
 /// A status string: a flag lets it be absent, and it may be null.
 #[derive(Clone, Copy, Debug, Default, PartialEq, Eq)]
@@ -139,7 +140,6 @@ pub struct ColumnEntry {
 /// assert_eq!(table.row(1)?.get("THROTTLE_LIMIT")?.value, Value::Decimal(Decimal::from_units(800_000_000_000)));
 /// # Ok::<(), chaloenpik::Refusal>(())
 /// ```
-#[derive(Debug)]
 #[must_use = "before it is finished there is no message"]
 pub struct ReplyWriter<'b> {
     out: &'b mut [u8],
@@ -151,6 +151,13 @@ pub struct ReplyWriter<'b> {
 
 /// A step inside a table, which is lent the types of its columns.
 type TableStep = unsafe extern "C" fn(*mut u8, usize, *mut State, *const Types) -> u64;
+
+/// Without the buffer, which may be long.
+impl fmt::Debug for ReplyWriter<'_> {
+    fn fmt(&self, f: &mut fmt::Formatter<'_>) -> fmt::Result {
+        f.debug_struct("ReplyWriter").field("position", &self.position).finish_non_exhaustive()
+    }
+}
 
 impl<'b> ReplyWriter<'b> {
     /// Begins a response.

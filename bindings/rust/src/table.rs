@@ -5,6 +5,7 @@ use crate::query::{rows, tables};
 use crate::refusal::Refusal;
 use crate::value::{Value, WireType};
 use crate::Kind;
+use std::fmt;
 use std::ops::Range;
 
 /// A column of a table: its name and its type.
@@ -44,7 +45,7 @@ impl<'m> From<&Column<'m>> for Column<'m> {
 /// outside the proof; tests hold it against the proved [`crate::cell`].
 ///
 /// ```
-/// use chaloenpik::{Table, Value, WireType};
+/// use chaloenpik::{Table, WireType};
 ///
 /// let reply = include_bytes!("../../../samples/4-engines.bin");
 /// let table = Table::new(reply, 0)?;
@@ -52,20 +53,27 @@ impl<'m> From<&Column<'m>> for Column<'m> {
 /// assert_eq!(table.columns()[1].wire_type, WireType::String);
 ///
 /// let (engine, limit) = (table.find("ENGINE_ID")?, table.find("THROTTLE_LIMIT")?);
+/// let mut limits = Vec::new();
 /// for row in table.rows() {
-///     if let (Value::Integer(id), Value::Decimal(Some(x))) = (row.cell(engine)?.value, row.cell(limit)?.value) {
-///         println!("engine {id} may have {x}");
-///     }
+///     limits.push(format!("{}: {}", row.cell(engine)?.value, row.cell(limit)?.value));
 /// }
+/// assert_eq!(limits, ["1: 0.85", "2: 0.8", "7: null", "9: 1"]);
 /// # Ok::<(), chaloenpik::Refusal>(())
 /// ```
-#[derive(Clone, Debug)]
+#[derive(Clone)]
 pub struct Table<'m> {
     message: &'m [u8],
     columns: Vec<Column<'m>>,
     rows: usize,
     /// Where each cell starts and ends, row by row. A message has no more than 4 MB, so 32 bits hold a place in it.
     cells: Vec<(u32, u32)>,
+}
+
+/// Without the message, which may be long.
+impl fmt::Debug for Table<'_> {
+    fn fmt(&self, f: &mut fmt::Formatter<'_>) -> fmt::Result {
+        f.debug_struct("Table").field("columns", &self.columns).field("rows", &self.rows).finish_non_exhaustive()
+    }
 }
 
 /// A row of a table.

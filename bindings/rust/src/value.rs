@@ -208,6 +208,24 @@ impl<'m> Value<'m> {
     }
 }
 
+/// For people: numbers and decimals by their digits, text in quotes, bytes in hexadecimal, a point by its longitude and latitude.
+impl fmt::Display for Value<'_> {
+    fn fmt(&self, f: &mut fmt::Formatter<'_>) -> fmt::Result {
+        match self {
+            Value::Tinyint(n) => n.fmt(f),
+            Value::Smallint(n) => n.fmt(f),
+            Value::Integer(n) => n.fmt(f),
+            Value::Bigint(n) | Value::Timestamp(n) => n.fmt(f),
+            Value::Float(x) => x.fmt(f),
+            Value::Decimal(Some(decimal)) => decimal.fmt(f),
+            Value::Point { longitude, latitude } => write!(f, "{longitude} {latitude}"),
+            Value::Text(Some(bytes)) => write!(f, "{:?}", String::from_utf8_lossy(bytes)),
+            Value::Binary(Some(bytes)) | Value::Geography(Some(bytes)) => bytes.iter().try_for_each(|byte| write!(f, "{byte:02x}")),
+            Value::Text(None) | Value::Decimal(None) | Value::Binary(None) | Value::Geography(None) => f.pad("null"),
+        }
+    }
+}
+
 /// A part of the message, by its start and size.
 pub(crate) fn part(message: &[u8], start: u64, size: u64) -> Result<&[u8], Refusal> {
     let (start, size) = (start as usize, size as usize);
@@ -314,6 +332,18 @@ mod tests {
         assert_eq!(digits(100_000_000_000_000), "100");
         assert_eq!(digits(10i128.pow(38) - 1), "99999999999999999999999999.999999999999");
         assert_eq!(Decimal::from_units(i128::MIN), None);
+    }
+
+    #[test]
+    fn values_are_shown_to_people() {
+        let shown = |value: Value<'_>| value.to_string();
+        assert_eq!(shown(Value::Tinyint(-5)), "-5");
+        assert_eq!(shown(Value::Float(81.5)), "81.5");
+        assert_eq!(shown(Value::Decimal(Decimal::from_units(850_000_000_000))), "0.85");
+        assert_eq!(shown(Value::from("\u{c6}r\u{f8}\n")), "\"\u{c6}r\u{f8}\\n\"");
+        assert_eq!(shown(Value::Binary(Some(&[0, 255]))), "00ff");
+        assert_eq!(shown(Value::Point { longitude: -12.25, latitude: 55.5 }), "-12.25 55.5");
+        assert_eq!(shown(Value::Text(None)), "null");
     }
 
     #[test]
