@@ -153,7 +153,7 @@ impl<'b> CallWriter<'b> {
     }
 
     /// A parameter that is an array of elements of a type: opened, filled and closed. If one of these steps is refused the writer is as
-    /// it was before the first. Tinyints are written by [`CallWriter::bytes`].
+    /// it was before the first, though bytes past its position may not be. Tinyints are written by [`CallWriter::bytes`].
     pub fn array<'v, V: Into<Value<'v>>>(
         &mut self, wire_type: WireType, elements: impl IntoIterator<Item = V>,
     ) -> Result<&mut Self, Refusal> {

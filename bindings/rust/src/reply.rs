@@ -226,7 +226,8 @@ impl<'b> ReplyWriter<'b> {
         self.reached(answer)
     }
 
-    /// A whole row: opened, filled and closed. If one of these steps is refused the writer is as it was before the first.
+    /// A whole row: opened, filled and closed. If one of these steps is refused the writer is as it was before the first, though bytes
+    /// past its position may not be.
     pub fn row<'v>(&mut self, values: impl IntoIterator<Item = Value<'v>>) -> Result<&mut Self, Refusal> {
         let before = (self.state, self.position);
         let written = self.whole_row(values);
