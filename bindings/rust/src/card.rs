@@ -10,19 +10,6 @@ pub const CARD_SIZE: usize = 36;
 pub type Card = [u8; CARD_SIZE];
 
 /// The card of the first column of a name in a table of a response.
-///
-/// ```
-/// use chaloenpik::{make_card, open_card, Cause};
-///
-/// let reply = include_bytes!("../../../samples/4-engines.bin");
-/// let card = make_card(reply, 0, "THROTTLE_LIMIT")?;
-/// assert_eq!(open_card(reply, 0, &card)?, 3);
-///
-/// // In this reply the column before it was dropped: the card doesn't give another column's position.
-/// let other = include_bytes!("../../../samples/4-engines-without-vessel.bin");
-/// assert_eq!(open_card(other, 0, &card).unwrap_err().cause, Cause::CardMisfit);
-/// # Ok::<(), chaloenpik::Refusal>(())
-/// ```
 pub fn make_card(message: &[u8], table: usize, name: impl AsRef<[u8]>) -> Result<Card, Refusal> {
     let name = name.as_ref();
     let mut card = [0; CARD_SIZE];

@@ -1,8 +1,11 @@
 //! The functions of include/chaloenpik.h.
 
+/// How many columns a table may have.
+pub const COLUMNS: usize = 64;
+
 /// The writer's state in numbers, and the types of the open table's columns.
 pub type State = [u64; 11];
-pub type Types = [u8; 64];
+pub type Types = [u8; COLUMNS];
 
 extern "C" {
     pub fn chaloenpik_accept(kind: u8, message: *const u8, length: usize) -> u64;

@@ -27,13 +27,50 @@
 //! let reply = include_bytes!("../../../samples/4-engines.bin");
 //! let table = Table::new(reply, 0)?;
 //! let engine = table.find("ENGINE_ID")?;
-//! for row in table.rows() {
-//!     if row.cell(engine)?.value == Value::Integer(2) {
-//!         let limit = row.get("THROTTLE_LIMIT")?;
-//!         assert_eq!(limit.place, 238..254);
-//!         assert_eq!(limit.value.to_string(), "0.8");
-//!     }
-//! }
+//! let row = table.rows().find(|row| matches!(row.cell(engine), Ok(cell) if cell.value == Value::Integer(2)));
+//! let limit = row.expect("there is an engine 2").get("THROTTLE_LIMIT")?;
+//! assert_eq!(limit.value.to_string(), "0.8");
+//! assert_eq!(limit.place, 238..254);
+//! # Ok::<(), chaloenpik::Refusal>(())
+//! ```
+//!
+//! # A column that may move
+//!
+//! A card keeps a column by its position, type and name. It opens where the column still stands, and never gives another's position.
+//!
+//! ```
+//! use chaloenpik::{make_card, open_card, Table};
+//!
+//! let reply = include_bytes!("../../../samples/4-engines.bin");
+//! let card = make_card(reply, 0, "THROTTLE_LIMIT")?;
+//! let column = open_card(reply, 0, &card)?;
+//! assert_eq!(Table::new(reply, 0)?.row(1)?.cell(column)?.place, 238..254);
+//!
+//! let vessel_dropped = include_bytes!("../../../samples/4-engines-without-vessel.bin");
+//! let refusal = open_card(vessel_dropped, 0, &card).unwrap_err();
+//! assert_eq!(refusal.to_string(), "the card doesn't fit the table (refusal 10)");
+//! # Ok::<(), chaloenpik::Refusal>(())
+//! ```
+//!
+//! # Writing a call, and a reply
+//!
+//! A writer fills a lent buffer step by step; finishing consumes it, and gives the message.
+//!
+//! ```
+//! use chaloenpik::{invocation, CallWriter, ReplyHead, ReplyWriter, Table, Value, WireType};
+//!
+//! let mut out = [0; 200];
+//! let mut call = CallWriter::begin(&mut out, 0, "EngineLimits", 42u64.to_be_bytes())?;
+//! call.param("Bodil")?.array(WireType::Integer, [1, 2])?;
+//! let message = call.finish()?;
+//! assert_eq!(invocation(message)?.parameters, 2);
+//!
+//! let mut reply = ReplyWriter::begin(&mut out, ReplyHead { status: 1, ..ReplyHead::default() })?;
+//! reply.open_table(0, [("ENGINE_ID", WireType::Integer), ("COOLANT_C", WireType::Float)])?;
+//! reply.row([2.into(), 81.5.into()])?;
+//! reply.close_table()?;
+//! let message = reply.finish()?;
+//! assert_eq!(Table::new(message, 0)?.row(0)?.get("COOLANT_C")?.value, Value::Float(81.5));
 //! # Ok::<(), chaloenpik::Refusal>(())
 //! ```
 //!
@@ -49,7 +86,7 @@
 //!
 //! # What is proved
 //!
-//! The functions of the archive are, and each call here is one or two of them. Outside the proof are this crate's own lines, which are
+//! The functions of the archive are, and each call here is one or a few of them. Outside the proof are this crate's own lines, which are
 //! tested: numbers become Rust's types, and a [`Table`] takes its values from the bytes that the proved field list gives them.
 //!
 //! # What is unsafe

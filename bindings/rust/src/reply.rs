@@ -188,7 +188,7 @@ impl<'b> ReplyWriter<'b> {
                 exception.len(),
             )
         })?;
-        Ok(ReplyWriter { out, state, types: [0; 64], position })
+        Ok(ReplyWriter { out, state, types: [0; foreign::COLUMNS], position })
     }
 
     /// How many bytes are written.
