@@ -35,30 +35,40 @@ fn hold_against_the_proved(message: &[u8]) -> Result<(), Refusal> {
     let list = fields(Kind::Response, message)?;
     let all = Table::all(message)?;
     assert_eq!(all.len(), tables(message)?);
-    for (number, table) in all.iter().enumerate() {
-        assert_eq!(table.columns().len(), columns(message, number)?);
-        assert_eq!(table.rows().len(), rows(message, number)?);
-        for (position, column) in table.columns().iter().enumerate() {
-            assert_eq!(column.wire_type, column_type(message, number, position)?);
-            assert_eq!(table.find(column.name), find_column(message, number, column.name));
+    for (number, table) in all.into_iter().enumerate() {
+        for table in [table, Table::new(message, number)?] {
+            hold_columns(message, number, &table)?;
+            hold_cells(message, number, &table, &list)?;
         }
-        let same = Table::new(message, number)?;
-        assert_eq!(same.columns(), table.columns());
-        assert_eq!(same.rows().len(), table.rows().len());
-        for (row, other) in table.rows().zip(same.rows()) {
-            for position in 0..table.columns().len() {
-                let Cell { value, place } = row.cell(position)?;
-                assert_same(value, cell(message, number, row.number(), position)?);
-                assert_eq!(place, listed(&list, [number, row.number(), position]));
-                assert_eq!(other.cell(position)?.place, place);
-            }
-            assert_eq!(row.cell(table.columns().len()), Err(cell(message, number, row.number(), table.columns().len()).unwrap_err()));
-        }
-        let past = table.rows().len();
-        assert_eq!(table.row(past).map(|_| ()), Err(cell(message, number, past, 0).unwrap_err()));
-        assert_eq!(table.find("no such name"), find_column(message, number, "no such name"));
     }
-    assert_eq!(Table::new(message, all.len()).map(|_| ()), Err(rows(message, all.len()).unwrap_err()));
+    let past = tables(message)?;
+    assert_eq!(Table::new(message, past).map(|_| ()), rows(message, past).map(|_| ()));
+    Ok(())
+}
+
+fn hold_columns(message: &[u8], number: usize, table: &Table<'_>) -> Result<(), Refusal> {
+    assert_eq!(table.columns().len(), columns(message, number)?);
+    for (position, column) in table.columns().iter().enumerate() {
+        assert_eq!(column.wire_type, column_type(message, number, position)?);
+        assert_eq!(table.find(column.name), find_column(message, number, column.name));
+    }
+    assert_eq!(table.find("no such name"), find_column(message, number, "no such name"));
+    Ok(())
+}
+
+fn hold_cells(message: &[u8], number: usize, table: &Table<'_>, list: &[Field]) -> Result<(), Refusal> {
+    assert_eq!(table.rows().len(), rows(message, number)?);
+    for row in table.rows() {
+        for (position, shown) in row.cells().enumerate() {
+            let Cell { value, place } = shown?;
+            assert_same(value, cell(message, number, row.number(), position)?);
+            assert_eq!(place, listed(list, [number, row.number(), position]));
+        }
+        let past = table.columns().len();
+        assert_eq!(row.cell(past).map(|shown| shown.value), cell(message, number, row.number(), past));
+    }
+    let past = table.rows().len();
+    assert_eq!(table.row(past).map(|_| ()), cell(message, number, past, 0).map(|_| ()));
     Ok(())
 }
 
@@ -85,60 +95,35 @@ fn the_insurer_s_question() -> Result<(), Refusal> {
     Ok(())
 }
 
-/// Values of every type at both ends of their ranges, with nulls and with what floats alone can be.
-fn rows_of_every_type() -> Vec<Vec<Value<'static>>> {
+/// Four values of every type: the ends of its range, nulls, and what floats alone can be.
+fn values_by_type() -> [[Value<'static>; 4]; 11] {
     let decimal = |units| Value::Decimal(Decimal::from_units(units));
     let point = |longitude, latitude| Value::Point { longitude, latitude };
     let most = 10i128.pow(38) - 1;
-    let numbers = |low| -> Vec<Value<'static>> {
-        let pick = |least, most| if low { least } else { most };
-        vec![
-            Value::Tinyint(pick(i8::MIN.into(), i8::MAX.into()) as i8),
-            Value::Smallint(pick(i16::MIN.into(), i16::MAX.into()) as i16),
-            Value::Integer(pick(i32::MIN.into(), i32::MAX.into()) as i32),
-            Value::Bigint(pick(i64::MIN, i64::MAX)),
-            Value::Timestamp(pick(i64::MIN, i64::MAX)),
-        ]
-    };
-    let rest = [
-        [Value::Float(f64::NAN), decimal(most), point(180.0, 90.0), Value::Text(None), Value::Binary(None), Value::Geography(None)],
-        [
-            Value::Float(f64::from_bits(0xfff4_0000_0000_0001)),
-            decimal(-most),
-            point(-180.0, -90.0),
-            Value::from(""),
-            Value::Binary(Some(b"")),
-            Value::Geography(Some(&[0])),
-        ],
-        [
-            Value::Float(-0.0),
-            decimal(i128::MIN),
-            point(-0.0, 0.0),
-            Value::Text(Some(&[255, 0])),
-            Value::Binary(Some(&[255; 4])),
-            Value::Geography(Some(&[1, 2])),
-        ],
-        [
-            Value::Float(f64::NEG_INFINITY),
-            decimal(-1),
-            point(-12.25, 55.5),
-            Value::from("Bodil"),
-            Value::Binary(Some(&[0, 255])),
-            Value::Geography(None),
-        ],
-    ];
-    rest.iter().enumerate().map(|(number, rest)| [&numbers(number % 2 == 0), &rest[..]].concat()).collect()
+    [
+        [i8::MIN, i8::MAX, 0, -5].map(Value::Tinyint),
+        [i16::MIN, i16::MAX, 0, -300].map(Value::Smallint),
+        [i32::MIN, i32::MAX, 0, -70_000].map(Value::Integer),
+        [i64::MIN, i64::MAX, 0, -1].map(Value::Bigint),
+        [f64::NAN, f64::from_bits(0xfff4_0000_0000_0001), -0.0, f64::NEG_INFINITY].map(Value::Float),
+        [None, Some(&b""[..]), Some(&[255, 0]), Some(b"Bodil")].map(Value::Text),
+        [i64::MIN, i64::MAX, 0, -1].map(Value::Timestamp),
+        [most, -most, i128::MIN, -1].map(decimal),
+        [None, Some(&b""[..]), Some(&[255; 4]), Some(&[0, 255])].map(Value::Binary),
+        [point(180.0, 90.0), point(-180.0, -90.0), point(-0.0, 0.0), point(-12.25, 55.5)],
+        [None, Some(&[0][..]), Some(&[1, 2]), Some(&[255; 4])].map(Value::Geography),
+    ]
 }
 
-/// A table of these rows, then one of no columns and two rows, then one of no rows.
+/// A table of these values, then one of no columns and two rows, then one of no rows.
 #[test]
 fn values_of_every_type() -> Result<(), Refusal> {
-    let written = rows_of_every_type();
+    let columns = values_by_type();
     let mut out = vec![0; 2000];
     let mut w = ReplyWriter::begin(&mut out, ReplyHead::default())?;
-    w.open_table(0, written[0].iter().map(|value| ("", value.wire_type())))?;
-    for row in &written {
-        w.row(row.iter().copied())?;
+    w.open_table(0, columns.map(|values| ("", values[0].wire_type())))?;
+    for row in 0..4 {
+        w.row(columns.map(|values| values[row]))?;
     }
     w.close_table()?.open_table::<(&str, WireType)>(1, [])?.row([])?.row([])?;
     w.close_table()?.open_table(2, [("A", WireType::Point)])?.close_table()?;
@@ -146,12 +131,12 @@ fn values_of_every_type() -> Result<(), Refusal> {
     hold_against_the_proved(message)?;
 
     let all = Table::all(message)?;
-    for (row, values) in all[0].rows().zip(&written) {
-        for (column, value) in values.iter().enumerate() {
-            assert_same(row.cell(column)?.value, *value);
+    assert_eq!(all.iter().map(|table| table.rows().len()).collect::<Vec<_>>(), [4, 2, 0]);
+    for row in all[0].rows() {
+        for (column, values) in columns.iter().enumerate() {
+            assert_same(row.cell(column)?.value, values[row.number()]);
         }
     }
-    assert_eq!(all.iter().map(|table| table.rows().len()).collect::<Vec<_>>(), [written.len(), 2, 0]);
     Ok(())
 }
 
