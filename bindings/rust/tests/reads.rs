@@ -69,6 +69,9 @@ fn the_sample_s_cells() {
     assert_eq!(shown(1, 0), Value::Integer(2));
     assert_eq!(shown(1, 1), Value::from("Bodil"));
     assert_eq!(shown(1, 3), Value::Decimal(Decimal::from_units(800_000_000_000)));
+    assert_eq!(shown(1, 4), Value::Float(84.5));
+    assert_eq!(shown(1, 5), Value::Point { longitude: 12.5683, latitude: 55.6761 });
+    assert_eq!(shown(1, 6), Value::Timestamp(1_761_000_000_000_000));
     assert_eq!(shown(2, 3), Value::Decimal(None));
     assert_eq!(shown(3, 2), Value::Text(None));
     assert!(shown(2, 3).is_null() && shown(3, 2).is_null() && !shown(1, 3).is_null());
