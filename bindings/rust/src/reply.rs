@@ -196,7 +196,7 @@ impl<'b> ReplyWriter<'b> {
         self.position
     }
 
-    /// Opens a table with columns of these names and types; those of a [`crate::Table`] can be given too.
+    /// Opens a table with columns of these names and types: pairs of both, or the columns of a [`crate::Table`].
     pub fn open_table<'c, C: Into<Column<'c>>>(&mut self, status: i8, columns: impl IntoIterator<Item = C>) -> Result<&mut Self, Refusal> {
         let (mut entries, mut names) = (Vec::new(), Vec::new());
         for Column { name, wire_type } in columns.into_iter().map(Into::into) {

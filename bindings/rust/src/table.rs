@@ -17,15 +17,15 @@ pub struct Column<'m> {
     pub wire_type: WireType,
 }
 
-impl<'m> From<(&'m str, WireType)> for Column<'m> {
-    fn from((name, wire_type): (&'m str, WireType)) -> Self {
-        Column { name: name.as_bytes(), wire_type }
+impl<'m, N: AsRef<[u8]> + ?Sized> From<(&'m N, WireType)> for Column<'m> {
+    fn from((name, wire_type): (&'m N, WireType)) -> Self {
+        Column { name: name.as_ref(), wire_type }
     }
 }
 
-impl<'m> From<(&'m [u8], WireType)> for Column<'m> {
-    fn from((name, wire_type): (&'m [u8], WireType)) -> Self {
-        Column { name, wire_type }
+impl<'m, N: AsRef<[u8]> + ?Sized> From<&(&'m N, WireType)> for Column<'m> {
+    fn from(&column: &(&'m N, WireType)) -> Self {
+        column.into()
     }
 }
 

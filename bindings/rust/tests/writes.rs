@@ -129,6 +129,20 @@ fn a_reply_is_copied() -> Result<(), Refusal> {
 }
 
 #[test]
+fn columns_are_given_as_pairs_of_any_names() -> Result<(), Refusal> {
+    const LENT: &[(&[u8], WireType)] = &[(b"A", WireType::Integer), (b"B", WireType::Float)];
+    let (mut one, mut other) = ([0; 100], [0; 100]);
+    let mut w = ReplyWriter::begin(&mut one, ReplyHead::default())?;
+    w.open_table(0, [("A", WireType::Integer), ("B", WireType::Float)])?.close_table()?;
+    let by_value = w.finish()?;
+    let mut w = ReplyWriter::begin(&mut other, ReplyHead::default())?;
+    w.open_table(0, LENT)?.close_table()?;
+    assert_eq!(w.finish()?, by_value);
+    assert_eq!(find_column(by_value, 0, "B"), Ok(1));
+    Ok(())
+}
+
+#[test]
 fn a_refused_row_leaves_the_writer_as_it_was() -> Result<(), Refusal> {
     let mut out = [0; 100];
     let mut w = ReplyWriter::begin(&mut out, ReplyHead::default())?;
