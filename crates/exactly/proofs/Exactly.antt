@@ -3,6 +3,7 @@ use Prim.Native.Nat.{ℕ, zero, suc, _+_, _≤_, _<_}
 use mathlib.Core.Path.{_≡_, refl, sym, _∙_, ap, subst}
 use mathlib.Core.Bool.{Bool, true, false}
 use mathlib.Core.List.{List, [], _∷_, map}
+use mathlib.Core.Option.{Option, some}
 use lib.ListN.{length, take}
 use lib.Seq.{length-take-le}
 use lib.Dec.{ltb, leb}
@@ -26,10 +27,10 @@ use Rattle.places.proofs.Replies.{tabled, headSize, table-place, table-stands}
 use Rattle.places.proofs.Values.{there}
 use Rattle.show.specs.declared.Cell.{Cell}
 use Rattle.show.specs.Cells.{typeOf}
-use Rattle.query.specs.Answers.{shownHere, askCell}
+use Rattle.query.specs.Answers.{shownHere, placeHere, askCell, askCellPlace}
 use Rattle.exactly.specs.Listed.{listedFor, startOf, bytesFor, fieldBytes, CellReads, Alike}
 use Rattle.exactly.proofs.Alone.{Other, Misses, Alone, misses, misses-number, misses-ruled, misses-list, misses-value, none-piece, in-back, in-room, in-into, in-ruled, in-first, in-second, in-some, in-cells, in-list, past-cells, past-list}
-use Rattle.exactly.proofs.Says.{alone-number, alone-value, kept, byte-reads, value-reads, reads-alike}
+use Rattle.exactly.proofs.Says.{alone-number, alone-value, kept, byte-reads, listed-start, listed-bytes, value-reads, reads-alike}
 
 -- ---- parts of a response that list nothing for it, if no such field at such indices is it
 module _ {l b : ℕ} {ix jx : Index} where
@@ -141,25 +142,54 @@ module _ (timed : Bool) (m : List ℕ) (all : Bytes m) (r : Message) (accepted :
   unfolding ruled
   column-type e = stands-entry third 0 (length (tab .metadata .types)) (columnType 45) (tab .metadata .types) c (types-stand (metadata-stands stood)) e .good .1
 
-  pub here-reads : (h : Here) → cellHere at tab k c ≡ ok h → CellReads m fs t k c (shownHere h)
-  here-reads h e =
+  -- a cell that is there: it stands at its place, and only its fields are listed for it
+  record Found (h : Here) : Type 0 where
+    type-is : entry (tab .metadata .types) c ≡ ok (h .type)
+    stands : Stands (value 50 51 (h .type)) m (h .at) (h .value)
+    listed : listedFor 50 51 (record { i = t; j = k; k = c }) fs ≡ value 50 51 (h .type) .fields (record { i = t; j = k; k = c }) (h .at) (h .value)
+
+  found : (h : Here) → cellHere at tab k c ≡ ok h → Found h
+  found h e =
       let cells = bound (entry (tab .rows) k) e in
       let x = bound (entry (tab .metadata .types) c) (cells .2) in
       let v = bound (entry (cells .0) c) (x .2) in
       let same : record { type = x .0; type-at = typeAt at (tab .metadata) c; at = cellAt (rowAt at tab k) (tab .metadata .types) (cells .0) c; value = v .0 } ≡ h = ok-same (v .2) in
       let w = there m stood k c (entry-below (tab .rows) k (cells .1)) (entry-below (tab .metadata .types) c (x .1)) in
       let d = subst (λ (z : Here). Stands (value 50 51 (z .type)) m (z .at) (z .value)) (ok-same (sym (w .is) ∙ e) ∙ sym same) (w .stands) in
-      let fine = column-type (x .1) in
       rw (← same) (record {
-        type-byte = type-reads (x .1) ∙ ap (λ (z : ℕ). z ∷ []) (sym (kept m all 50 51 (x .0) _ (v .0) fine d .1));
-        cell = value-reads m all 50 51 (x .0) _ (v .0) fine d _ fs (in-response timed r t refl (omega (arith, ltb-true)) is (cell-alone (first t noIndex) at tab k c (cells .0) (cells .1) (x .1) (v .1)));
+        type-is = x .1;
+        stands = d;
+        listed = in-response timed r t refl (omega (arith, ltb-true)) is (cell-alone (first t noIndex) at tab k c (cells .0) (cells .1) (x .1) (v .1));
       })
+
+  pub here-reads : (h : Here) → cellHere at tab k c ≡ ok h → CellReads m fs t k c (shownHere h)
+  here-reads h e =
+      let f = found h e in
+      let fine = column-type (f .type-is) in
+      record {
+        type-byte = type-reads (f .type-is) ∙ ap (λ (z : ℕ). z ∷ []) (sym (kept m all 50 51 (h .type) _ (h .value) fine (f .stands) .1));
+        cell = value-reads m all 50 51 (h .type) _ (h .value) fine (f .stands) _ fs (f .listed);
+      }
+
+  pub here-placed : (h : Here) → cellHere at tab k c ≡ ok h → (startOf (listedFor 50 51 (record { i = t; j = k; k = c }) fs), length (bytesFor 50 51 (record { i = t; j = k; k = c }) m fs)) ≡ placeHere h
+  here-placed h e =
+      let f = found h e in
+      let fine = column-type (f .type-is) in
+      rw (listed-start m all 50 51 (h .type) _ (h .value) fine (f .stands) _ fs (f .listed), listed-bytes m all 50 51 (h .type) _ (h .value) fine (f .stands) _ fs (f .listed))
 
 pub cell-reads-its-bytes : (m : List ℕ) → Bytes m → (r : Message) → readMessage 4 m ≡ ok r → (t k c : ℕ) (x : Cell) → askCell m t k c ≡ ok x → CellReads m (messageFields 4 r) t k c x
 cell-reads-its-bytes m all r accepted t k c x e =
     let tab = bound (entry (tablesOf r) t) {k = λ b. bind (cellHere (tableAt true r t) b k c) (λ h. ok (shownHere h))} (rw accepted at e) in
     let h = bound (cellHere (tableAt true r t) (tab .0) k c) (tab .2) in
     subst (CellReads m (messageFields 4 r) t k c) (ok-same (h .2)) (here-reads true m all r accepted t k c (tab .1) (h .0) (h .1))
+
+-- and its place and size are those of what is listed
+pub place-is-listed : (m : List ℕ) → Bytes m → (r : Message) → readMessage 4 m ≡ ok r → (t k c : ℕ) (p : Option (ℕ × ℕ)) → askCellPlace m t k c ≡ ok p
+    → p ≡ some (startOf (listedFor 50 51 (record { i = t; j = k; k = c }) (messageFields 4 r)), length (bytesFor 50 51 (record { i = t; j = k; k = c }) m (messageFields 4 r)))
+place-is-listed m all r accepted t k c p e =
+    let tab = bound (entry (tablesOf r) t) {k = λ b. bind (cellHere (tableAt true r t) b k c) (λ h. ok (some (placeHere h)))} (rw accepted at e) in
+    let h = bound (cellHere (tableAt true r t) (tab .0) k c) (tab .2) in
+    sym (ok-same (h .2)) ∙ ap some (sym (here-placed true m all r accepted t k c (tab .1) (h .0) (h .1)))
 
 -- ---- for a cell that is refused nothing is listed
 pub entry-none : {A : Type 0} (l : List A) (i : ℕ) {f : Fault} {p : ℕ} → entry l i ≡ no f p → length l ≤ i

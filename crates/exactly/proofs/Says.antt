@@ -127,12 +127,18 @@ module _ (m : List ℕ) (all : Bytes m) (l b t at : ℕ) (v : Value) (is : isCol
       let read : value l b t .read itsBytes 0 ≡ ok (v, length itsBytes) = simp (append-nil, zero-add) at (lawful-value l b t .complete [] [] v (d .good)) in
       record { encodes = rw (kept .0, kept .1); reads = rw (kept .0, kept .1) read; shows = rw (kept .0, kept .1) }
 
-  pub value-reads : (ix : Index) (fs : List Entry) → listedFor l b ix fs ≡ value l b t .fields ix at v → Reads l b ix m fs shown
-  value-reads ix fs w =
-      let part : take (length itsBytes) (drop at m) ≡ itsBytes = rw (← d .whole, drop-at (d .before) (itsBytes ++ d .after) at (d .start), take-at itsBytes (d .after) (length itsBytes) refl) in
-      let bytes : bytesFor l b ix m fs ≡ itsBytes = ap (bytesAt m) w ∙ tiled-bytes m (value l b t .fields ix at v) at (length itsBytes) (lawful-value l b t .tiles ix at v (d .good)) ∙ part in
-      let start : startOf (listedFor l b ix fs) ≡ at = ap startOf w ∙ start-value l b ix t at v is in
-      record { entries = rw (kept .0, kept .1, start) w; says = rw (bytes, start) stands-says }
+  -- what is listed for it starts at its place, and is its bytes
+  module _ (ix : Index) (fs : List Entry) (w : listedFor l b ix fs ≡ value l b t .fields ix at v) where
+    pub listed-start : startOf (listedFor l b ix fs) ≡ at
+    listed-start = ap startOf w ∙ start-value l b ix t at v is
+
+    pub listed-bytes : bytesFor l b ix m fs ≡ itsBytes
+    listed-bytes =
+        let part : take (length itsBytes) (drop at m) ≡ itsBytes = rw (← d .whole, drop-at (d .before) (itsBytes ++ d .after) at (d .start), take-at itsBytes (d .after) (length itsBytes) refl) in
+        ap (bytesAt m) w ∙ tiled-bytes m (value l b t .fields ix at v) at (length itsBytes) (lawful-value l b t .tiles ix at v (d .good)) ∙ part
+
+    pub value-reads : Reads l b ix m fs shown
+    value-reads = record { entries = rw (kept .0, kept .1, listed-start) w; says = rw (listed-bytes, listed-start) stands-says }
 
 -- ---- the bytes decide the value, and with their place what is shown
 pub says-once : (l b : ℕ) (m n bs : List ℕ) (p q : ℕ) (x y : Cell) → typeOf x ≡ typeOf y → Says l b m bs p x → Says l b n bs q y → Alike m n p q x y

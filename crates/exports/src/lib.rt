@@ -23,8 +23,8 @@ ghost use Rattle.write.specs.Shown.{zero};
 ghost use Rattle.columns.specs.Entries.{columnsOf as entriesWith};
 ghost use Rattle.numbers.specs.Entries.{entriesOf};
 ghost use Rattle.cards.specs.Answers.{askMade, askOpen, written};
-ghost use Rattle.query.specs.Answers.{askCell, askParameter, askElement};
-ghost use Rattle.numbers.specs.Listed.{lent, cellNumbers, givenNumbers};
+ghost use Rattle.query.specs.Answers.{askColumnName, askCell, askCellPlace, askParameter, askElement};
+ghost use Rattle.numbers.specs.Listed.{lent, cellNumbers, givenNumbers, partNumbers};
 ghost use Rattle.numbers.specs.Records.{loginRequestNumbers, loginResponseNumbers, invocationNumbers, responseNumbers};
 ghost use Rattle.record.specs.Records.{shownLoginRequest, shownLoginResponse, shownInvocation, shownResponse};
 ghost use Rattle.exports.specs.Given.{opening};
@@ -100,6 +100,14 @@ pub extern "C" fn chaloenpik_column_type(m: &[u8], t: usize, c: usize) -> u64
     numbers::pack_type(query::column(m, t, c))
 }
 
+// The name of column c of table t of a response: a part of the message, as two numbers (numbers/specs/Listed.antt).
+#[no_mangle]
+pub extern "C" fn chaloenpik_column_name(m: &[u8], t: usize, c: usize, list: &mut [u64; 2]) -> u64
+    ensures { λ r. ⌜ (r ≡ packed nothing (askColumnName (now (m .entry)) t c)) × (now (list .exit) ≡ lent partNumbers (askColumnName (now (m .entry)) t c) (now (list .entry))) ⌝ }
+{
+    numbers::lend_part(list, query::column_name(m, t, c))
+}
+
 // The position of the first column of table t of a response whose name is equal.
 #[no_mangle]
 pub extern "C" fn chaloenpik_find_column(m: &[u8], t: usize, name: &[u8]) -> u64
@@ -138,7 +146,21 @@ pub extern "C" fn chaloenpik_cell(
     numbers::lend_cell(list, query::cell(m, t, row, c))
 }
 
-// Parameter p of an invocation, likewise.
+// Where the bytes of that cell start, whatever its type, and how many they are: a part of the message, as two numbers.
+#[no_mangle]
+pub extern "C" fn chaloenpik_cell_place(
+    m: &[u8],
+    t: usize,
+    row: usize,
+    c: usize,
+    list: &mut [u64; 2],
+) -> u64
+    ensures { λ r. ⌜ (r ≡ packed nothing (askCellPlace (now (m .entry)) t row c)) × (now (list .exit) ≡ lent partNumbers (askCellPlace (now (m .entry)) t row c) (now (list .entry))) ⌝ }
+{
+    numbers::lend_part(list, query::cell_place(m, t, row, c))
+}
+
+// Parameter p of an invocation, as four numbers.
 #[no_mangle]
 pub extern "C" fn chaloenpik_parameter(m: &[u8], p: usize, list: &mut [u64; 4]) -> u64
     ensures { λ r. ⌜ (r ≡ packed nothing (askParameter (now (m .entry)) p)) × (now (list .exit) ≡ lent givenNumbers (askParameter (now (m .entry)) p) (now (list .entry))) ⌝ }

@@ -1,13 +1,14 @@
 -- Values as four numbers in a lent list: the type, the form, and two more by the form. The form is 0 for a value of a fixed size, 1 for bytes that
--- stand in the message, 2 for a null and 3 for an array.
+-- stand in the message, 2 for a null and 3 for an array. And parts of the message as two.
 use Prim.Native.Nat.{ℕ}
 use mathlib.Core.List.{List, [], _∷_}
+use mathlib.Core.Option.{Option}
 use Rattle.format.specs.Result.{Res, ok, no}
 use Rattle.format.specs.Value.{tNull, tArray}
 use Rattle.show.specs.declared.Cell.{Cell}
 use Rattle.show.specs.declared.Raw.{Raw}
 use Rattle.show.specs.Cells.{rawOf}
-use Rattle.query.specs.Answers.{Given}
+use Rattle.query.specs.Answers.{Given, spanIn}
 
 module _ {A : Type 0} where
   -- a lent list after an answer: what was found, in numbers; a refusal leaves the list as it was
@@ -29,3 +30,7 @@ abbrev pub givenNumbers : Given → List ℕ
 givenNumbers Given.nothing = tNull ∷ 2 ∷ 0 ∷ 0 ∷ []
 givenNumbers (Given.value c) = cellNumbers c
 givenNumbers (Given.list e n) = tArray ∷ 3 ∷ e ∷ n ∷ []
+
+-- a part of the message by where it starts and how long it is; a null, which no place and no name is, by 0 and 0
+abbrev pub partNumbers : Option (ℕ × ℕ) → List ℕ
+partNumbers p = spanIn (ok p) .0 ∷ spanIn (ok p) .1 ∷ []

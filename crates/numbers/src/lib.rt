@@ -9,6 +9,7 @@ use message::Verdict;
 use query::Argued;
 use query::CellAnswer;
 use query::ColumnAnswer;
+use query::Part;
 use query::TableAnswer;
 use record::Edition;
 use record::InvocationRecord;
@@ -34,7 +35,7 @@ ghost use Rattle.format.specs.Number.{numAt};
 ghost use Rattle.scan.specs.Signed.{unsigned};
 ghost use Rattle.message.specs.Verdict.{toldVerdict};
 ghost use Rattle.fields.specs.Told.{toldOwned};
-ghost use Rattle.query.specs.Answers.{toldTable, toldColumn, toldCell, toldArgument};
+ghost use Rattle.query.specs.Answers.{toldTable, toldColumn, toldCell, toldPart, toldArgument};
 ghost use Rattle.steps.specs.State.{stageNumber};
 ghost use Prim.Native.Nat.{_+_, _≤_};
 ghost use lib.ListN.{length};
@@ -45,7 +46,7 @@ ghost use Rattle.columns.specs.Walks.{Bounded, addAll, putAll, FitsAll};
 ghost use Rattle.numbers.specs.Entries.{entryAt, entriesOf};
 ghost use Rattle.numbers.specs.Packed.{above, packed, packedNo, nothing, itself, numberIn, rowsOf, columnsOf, typeOf};
 ghost use Rattle.numbers.specs.Stored.{stageOf, byteOf, stateOf, numbersOf, kept};
-ghost use Rattle.numbers.specs.Listed.{lent, cellNumbers, givenNumbers};
+ghost use Rattle.numbers.specs.Listed.{lent, cellNumbers, givenNumbers, partNumbers};
 ghost use Rattle.numbers.specs.Records.{form, startOf, sizeOf, there, hasEdition, editionNumber, loginRequestNumbers, loginResponseNumbers, invocationNumbers, responseNumbers};
 
 // A place or a number found, above the low 8 bits.
@@ -314,6 +315,23 @@ pub fn lend_argument(list: &mut [u64; 4], answer: Argued) -> u64
             0
         }
         Argued::No(refusal) => refused(refusal),
+    }
+}
+
+// Lends a part of the message.
+pub fn lend_part(list: &mut [u64; 2], answer: Part) -> u64
+    ensures { λ r. ⌜ (r ≡ packed nothing (toldPart answer)) × (now (list .exit) ≡ lent partNumbers (toldPart answer) (now (list .entry))) ⌝ }
+{
+    match answer {
+        Part::Is(start, size) => {
+            *list = [start as u64, size as u64];
+            0
+        }
+        Part::Null => {
+            *list = [0, 0];
+            0
+        }
+        Part::No(refusal) => refused(refusal),
     }
 }
 

@@ -14,7 +14,11 @@ use Rattle.format.specs.Number.{Bytes}
 use Rattle.format.specs.Format.{number, each}
 use Rattle.format.specs.Message.{first, third, head, Table, table, Message, response-of, responseLayout, readMessage}
 use Rattle.format.proofs.Results.{ok-same, no-ok, bound}
-use Rattle.format.proofs.Formats.{lawful-head}
+use Rattle.format.proofs.Formats.{lawful-head, lawful-value}
+use Rattle.scan.specs.declared.Next.{Next}
+use Rattle.scan.proofs.Values.{value-fields}
+use Rattle.show.specs.declared.Cell.{Cell}
+use Rattle.show.specs.Cells.{cellOf, shownAs}
 use Rattle.scan.specs.Shown.{shownNext, shownNumber, numberIn}
 use Rattle.message.specs.declared.Verdict.{Verdict}
 use Rattle.message.specs.Verdict.{toldVerdict, verdictOf}
@@ -22,13 +26,14 @@ use Rattle.places.specs.Stands.{Stands}
 use Rattle.places.specs.Places.{nameBytes, tablesOf, tableAt, typeAt, nameAt, rowAt}
 use Rattle.places.specs.Entries.{entry, Here, cellHere}
 use Rattle.places.proofs.Stands.{stands-read, stands-fits}
-use Rattle.places.proofs.Lists.{entry-in, entry-past, entry-missing, sized}
+use Rattle.places.proofs.Lists.{entry-in, entry-past, entry-below, entry-missing, sized}
 use Rattle.places.proofs.Layouts.{length-number, sized-table, name, names-from, names-stand, metadata-stands, type-place}
 use Rattle.places.proofs.Replies.{headSize, head-stands, table-place, response-stands, table-count-stands, tables-stand, table-stands}
 use Rattle.places.proofs.Values.{Shows, there}
-use Rattle.query.specs.Shown.{pastOf, shownOf}
+use Rattle.query.specs.declared.Spot.{Spot}
+use Rattle.query.specs.Shown.{pastOf, cellIn, spotOf, shownOf}
 use Rattle.query.specs.declared.ColumnLayout.{ColumnLayout}
-use Rattle.query.specs.Answers.{perhaps, ofPart, ofTable, layoutOf, columnOf, shownHere, partOf, spanIn}
+use Rattle.query.specs.Answers.{perhaps, ofPart, ofTable, layoutOf, columnOf, shownHere, placeHere, partOf, spanIn}
 use Rattle.format.specs.Value.{value, body}
 use Rattle.query.specs.declared.TableLayout.{TableLayout}
 use Rattle.query.proofs.Walks.{after-is, over-is, count-is}
@@ -141,16 +146,16 @@ module _ {timed : Bool} {m : List ℕ} {t : ℕ} {l : TableLayout} (o : Opened t
       let past : entry (o .tab .metadata .types) c ≡ no PastEnd 0 = entry-past (o .tab .metadata .types) c (omega (arith, columns-are)) in
       sym (asked (λ at b. columnOf at b c) ∙ rw past)
 
-  pub row-past : (k c : ℕ) → l .rows ≤ k → no PastEnd 0 ≡ ofTable timed m t (λ at b. bind (cellHere at b k c) (λ h. ok (shownOf h)))
+  pub row-past : (k c : ℕ) → l .rows ≤ k → no PastEnd 0 ≡ ofTable timed m t (λ at b. bind (cellHere at b k c) (λ h. ok (spotOf h)))
   row-past k c h =
       let past : entry (o .tab .rows) k ≡ no PastEnd 0 = entry-past (o .tab .rows) k (omega (arith, rows-are)) in
-      sym (asked (λ at b. bind (cellHere at b k c) (λ h. ok (shownOf h))) ∙ rw past)
+      sym (asked (λ at b. bind (cellHere at b k c) (λ h. ok (spotOf h))) ∙ rw past)
 
-  pub cell-past : (k c : ℕ) → k < l .rows → l .columns ≤ c → no PastEnd 0 ≡ ofTable timed m t (λ at b. bind (cellHere at b k c) (λ h. ok (shownOf h)))
+  pub cell-past : (k c : ℕ) → k < l .rows → l .columns ≤ c → no PastEnd 0 ≡ ofTable timed m t (λ at b. bind (cellHere at b k c) (λ h. ok (spotOf h)))
   cell-past k c h n =
       let w = entry-in (o .tab .rows) k (omega (arith, rows-are)) in
       let past : entry (o .tab .metadata .types) c ≡ no PastEnd 0 = entry-past (o .tab .metadata .types) c (omega (arith, columns-are)) in
-      sym (asked (λ at b. bind (cellHere at b k c) (λ h. ok (shownOf h))) ∙ rw (w .1, past))
+      sym (asked (λ at b. bind (cellHere at b k c) (λ h. ok (spotOf h))) ∙ rw (w .1, past))
 
 -- questions about a part of a message, whichever it is
 module _ {P : Type 0} (kind : ℕ) (parts : Message → List P) (place : Message → ℕ → ℕ) (m : List ℕ) (i : ℕ) where
@@ -204,6 +209,62 @@ module _ {P : Type 0} (kind : ℕ) (parts : Message → List P) (place : Message
             ≡ bind r (λ z. bind (entry (parts z) i) (λ b. bind (ask (place z i) b) (λ a. k (g a))))
         by-message (ok z) = by-part (entry (parts z) i) (place z i)
         by-message (no h q) = refl
+
+-- a cell's spot that was found: the cell stands there
+pub record Spotted (timed : Bool) (m : List ℕ) (t k c : ℕ) (spot : Spot) : Type 0 where
+  pub here : Here
+  pub there : ofTable timed m t (λ at b. bind (cellHere at b k c) (λ h. ok h)) ≡ ok here
+  pub is : spot ≡ spotOf here
+  pub reads : value 0 0 (here .type) .read m (here .at) ≡ ok (here .value, here .at + length (value 50 51 (here .type) .bytes (here .value)))
+
+module _ (timed : Bool) (m : List ℕ) (t k c : ℕ) where
+  -- what is asked of a cell follows from the cell
+  asked-here : {A : Type 0} (ask : Here → Res A) → bind (ofTable timed m t (λ at b. bind (cellHere at b k c) (λ h. ok h))) ask ≡ ofTable timed m t (λ at b. bind (cellHere at b k c) ask)
+  asked-here ask = follows (responseLayout timed) tablesOf (tableAt timed) m t (λ at b. cellHere at b k c) (λ h. h) ask
+
+  pub spotted : Bytes m → {spot : Spot} → ok spot ≡ ofTable timed m t (λ at b. bind (cellHere at b k c) (λ h. ok (spotOf h))) → Spotted timed m t k c spot
+  spotted all e =
+      let r = bound (readMessage (responseLayout timed) m) (sym e) in
+      let q = bound (entry (tablesOf (r .0)) t) (r .2) in
+      let h = bound (cellHere (tableAt timed (r .0) t) (q .0) k c) (q .2) in
+      let v = bound (entry (q .0 .rows) k) (h .1) in
+      let y = bound (entry (q .0 .metadata .types) c) (v .2) in
+      let w = there m (table-stands timed m all (r .0) (r .1) t (q .1)) k c (entry-below (q .0 .rows) k (v .1)) (entry-below (q .0 .metadata .types) c (y .1)) in
+      let same : w .here ≡ h .0 = ok-same (sym (w .is) ∙ h .1) in
+      let type = w .here .type in
+      let opened = ap (λ (z : Res Message). bind z (λ y. bind (entry (tablesOf y) t) (λ b. bind (cellHere (tableAt timed y t) b k c) (λ h. ok h)))) (r .1) in
+      let found = ap (λ (z : Res Table). bind z (λ b. bind (cellHere (tableAt timed (r .0) t) b k c) (λ h. ok h))) (q .1) in
+      record {
+        here = w .here;
+        there = opened ∙ found ∙ ap (λ (z : Res Here). bind z (λ h. ok h)) (w .is);
+        is = sym (ok-same (h .2)) ∙ ap spotOf (sym same);
+        reads = sym (value-fields m (w .here .at) 50 51 type) ∙ stands-read (lawful-value 50 51 type) (w .stands);
+      }
+
+  pub not-spotted : {A : Type 0} (ask : Here → Res A) {f : Fault} {p : ℕ} → no f p ≡ ofTable timed m t (λ at b. bind (cellHere at b k c) (λ h. ok (spotOf h)))
+      → no f p ≡ ofTable timed m t (λ at b. bind (cellHere at b k c) ask)
+  not-spotted ask e = by-cell (ofTable timed m t (λ at b. bind (cellHere at b k c) (λ h. ok h))) (e ∙ sym (asked-here (λ h. ok (spotOf h)))) ∙ asked-here ask
+    where
+      by-cell : (r : Res Here) {f : Fault} {p : ℕ} → no f p ≡ bind r (λ h. ok (spotOf h)) → no f p ≡ bind r ask
+      by-cell (ok h) e = absurd (no-ok e)
+      by-cell (no g q) e = retold e
+
+  module _ {spot : Spot} (w : Spotted timed m t k c spot) where
+    asked-spot : {A : Type 0} (ask : Here → Res A) → ask (w .here) ≡ ofTable timed m t (λ at b. bind (cellHere at b k c) ask)
+    asked-spot ask = sym (ap (λ (r : Res Here). bind r ask) (w .there)) ∙ asked-here ask
+
+    -- what is shown of it, and where it ends
+    pub spot-shown : {cell : Cell} → cell ≡ cellIn (shownAs (cellOf (spot .«wire_type») (spot .at)) (value 0 0 (spot .«wire_type») .read m (spot .at)))
+        → ok (record { cell = cell; «type_at» = spot .«type_at» }) ≡ ofTable timed m t (λ at b. bind (cellHere at b k c) (λ h. ok (shownOf h)))
+    spot-shown {cell} e =
+        let shows : cell ≡ shownHere (w .here) = e ∙ rw (w .is, w .reads) in
+        rw (w .is, shows) (asked-spot (λ h. ok (shownOf h)))
+
+    pub spot-ends : {next : Next} {«end» : ℕ} → next ≡ shownNext (value 0 0 (spot .«wire_type») .read m (spot .at)) → «end» ≡ pastOf next → «end» ≡ spot .at + placeHere (w .here) .1
+    spot-ends e f = f ∙ ap pastOf e ∙ rw (w .is, w .reads)
+
+    pub spot-placed : {size : ℕ} → size ≡ placeHere (w .here) .1 → ok (some (spot .at, size)) ≡ ofTable timed m t (λ at b. bind (cellHere at b k c) (λ h. ok (some (placeHere h))))
+    spot-placed e = rw (w .is, e) (asked-spot (λ h. ok (some (placeHere h))))
 
 module _ {A : Type 0} where
   pub some-ok : (r : Res A) {a : A} → some a ≡ perhaps r → r ≡ ok a

@@ -13,11 +13,6 @@ use Rattle.format.proofs.Laws.{lawful-number, lawful-each, all-map, length-each
 use Rattle.format.proofs.Formats.{lawful-value}
 use Rattle.scan.specs.Shown.{shownNext, shownNumber, shownByte, numberIn, byteIn}
 use Rattle.scan.proofs.Params.{number-fields}
-use Rattle.scan.proofs.Values.{value-fields}
-use Rattle.format.proofs.Results.{ok-same}
-use Rattle.show.specs.declared.Cell.{Cell}
-use Rattle.show.specs.declared.Shown.{Shown}
-use Rattle.show.specs.Cells.{cellOf, shownAs}
 use Rattle.places.specs.Stands.{Stands}
 use Rattle.places.specs.Places.{nameBytes, typeAt, nameAt, rowAt, cellAt}
 use Rattle.places.specs.Entries.{cellHere}
@@ -25,8 +20,8 @@ use Rattle.places.proofs.Stands.{stands-read, stands-fits, stands-at}
 use Rattle.places.proofs.Lists.{Sized, sized, total, jump-lands, entry-in, stands-entry, stands-front, front-bytes}
 use Rattle.places.proofs.Layouts.{length-number, status-stands, columns-stand, types-stand, names-stand, metadata-stands, row-count-stands, rows-stand, type-place, name-place, row-place, sized-table, sized-metadata, sized-row, cells-stand, types-part, cell-place, sized-name, names-all, name, type-stands, name-length-stands}
 use Rattle.places.proofs.Values.{there}
-use Rattle.query.specs.Shown.{pastOf, cellIn, spotOf, shownOf}
-use Rattle.query.specs.Answers.{layoutOf, shownHere, columnOf}
+use Rattle.query.specs.Shown.{pastOf, spotOf}
+use Rattle.query.specs.Answers.{layoutOf, columnOf}
 use Rattle.query.specs.declared.TableLayout.{TableLayout}
 use Rattle.query.specs.declared.Spot.{Spot}
 use Rattle.query.specs.declared.ColumnLayout.{ColumnLayout}
@@ -138,20 +133,6 @@ module _ (m : List ℕ) {at : ℕ} {b : Table} (d : Stands table m at b) (k c : 
       let reads : front ≡ Next.At (cellAt (rowAt at b k) l (vs .0) c)
       = e₅ ∙ rw (part, cells-is, stands-read law first-cells, cell-place (rowAt at b k) l (vs .0) c, front-bytes third (value 50 51) 0 l (vs .0) c) in
       rw (vs .1, ty .1, v .1) (ap ok (same-spot (byte-is m 45 type-at e₂ type-at-is typed) (omega (arith, type-place at (b .metadata) c (omega arith))) (e₆ ∙ ap pastOf reads)))
-
--- what is shown of a cell that is there
-module _ (m : List ℕ) {at : ℕ} {b : Table} (d : Stands table m at b) (k c : ℕ) (in-rows : k < length (b .rows)) (in-types : c < length (b .metadata .types)) where
-  pub shown-is : (spot : Spot) {shown : Shown} {cell : Cell} → ok spot ≡ bind (cellHere at b k c) (λ h. ok (spotOf h))
-      → shown ≡ shownAs (cellOf (spot .«wire_type») (spot .at)) (value 0 0 (spot .«wire_type») .read m (spot .at)) → cell ≡ cellIn shown
-      → ok (record { cell = cell; «type_at» = spot .«type_at» }) ≡ bind (cellHere at b k c) (λ h. ok (shownOf h))
-  shown-is spot {shown} {cell} e₁ e₂ e₃ =
-      let w = there m d k c in-rows in-types in
-      let h = w .here in
-      let same : spot ≡ spotOf h = ok-same (rw (w .is) at e₁) in
-      let reads : value 0 0 (h .type) .read m (h .at) ≡ ok (h .value, h .at + length (value 50 51 (h .type) .bytes (h .value))) = sym (value-fields m (h .at) 50 51 (h .type)) ∙ stands-read (lawful-value 50 51 (h .type)) (w .stands) in
-      let answer : shown ≡ Shown.Is (shownHere h) (h .at + length (value 50 51 (h .type) .bytes (h .value))) = e₂ ∙ rw (same, reads) in
-      let shows : cell ≡ shownHere h = e₃ ∙ ap cellIn answer in
-      rw (w .is, same, shows)
 
 -- a column, step by step
 module _ (m : List ℕ) {at : ℕ} {b : Table} (d : Stands table m at b) (c : ℕ) (in-types : c < length (b .metadata .types)) where

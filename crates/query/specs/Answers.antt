@@ -10,6 +10,7 @@ use lib.Dec.{eqb}
 use denote.Ref.{RefT}
 use Rattle.format.specs.declared.Fault.the-variants.{WireType, NoColumn}
 use Rattle.format.specs.Result.{Res, ok, no, bind, pick}
+use Rattle.format.specs.Value.{value as valueFormat}
 use Rattle.format.specs.Message.{Table, table, Argument, null, one, array, Param, Message, readMessage, responseLayout}
 use Rattle.show.specs.declared.Cell.{Cell}
 use Rattle.show.specs.declared.Raw.{Raw}
@@ -97,6 +98,10 @@ rawPart type-at (Raw.Bits t upper lower) = no WireType type-at
 abbrev pub partOf : ℕ → Cell → Res (Option (ℕ × ℕ))
 partOf type-at c = rawPart type-at (rawOf c)
 
+-- the part of the message that is listed for a cell: of a text or binary one its length field and its body
+abbrev pub placeHere : Here → ℕ × ℕ
+placeHere h = (h .at, length (valueFormat 50 51 (h .type) .bytes (h .value)))
+
 -- where the part that an answer tells starts and how long it is; for null and a refusal, the empty one at the message's start
 abbrev pub spanIn : Res (Option (ℕ × ℕ)) → ℕ × ℕ
 spanIn (ok (some p)) = p
@@ -129,6 +134,9 @@ askTable m t = ofTable true m t (λ at b. ok (layoutOf at b))
 abbrev pub askColumn : List ℕ → ℕ → ℕ → Res ColumnLayout
 askColumn m t c = ofTable true m t (λ at b. columnOf at b c)
 
+abbrev pub askColumnName : List ℕ → ℕ → ℕ → Res (Option (ℕ × ℕ))
+askColumnName m t c = bind (askColumn m t c) (λ l. ok (some (l .name, l .«name_length»)))
+
 abbrev pub askPlaced : List ℕ → ℕ → ℕ → Res (Option ColumnLayout)
 askPlaced m t c = ofTable true m t (λ at b. ok (perhaps (columnOf at b c)))
 
@@ -143,6 +151,9 @@ askCell m t k c = ofTable true m t (λ at b. bind (cellHere at b k c) (λ h. ok 
 
 abbrev pub askCellSpan : List ℕ → ℕ → ℕ → ℕ → Res (Option (ℕ × ℕ))
 askCellSpan m t k c = ofTable true m t (λ at b. bind (cellHere at b k c) (λ h. partOf (h .type-at) (shownHere h)))
+
+abbrev pub askCellPlace : List ℕ → ℕ → ℕ → ℕ → Res (Option (ℕ × ℕ))
+askCellPlace m t k c = ofTable true m t (λ at b. bind (cellHere at b k c) (λ h. ok (some (placeHere h))))
 
 abbrev pub askParameter : List ℕ → ℕ → Res Given
 askParameter m p = ofParam m p (λ at q. ok (givenOf at (q .type) (q .argument)))

@@ -6,6 +6,7 @@ use Rattle.show.specs.declared.Cell.{Cell}
 use Rattle.show.specs.declared.Shown.{Shown}
 use Rattle.places.specs.Entries.{Here}
 use Rattle.query.specs.declared.Spot.{Spot}
+use Rattle.query.specs.declared.FoundSpot.{FoundSpot}
 use Rattle.query.specs.declared.ShownCell.{ShownCell}
 use Rattle.query.specs.declared.FoundCell.{FoundCell}
 use Rattle.query.specs.Answers.{shownHere}
@@ -25,6 +26,10 @@ spotOf h = record { «wire_type» = h .type; «type_at» = h .type-at; at = h .a
 
 abbrev pub shownOf : Here → ShownCell
 shownOf h = record { cell = shownHere h; «type_at» = h .type-at }
+
+abbrev pub toldSpot : FoundSpot → Res Spot
+toldSpot (FoundSpot.Is s) = ok s
+toldSpot (FoundSpot.No r) = no (r .fault) (r .place)
 
 abbrev pub toldFound : FoundCell → Res ShownCell
 toldFound (FoundCell.Is c) = ok c

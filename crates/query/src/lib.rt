@@ -26,8 +26,8 @@ ghost use Rattle.show.specs.Cells.{cellOf, shownAs};
 ghost use Rattle.places.specs.Stands.{Stands};
 ghost use Rattle.places.specs.Places.{tablesOf, tableAt, typeAt, nameAt, rowAt, paramsOf, paramAt};
 ghost use Rattle.places.specs.Entries.{entry, cellHere, valueHere, elementOf};
-ghost use Rattle.query.specs.Shown.{pastOf, cellIn, spotOf, shownOf, toldFound};
-ghost use Rattle.query.specs.Answers.{perhaps, ofTable, ofParam, layoutOf, columnOf, firstNamed, namedOf, partOf, IsTold, givenOf, askTables, askTable, askColumn, askPlaced, askPosition, askNamed, askCell, askCellSpan, askParameter, askParameterSpan, askElement, askElementSpan, toldTable, toldColumn, toldPlaced, toldNamed, toldCell, toldPart, toldArgument};
+ghost use Rattle.query.specs.Shown.{pastOf, cellIn, spotOf, shownOf, toldSpot, toldFound};
+ghost use Rattle.query.specs.Answers.{perhaps, ofTable, ofParam, layoutOf, columnOf, firstNamed, namedOf, partOf, IsTold, givenOf, askTables, askTable, askColumn, askPlaced, askPosition, askNamed, askColumnName, askCell, askCellSpan, askCellPlace, askParameter, askParameterSpan, askElement, askElementSpan, toldTable, toldColumn, toldPlaced, toldNamed, toldCell, toldPart, toldArgument};
 
 // ---- What the questions are answered with.
 
@@ -323,6 +323,17 @@ pub fn column(m: &[u8], t: usize, c: usize) -> ColumnAnswer
     }
 }
 
+// Where the bytes of a column's name stand, without their length, and how many they are.
+pub fn column_name(m: &[u8], t: usize, c: usize) -> Part
+    ensures { λ r. ⌜ toldPart r ≡ askColumnName (now (m .entry)) t c ⌝ }
+{
+    let answer = column(m, t, c);
+    match answer {
+        ColumnAnswer::No(r) => Part::No(r),
+        ColumnAnswer::Is(layout) => Part::Is(layout.name, layout.name_length),
+    }
+}
+
 // The first of some names, from a place on, that is equal to a name.
 fn search(m: &[u8], from: usize, count: usize, name: &[u8]) -> Answer
     ensures { λ r. ⌜ ((names : List (Option (List ℕ))) → Stands (each third 0 (replicate count (string false ascii 46 47))) (now (m .entry)) from names
@@ -436,24 +447,34 @@ fn spot_at(m: &[u8], types: usize, rows: usize, k: usize, c: usize) -> Spot
     }
 }
 
+// A cell's spot, or a refusal.
+enum FoundSpot {
+    Is(Spot),
+    No(Refusal),
+}
+
+fn find_spot(m: &[u8], timed: bool, t: usize, k: usize, c: usize) -> FoundSpot
+    ensures { λ r. ⌜ toldSpot r ≡ ofTable timed (now (m .entry)) t (λ at b. bind (cellHere at b k c) (λ h. ok (spotOf h))) ⌝ }
+{
+    let answer = find_table(m, timed, t);
+    match answer {
+        TableAnswer::No(r) => FoundSpot::No(r),
+        TableAnswer::Is(layout) => {
+            if layout.rows <= k {
+                FoundSpot::No(PAST_END)
+            } else if layout.columns <= c {
+                FoundSpot::No(PAST_END)
+            } else {
+                FoundSpot::Is(spot_at(m, layout.types, layout.first_row, k, c))
+            }
+        }
+    }
+}
+
 // A cell, and where its column's type stands.
 struct ShownCell {
     cell: show::Cell,
     type_at: usize,
-}
-
-// The cell at row k and column c of a table, shown.
-fn shown_at(m: &[u8], types: usize, rows: usize, k: usize, c: usize) -> ShownCell
-    requires { ⌜ types + c ≤ length (now m) ⌝ }
-    ensures { λ r. ⌜ ((at : ℕ) (b : Table) → Stands table (now (m .entry)) at b → types ≡ typeAt at (b .metadata) 0 → rows ≡ rowAt at b 0
-        → k < length (b .rows) → c < length (b .metadata .types) → ok r ≡ bind (cellHere at b k c) (λ h. ok (shownOf h))) ⌝ }
-{
-    let spot = spot_at(m, types, rows, k, c);
-    let cell = cell_in(show::read_value(m, spot.at, spot.wire_type));
-    ShownCell {
-        cell,
-        type_at: spot.type_at,
-    }
 }
 
 // A cell and its column's type, or a refusal.
@@ -465,17 +486,15 @@ enum FoundCell {
 fn find_cell(m: &[u8], timed: bool, t: usize, k: usize, c: usize) -> FoundCell
     ensures { λ r. ⌜ toldFound r ≡ ofTable timed (now (m .entry)) t (λ at b. bind (cellHere at b k c) (λ h. ok (shownOf h))) ⌝ }
 {
-    let answer = find_table(m, timed, t);
-    match answer {
-        TableAnswer::No(r) => FoundCell::No(r),
-        TableAnswer::Is(layout) => {
-            if layout.rows <= k {
-                FoundCell::No(PAST_END)
-            } else if layout.columns <= c {
-                FoundCell::No(PAST_END)
-            } else {
-                FoundCell::Is(shown_at(m, layout.types, layout.first_row, k, c))
-            }
+    let found = find_spot(m, timed, t, k, c);
+    match found {
+        FoundSpot::No(r) => FoundCell::No(r),
+        FoundSpot::Is(spot) => {
+            let cell = value_at(m, spot.at, spot.wire_type);
+            FoundCell::Is(ShownCell {
+                cell,
+                type_at: spot.type_at,
+            })
         }
     }
 }
@@ -540,6 +559,20 @@ pub fn cell_span(m: &[u8], t: usize, k: usize, c: usize) -> Part
     ensures { λ r. ⌜ toldPart r ≡ askCellSpan (now (m .entry)) t k c ⌝ }
 {
     span_of(find_cell(m, true, t, k, c))
+}
+
+// Where the bytes of a cell stand, whatever its type, and how many they are: of a text or binary cell its length field and its body.
+pub fn cell_place(m: &[u8], t: usize, k: usize, c: usize) -> Part
+    ensures { λ r. ⌜ toldPart r ≡ askCellPlace (now (m .entry)) t k c ⌝ }
+{
+    let found = find_spot(m, true, t, k, c);
+    match found {
+        FoundSpot::No(r) => Part::No(r),
+        FoundSpot::Is(spot) => {
+            let end = past(scan::skip_value(m, spot.at, spot.wire_type));
+            Part::Is(spot.at, end - spot.at)
+        }
+    }
 }
 
 // ---- Parameters, and the elements of those that are arrays.

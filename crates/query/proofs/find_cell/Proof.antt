@@ -1,64 +1,44 @@
--- `query::find_cell` meets its contract: the table's refusal, a row or a column past the end, or the cell.
+-- `query::find_cell` meets its contract: the refusal, or the value that stands at the cell's spot, shown.
 use mathlib.Core.Path.{_∙_, sym, ap}
 use native.Mathlib.Omega.{arith}
-use Rattle.format.specs.Result.{ok, bind}
-use Rattle.format.specs.Message.{responseLayout}
-use Rattle.places.specs.Places.{tablesOf, tableAt}
-use Rattle.places.specs.Entries.{cellHere}
-use Rattle.query.specs.Answers.{toldTable, layoutOf}
-use Rattle.query.specs.Shown.{shownOf}
-use Rattle.query.proofs.Opened.{bytes-all, opened, not-found, asked, row-past, cell-past, types-fit, rows-are, columns-are, types-at, rows-at}
+use Rattle.format.specs.Result.{ok}
+use Rattle.query.specs.Shown.{toldSpot, shownOf}
+use Rattle.query.proofs.Opened.{bytes-all, spotted, not-spotted, spot-shown}
 use borrow.Author.Needs.{needs}
 use Rattle.query.proofs.find_cell.Statement.{statement}
 use Rattle.query.proofs.find_cell.Tie as tie
 
-find-table-requires : tie.Need-find-table-requires
-find-table-requires c κs = search needs
+find-spot-requires : tie.Need-find-spot-requires
+find-spot-requires c κs = search needs
 
-enum-known-answer : tie.Need-enum-known-answer
-enum-known-answer c = search needs
+enum-known-found : tie.Need-enum-known-found
+enum-known-found c = search needs
 
-enum-known-answer-2 : tie.Need-enum-known-answer-2
-enum-known-answer-2 c = search needs
+enum-known-found-2 : tie.Need-enum-known-found-2
+enum-known-found-2 c = search needs
 
-shown-at-requires : tie.Need-shown-at-requires
-shown-at-requires c κs =
-    let a = c .before .before .before .before .before .before .before .before .before .args in
-    let o = opened (a .timed) (a .m .now) (bytes-all (a .m .now) (λ k. omega (arith, c .before .before .before .before .before .before .before .before .shared-slice-known .given k))) (a .t) (sym (ap toldTable (c .before .before .before .before .before .answer2 .given .1)) ∙ c .before .before .before .before .before .before .before .find-table .ensures) in
-    types-fit o (a .c) (omega arith)
+value-at-requires : tie.Need-value-at-requires
+value-at-requires c κs = search needs
 
 returns : tie.Need-returns
 returns c =
     let a = c .before .before .before .before .before .args in
-    not-found (responseLayout (a .timed)) tablesOf (tableAt (a .timed)) (a .m .now) (a .t) layoutOf (λ at b. bind (cellHere at b (a .k) (a .c)) (λ h. ok (shownOf h))) (sym (ap toldTable (c .before .answer .given .1)) ∙ c .before .before .before .find-table .ensures)
+    not-spotted (a .timed) (a .m .now) (a .t) (a .k) (a .c) (λ h. ok (shownOf h)) (sym (ap toldSpot (c .before .found .given .1)) ∙ c .before .before .before .find-spot .ensures)
 
 returns-2 : tie.Need-returns-2
 returns-2 c =
-    let a = c .before .before .before .before .before .before .before .args in
-    let o = opened (a .timed) (a .m .now) (bytes-all (a .m .now) (λ k. omega (arith, c .before .before .before .before .before .before .shared-slice-known .given k))) (a .t) (sym (ap toldTable (c .before .before .before .answer2 .given .1)) ∙ c .before .before .before .before .before .find-table .ensures) in
-    row-past o (a .k) (a .c) (c .if1 .taken)
-
-returns-3 : tie.Need-returns-3
-returns-3 c =
-    let a = c .before .before .before .before .before .before .before .before .before .args in
-    let o = opened (a .timed) (a .m .now) (bytes-all (a .m .now) (λ k. omega (arith, c .before .before .before .before .before .before .before .before .shared-slice-known .given k))) (a .t) (sym (ap toldTable (c .before .before .before .before .before .answer2 .given .1)) ∙ c .before .before .before .before .before .before .before .find-table .ensures) in
-    cell-past o (a .k) (a .c) (omega arith) (c .if2 .taken)
-
-returns-4 : tie.Need-returns-4
-returns-4 c =
-    let a = c .before .before .before .before .before .before .before .before .before .before .args in
-    let o = opened (a .timed) (a .m .now) (bytes-all (a .m .now) (λ k. omega (arith, c .before .before .before .before .before .before .before .before .before .shared-slice-known .given k))) (a .t) (sym (ap toldTable (c .before .before .before .before .before .before .answer2 .given .1)) ∙ c .before .before .before .before .before .before .before .before .find-table .ensures) in
-    c .shown-at .ensures _ (o .tab) (o .stands) (types-at o) (rows-at o) (omega (arith, rows-are o)) (omega (arith, columns-are o)) ∙ sym (asked o (λ at b. bind (cellHere at b (a .k) (a .c)) (λ h. ok (shownOf h))))
+    let a = c .before .before .before .before .before .before .args in
+    let all = bytes-all (a .m .now) (λ k. omega (arith, c .before .before .before .before .before .shared-slice-known .given k)) in
+    let w = spotted (a .timed) (a .m .now) (a .t) (a .k) (a .c) all (sym (ap toldSpot (c .before .before .found2 .given .1)) ∙ c .before .before .before .before .find-spot .ensures) in
+    spot-shown (a .timed) (a .m .now) (a .t) (a .k) (a .c) w (c .value-at .ensures)
 
 pub find-cell-spec : {M : Type 1} → statement M
 find-cell-spec =
     tie.close
     (tie.spec
-    find-table-requires
-    enum-known-answer
-    enum-known-answer-2
-    shown-at-requires
+    find-spot-requires
+    enum-known-found
+    enum-known-found-2
+    value-at-requires
     returns
-    returns-2
-    returns-3
-    returns-4)
+    returns-2)
