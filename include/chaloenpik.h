@@ -132,11 +132,18 @@ uint64_t chaloenpik_columns(const uint8_t *message, size_t length, size_t table)
 /* The wire type of a column. */
 uint64_t chaloenpik_column_type(const uint8_t *message, size_t length, size_t table, size_t column);
 
+/* Where the bytes of a column's name stand in the message: their start and how many they are. */
+uint64_t chaloenpik_column_name(const uint8_t *message, size_t length, size_t table, size_t column, uint64_t part[2]);
+
 /* The position of the first column whose name is equal, byte for byte. 9 at 0: no column has that name. */
 uint64_t chaloenpik_find_column(const uint8_t *message, size_t length, size_t table, const uint8_t *name, size_t name_length);
 
 /* A cell of a table. */
 uint64_t chaloenpik_cell(const uint8_t *message, size_t length, size_t table, size_t row, size_t column, uint64_t cell[4]);
+
+/* Where the bytes of a cell of any type stand in the message, a null too: the start and size of what the field list has for it, which of
+   a text or binary cell is its length and its body. */
+uint64_t chaloenpik_cell_place(const uint8_t *message, size_t length, size_t table, size_t row, size_t column, uint64_t part[2]);
 
 /* ---- Shortcut cards: a column kept by its position, type and name, to be found again without a search. */
 

@@ -80,18 +80,26 @@ static void names(size_t table) {
     }
 }
 
+/* A cell, and where its bytes stand. */
+static void cell(size_t table, size_t row, size_t column) {
+    told(chaloenpik_cell(message, length, table, row, column, fresh()), 4);
+    told(chaloenpik_cell_place(message, length, table, row, column, fresh()), 2);
+}
+
 static void table(size_t t) {
     uint64_t answer = chaloenpik_rows(message, length, t);
     if (refused(answer)) return;
     size_t rows = chaloenpik_value(answer), columns = chaloenpik_value(chaloenpik_columns(message, length, t));
     names(t);
+    for (size_t c = 0; c <= columns; c++) told(chaloenpik_column_name(message, length, t, c, fresh()), 2);
     for (size_t r = 0; r <= rows; r++)
-        for (size_t c = 0; c <= columns; c++) told(chaloenpik_cell(message, length, t, r, c, fresh()), 4);
+        for (size_t c = 0; c <= columns; c++) cell(t, r, c);
 }
 
 static void response(void) {
     if (!told(chaloenpik_response(message, length, fresh()), 17)) {
-        told(chaloenpik_cell(message, length, 0, 0, 0, fresh()), 4);
+        told(chaloenpik_column_name(message, length, 0, 0, fresh()), 2);
+        cell(0, 0, 0);
         name(0, message, 0);
         open_card(0);
         return;

@@ -5,8 +5,9 @@ For each message lines of numbers, as include/chaloenpik.h orders them, and a do
 - its record, or its refusal;
 - of an invocation, each parameter and after it each element, one more than there are (and one of what is no array); a parameter more;
 - of a response, for each table: for each column the answer to making its card in 35 bytes; the card's column and bytes; the columns
-  that the card opens in that table and in the next. Then each row's cells, one more than there are, and a row more than there are;
-- of a refused invocation one parameter, of a refused response one cell, a card made and a card opened.
+  that the card opens in that table and in the next. Then where each column's name stands, one more than there are; and each row's
+  cells, one more than there are, and a row more than there are, after each cell where its bytes stand;
+- of a refused invocation one parameter, of a refused response a name, a cell and its place, a card made and a card opened.
 """
 
 import pathlib
@@ -51,7 +52,7 @@ def shown(kind, message):
     try:
         record, fields = read(kind, message)
     except Refused as no:
-        return ["refused %d %d" % (no.number, no.place)] * {INVOCATION: 2, REPLY: 5}.get(kind, 1)
+        return ["refused %d %d" % (no.number, no.place)] * {INVOCATION: 2, REPLY: 7}.get(kind, 1)
     return Shown(message, record, fields).lines(kind)
 
 
@@ -100,9 +101,12 @@ class Shown:
         for t, table in enumerate(it["tables"]):
             for name in table["names"]:
                 lines += self.card(t, name)
+            lines += [line(*self.part(F_COLUMN_NAME, t, 0, c)) for c in range(len(table["names"]))] + [PAST_END]
             for r in range(len(table["rows"])):
-                lines += [self.value(wire_type, F_CELL, t, r, c) for c, wire_type in enumerate(table["types"])] + [PAST_END]
-            lines += [PAST_END] * (len(table["types"]) + 1)
+                for c, wire_type in enumerate(table["types"]):
+                    lines += [self.value(wire_type, F_CELL, t, r, c), self.place(F_CELL, t, r, c)]
+                lines += [PAST_END] * 2
+            lines += [PAST_END] * 2 * (len(table["types"]) + 1)
         return lines + [PAST_END]
 
     def card(self, t, name):
@@ -127,6 +131,11 @@ class Shown:
             return line(wire_type, FIXED, bits >> 64, bits % 2**64)
         start, size = self.part(field, *index)
         return line(wire_type, NONE, 0, 0) if size < 0 else line(wire_type, BYTES, start, size)
+
+    def place(self, field, *index):
+        """Start and size of all that is listed for a value: a length, a body, or both."""
+        listed = [self.fields[(n, *index)] for n in (field, field + 1) if (n, *index) in self.fields]
+        return line(listed[0][0], sum(size for _, size in listed))
 
     def part(self, field, *index):
         """Start and size of a counted body; a size of -1 is null."""
