@@ -1,11 +1,15 @@
-/* Chaloenpik: reads and writes the VoltDB client wire protocol, and says which bytes of a message say what.
+/* Chaloenpik: reads and writes the VoltDB client wire protocol, and says which bytes of a message say what. For C99 and C++11 or later.
 
-   The functions are those of the proved crate `exports`; `rt staticlib exports` writes target/staticlib/libexports.a.
+   The functions are those of the proved crate `exports`; `make` writes them to target/libchaloenpik.a, for x86-64 Linux.
    They ask nothing of their arguments but that each pointer has so many readable (or, where not const, writable) elements,
    and that memory lent for writing overlaps nothing else lent to the same call. They keep nothing and allocate nothing.
 
    Each answers one number, taken apart by the first two functions below: 0 in its low 8 bits if the call was carried out, and
-   then what it found above them; else the number of a refusal, and its place above it. A refusal changes no lent memory. */
+   then what it found above them; else the number of a refusal, and its place above it. A refusal changes no lent memory.
+
+   A call that is given a message reads it from its start, whatever it asks: its cost grows with the message's length. To go over a whole
+   table, or a whole message, don't ask cell by cell: take its field list, by `chaloenpik_field_count` and one `chaloenpik_fields`. Each
+   entry says where a field stands, so all the rest is read there, at no further cost (examples/c/table.c). */
 #ifndef CHALOENPIK_H
 #define CHALOENPIK_H
 
@@ -14,11 +18,40 @@
 #include <stdint.h>
 #include <string.h>
 
+#define CHALOENPIK_VERSION_MAJOR 0
+#define CHALOENPIK_VERSION_MINOR 1
+#define CHALOENPIK_VERSION_PATCH 0
+#define CHALOENPIK_VERSION "0.1.0"
+
+#ifdef __cplusplus
+extern "C" {
+#endif
+
 /* The refusal's number; 0: none. */
 static inline unsigned chaloenpik_refusal(uint64_t answer) { return (unsigned)(answer & 255); }
 
 /* The refusal's place, or what was found. */
 static inline uint64_t chaloenpik_value(uint64_t answer) { return answer >> 8; }
+
+/* ---- Names for numbers. chaloenpik_words.h says them in words. */
+
+/* Refusals, and their places. */
+enum {
+    CHALOENPIK_NO_ROOM = 1,       /* a field, or a counted body, doesn't fit its room: the field; for a body, its length field */
+    CHALOENPIK_NEGATIVE = 2,      /* a length or count is negative and not a permitted -1, or the message length is 0: that field */
+    CHALOENPIK_LIMIT = 3,         /* a limit is passed: that length or count */
+    CHALOENPIK_LEFT_OVER = 4,     /* bytes are left in a room after its last field: the first such byte */
+    CHALOENPIK_BAD_VERSION = 5,   /* the version or the hash version is not 0 or 1: that byte */
+    CHALOENPIK_BAD_TYPE = 6,      /* the wire type is unknown or not permitted there: that byte; or no such kind: 0 */
+    CHALOENPIK_BAD_VALUE = 7,     /* a decimal, point, flag byte, column name or empty geography breaks its rule: the value; a name's first
+                                     byte above 127; an empty geography's length field */
+    CHALOENPIK_OUTPUT_SHORT = 8,  /* the output is too short: bytes needed; in the writer, the position the step would reach */
+    CHALOENPIK_NO_COLUMN = 9,     /* no column has that name: 0 */
+    CHALOENPIK_CARD_STALE = 10,   /* a well-formed card doesn't fit the table: 0 */
+    CHALOENPIK_PAST_END = 11,     /* a table, row, column, list entry or byte past the end, or a column's name past its buffer: 0 */
+    CHALOENPIK_CARD_BROKEN = 12,  /* a card breaks its form: the first wrong byte; for a wrong size, the smaller of the sizes */
+    CHALOENPIK_BAD_STAGE = 13     /* a step of writing comes at a stage, or with a state, that doesn't permit it: the position */
+};
 
 /* Kinds of messages. */
 enum { CHALOENPIK_LOGIN_REQUEST = 1, CHALOENPIK_LOGIN_RESPONSE = 2, CHALOENPIK_INVOCATION = 3, CHALOENPIK_RESPONSE = 4 };
@@ -30,6 +63,42 @@ enum {
     CHALOENPIK_POINT = 26, CHALOENPIK_GEOGRAPHY = 27, CHALOENPIK_ARRAY = 157 /* -99 */
 };
 
+/* Fields of a message. A counted thing has a field for its length and, if that is longer than 0, one for its body. */
+enum {
+    CHALOENPIK_FIELD_MESSAGE_LENGTH = 1, CHALOENPIK_FIELD_VERSION = 2,
+    /* of a login request */
+    CHALOENPIK_FIELD_HASH_VERSION = 3, CHALOENPIK_FIELD_SERVICE_LENGTH = 4, CHALOENPIK_FIELD_SERVICE = 5,
+    CHALOENPIK_FIELD_USER_LENGTH = 6, CHALOENPIK_FIELD_USER = 7, CHALOENPIK_FIELD_HASH = 8,
+    /* of a login response */
+    CHALOENPIK_FIELD_RESULT = 10, CHALOENPIK_FIELD_HOST = 11, CHALOENPIK_FIELD_CONNECTION = 12, CHALOENPIK_FIELD_START = 13,
+    CHALOENPIK_FIELD_LEADER = 14, CHALOENPIK_FIELD_BUILD_LENGTH = 15, CHALOENPIK_FIELD_BUILD = 16,
+    /* of an invocation; the client data of a response too. Indices from the wire type to the value: parameter, element, 0 */
+    CHALOENPIK_FIELD_PROCEDURE_LENGTH = 20, CHALOENPIK_FIELD_PROCEDURE = 21, CHALOENPIK_FIELD_CLIENT_DATA = 22,
+    CHALOENPIK_FIELD_PARAMETER_COUNT = 23, CHALOENPIK_FIELD_WIRE_TYPE = 24, CHALOENPIK_FIELD_ELEMENT_TYPE = 25,
+    CHALOENPIK_FIELD_ELEMENT_COUNT = 26, CHALOENPIK_FIELD_VALUE_LENGTH = 27, CHALOENPIK_FIELD_VALUE = 28,
+    /* of a response */
+    CHALOENPIK_FIELD_FLAGS = 30, CHALOENPIK_FIELD_STATUS = 31, CHALOENPIK_FIELD_STATUS_STRING_LENGTH = 32,
+    CHALOENPIK_FIELD_STATUS_STRING = 33, CHALOENPIK_FIELD_APPLICATION_STATUS = 34, CHALOENPIK_FIELD_APPLICATION_STRING_LENGTH = 35,
+    CHALOENPIK_FIELD_APPLICATION_STRING = 36, CHALOENPIK_FIELD_ROUND_TRIP = 37, CHALOENPIK_FIELD_EXCEPTION_LENGTH = 38,
+    CHALOENPIK_FIELD_EXCEPTION = 39, CHALOENPIK_FIELD_TABLE_COUNT = 40,
+    /* of its tables. Indices: table, row, column, 0 where there is none */
+    CHALOENPIK_FIELD_TABLE_LENGTH = 41, CHALOENPIK_FIELD_METADATA_LENGTH = 42, CHALOENPIK_FIELD_TABLE_STATUS = 43,
+    CHALOENPIK_FIELD_COLUMN_COUNT = 44, CHALOENPIK_FIELD_COLUMN_TYPE = 45, CHALOENPIK_FIELD_COLUMN_NAME_LENGTH = 46,
+    CHALOENPIK_FIELD_COLUMN_NAME = 47, CHALOENPIK_FIELD_ROW_COUNT = 48, CHALOENPIK_FIELD_ROW_LENGTH = 49,
+    CHALOENPIK_FIELD_CELL_LENGTH = 50, CHALOENPIK_FIELD_CELL = 51
+};
+
+/* Sizes. */
+enum {
+    CHALOENPIK_MOST_BYTES = 4194308, /* of a message; no longer one is accepted */
+    CHALOENPIK_ENTRY = 6,            /* numbers of an entry of the field list */
+    CHALOENPIK_CARD = 36,            /* bytes of a shortcut card */
+    CHALOENPIK_STATE = 11,           /* numbers of a writer's state */
+    CHALOENPIK_TYPES = 64            /* bytes for the types of an open table's columns: the most columns that a table has */
+};
+
+/* ---- Any message. */
+
 /* Whether a message of a kind is accepted; if so the value is 0. */
 uint64_t chaloenpik_accept(uint8_t kind, const uint8_t *message, size_t length);
 
@@ -37,8 +106,9 @@ uint64_t chaloenpik_accept(uint8_t kind, const uint8_t *message, size_t length);
 uint64_t chaloenpik_field_count(uint8_t kind, const uint8_t *message, size_t length);
 
 /* Writes entries of the field list into `out`, which has room for `size` numbers: those from number `first` on, from 0, as
-   many whole ones as fit. An entry is six numbers: offset, size, field number, three indices. The value is how many entries
-   were written; what stands behind them in `out` is left as it was. 11 at 0: the list has no entry `first`. */
+   many whole ones as fit. An entry is CHALOENPIK_ENTRY numbers: offset, size, field number, three indices. The value is how many entries
+   were written; what stands behind them in `out` is left as it was. 11 at 0: the list has no entry `first`. Fields are listed in the order
+   of their bytes, without a gap. Each call reads the whole message again, so take few large windows, or one. */
 uint64_t chaloenpik_fields(uint8_t kind, const uint8_t *message, size_t length, size_t first, uint64_t *out, size_t size);
 
 /* The number, in the field list, of the field that owns a byte. 11 at 0: the message has no such byte. */
@@ -147,9 +217,7 @@ uint64_t chaloenpik_cell_place(const uint8_t *message, size_t length, size_t tab
 
 /* ---- Shortcut cards: a column kept by its position, type and name, to be found again without a search. */
 
-enum { CHALOENPIK_CARD = 36 }; /* bytes of a card */
-
-/* Writes the card of the first column of a name in front of `out`; the value is the column's position. 8 at 36: no room. */
+/* Writes the card of the first column of a name in front of `out`; the value is the column's position. 8 at CHALOENPIK_CARD: no room. */
 uint64_t chaloenpik_make_card(const uint8_t *message, size_t length, size_t table, const uint8_t *name, size_t name_length, uint8_t *out, size_t size);
 
 /* The position of the column that a card stands for. 10 at 0: the table has another column there, or none; 12: no card. */
@@ -169,8 +237,8 @@ uint64_t chaloenpik_write_login_response(uint8_t *out, size_t size, uint8_t vers
 
 /* The other kinds are written by steps, which keep where they are in numbers that the caller lends: the stage, the position, and
    what is open. Beginning a message sets them. Any numbers may stand in them: a step that they don't permit is refused 13, at
-   the low 56 bits of the position. */
-enum { CHALOENPIK_STATE = 11, CHALOENPIK_TYPES = 64 /* the types of the open table's columns: opening it sets them, its steps look at them */ };
+   the low 56 bits of the position. Opening a table sets the types of its columns, and its steps look at them. A step costs by what it
+   writes, and not by what was written before. */
 
 /* Begins an invocation; `client` has 8 bytes. */
 uint64_t chaloenpik_begin_call(uint8_t *out, size_t size, uint64_t state[CHALOENPIK_STATE], uint8_t version,
@@ -240,5 +308,9 @@ uint64_t chaloenpik_close_table(uint8_t *out, size_t size, uint64_t state[CHALOE
 
 /* Finishes the response. */
 uint64_t chaloenpik_finish_reply(uint8_t *out, size_t size, uint64_t state[CHALOENPIK_STATE]);
+
+#ifdef __cplusplus
+}
+#endif
 
 #endif
