@@ -1,8 +1,7 @@
 /* Writes a reply of one row with numbers of each type, by the header's helpers, and reads them back: no cast by hand, and a number that
    its type doesn't hold is refused, not cut. */
 #include "decimal.h"
-#include <chaloenpik.h>
-#include <stdlib.h>
+#include "input.h"
 
 enum { COLUMNS = 8 };
 
@@ -16,14 +15,8 @@ static const int64_t numbers[COLUMNS] = {-5, -300, -70000, INT64_MIN, -1, 0, -80
 static uint8_t out[256], types[CHALOENPIK_TYPES];
 static uint64_t state[CHALOENPIK_STATE];
 
-/* What was found; a refusal ends the program. */
-static uint64_t found(uint64_t answer) {
-    if (chaloenpik_refusal(answer) != 0) {
-        printf("refused %u at %lu\n", chaloenpik_refusal(answer), (unsigned long)chaloenpik_value(answer));
-        exit(1);
-    }
-    return chaloenpik_value(answer);
-}
+/* A step of writing that was carried out; a refusal ends the program. */
+static uint64_t done(uint64_t answer) { return found("step", answer); }
 
 static uint64_t cell(uint8_t type, uint64_t upper, uint64_t lower) {
     return chaloenpik_fixed_cell(out, sizeof out, state, types, type, upper, lower);
@@ -40,10 +33,10 @@ static void write_cell(size_t column) {
     uint8_t type = wire_types[column];
     int64_t n = numbers[column];
     switch (type) {
-    case CHALOENPIK_FLOAT: found(cell(type, 0, chaloenpik_float_bits(81.5))); break;
-    case CHALOENPIK_DECIMAL: found(cell(type, chaloenpik_upper_bits(n), (uint64_t)n)); break;
-    case CHALOENPIK_POINT: found(cell(type, chaloenpik_float_bits(-12.25), chaloenpik_float_bits(55.5))); break;
-    default: found(signed_cell(type, n));
+    case CHALOENPIK_FLOAT: done(cell(type, 0, chaloenpik_float_bits(81.5))); break;
+    case CHALOENPIK_DECIMAL: done(cell(type, chaloenpik_upper_bits(n), (uint64_t)n)); break;
+    case CHALOENPIK_POINT: done(cell(type, chaloenpik_float_bits(-12.25), chaloenpik_float_bits(55.5))); break;
+    default: done(signed_cell(type, n));
     }
 }
 
@@ -51,19 +44,19 @@ static size_t write_reply(void) {
     static const uint8_t client[8] = {0};
     uint64_t columns[3 * COLUMNS];
     for (size_t k = 0; k < COLUMNS; k++) columns[3 * k] = wire_types[k], columns[3 * k + 1] = k, columns[3 * k + 2] = 1;
-    found(chaloenpik_begin_reply(out, sizeof out, state, 1, client, 0, 1, true, client, 0, 0, true, client, 0, 0, client, 0));
-    found(chaloenpik_open_table(out, sizeof out, state, types, 0, columns, 3 * COLUMNS, names, COLUMNS));
-    found(chaloenpik_open_row(out, sizeof out, state, types));
+    done(chaloenpik_begin_reply(out, sizeof out, state, 1, client, 0, 1, true, client, 0, 0, true, client, 0, 0, client, 0));
+    done(chaloenpik_open_table(out, sizeof out, state, types, 0, columns, 3 * COLUMNS, names, COLUMNS));
+    done(chaloenpik_open_row(out, sizeof out, state, types));
     too_large(300), too_large(200), too_large(-129);
     for (size_t k = 0; k < COLUMNS; k++) write_cell(k);
-    found(chaloenpik_close_row(out, sizeof out, state, types));
-    found(chaloenpik_close_table(out, sizeof out, state, types));
-    return found(chaloenpik_finish_reply(out, sizeof out, state));
+    done(chaloenpik_close_row(out, sizeof out, state, types));
+    done(chaloenpik_close_table(out, sizeof out, state, types));
+    return done(chaloenpik_finish_reply(out, sizeof out, state));
 }
 
 static void print_cell(size_t length, size_t column) {
     uint64_t it[4];
-    found(chaloenpik_cell(out, length, 0, 0, column, it));
+    done(chaloenpik_cell(out, length, 0, 0, column, it));
     uint8_t type = (uint8_t)it[0];
     switch (type) {
     case CHALOENPIK_FLOAT: printf("%g", chaloenpik_float_value(it[3])); break;

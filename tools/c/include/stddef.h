@@ -1,3 +1,7 @@
 #pragma once
 typedef __SIZE_TYPE__ size_t;
+#ifdef __cplusplus
+#define NULL nullptr
+#else
 #define NULL ((void *)0)
+#endif

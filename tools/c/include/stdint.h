@@ -9,6 +9,7 @@ typedef __INT16_TYPE__ int16_t;
 typedef __INT32_TYPE__ int32_t;
 typedef __INT64_TYPE__ int64_t;
 #define INT32_MAX 2147483647
+#define INT64_MAX 9223372036854775807L
 #define UINT32_MAX 4294967295U
 #define UINT8_MAX 255
 #define UINT16_MAX 65535
