@@ -3,12 +3,11 @@
 #include <chaloenpik.h>
 #include <stdio.h>
 
-enum { MOST_MESSAGE = 4194308, NUMBERS = 6, WINDOW = 1 << 20 /* entries asked for at once: each window is a walk over the message */ };
+enum { WINDOW = CHALOENPIK_ENTRY << 20 /* numbers asked for at once: each window is a walk over the message */ };
 
-static uint8_t input[1 + MOST_MESSAGE + 1]; /* one byte more than the longest, to see that it is longer */
-static uint64_t window[NUMBERS * WINDOW];
-
-static uint8_t bytes[4 * NUMBERS * WINDOW];
+static uint8_t input[1 + CHALOENPIK_MOST_BYTES + 1]; /* one byte more than the longest, to see that it is longer */
+static uint64_t window[WINDOW];
+static uint8_t bytes[4 * WINDOW];
 
 static void put(uint8_t *to, uint64_t number, int size) {
     for (int i = 0; i < size; i++) to[i] = (uint8_t)(number >> 8 * i);
@@ -17,10 +16,10 @@ static void put(uint8_t *to, uint64_t number, int size) {
 static bool write_bytes(size_t size) { return fwrite(bytes, 1, size, stdout) == size; }
 
 static bool put_fields(uint8_t kind, const uint8_t *message, size_t length, uint64_t count) {
-    for (uint64_t first = 0; first < count; first += WINDOW) {
-        uint64_t answer = chaloenpik_fields(kind, message, length, first, window, sizeof window / sizeof *window);
+    for (uint64_t first = 0; first < count; first += WINDOW / CHALOENPIK_ENTRY) {
+        uint64_t answer = chaloenpik_fields(kind, message, length, first, window, WINDOW);
         if (chaloenpik_refusal(answer) != 0) return false;
-        size_t numbers = NUMBERS * chaloenpik_value(answer);
+        size_t numbers = CHALOENPIK_ENTRY * chaloenpik_value(answer);
         for (size_t i = 0; i < numbers; i++) put(bytes + 4 * i, window[i], 4);
         if (!write_bytes(4 * numbers)) return false;
     }
