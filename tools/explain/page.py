@@ -1,102 +1,125 @@
-"""One self-contained page: the bytes as a grid coloured by field, and the field list. It needs no network."""
+"""One self-contained page: the bytes as a grid coloured by field, and the field list. It needs no network.
 
+The page can hold four million bytes and as many fields, so it gets both packed, and its scripts unpack them and draw what is visible.
+The scripts tell a field in the words of fields.py and values.py; the paper's names are handed to them, so that they stand once.
+"""
+
+import array
+import base64
 import html
+import itertools
+import json
+import operator
 import pathlib
 import re
+import sys
 
-from . import lines, paper
+from . import paper, values
 
-FRAME = pathlib.Path(__file__).with_name("page.html")
-MOST_AROUND = 4096   # bytes shown before and after the place of a refusal
-HUE_STEP = 137.508   # the golden angle: hues of neighbouring numbers lie far apart
-HINT = ("<p>Point at a byte, tap it, or move with the arrow keys; <kbd>n</kbd> and <kbd>p</kbd> go from field to field. "
-        "Underlined bytes declare the column of the cell shown.</p>")
-PAIRED_LENGTHS = (4, 6, 15, 20, 27, 32, 35, 38, 46, 50)
+FOLDER = pathlib.Path(__file__).parent
+FRAME, STYLE = "page.html", "page.css"
+SCRIPTS = ("values.js", "fields.js", "rows.js", "draw.js", "page.js")
+NUMBERS_IN_ENTRY = 6  # offset, size, field number, three indices
 
-
-def page(kind, name, message, refusal, explained):
-    parts = {
-        "title": "%s, %s" % (name, paper.KINDS[kind]),
-        "colours": "",
-        "table": "",
-        "start": "0",
-        "bad": "",
-        "bytes": message.hex(),
-    }
-    parts.update(refused_parts(refusal, message) if refusal else accepted_parts(explained))
-    safe = ("colours", "table", "told")
-    filled = {key: text if key in safe else html.escape(text) for key, text in parts.items()}
-    return re.sub(r"\{\{(\w+)\}\}", lambda hole: filled[hole[1]], FRAME.read_text(encoding="utf-8"))
+# The numbers of the paper that the scripts go by, under their names in paper.py.
+NUMBERS = (
+    "PARAMETER_TYPE", "ELEMENT_TYPE", "VALUE_LENGTH", "VALUE", "COLUMN_TYPE", "COLUMN_NAME", "ROW_LENGTH", "CELL_LENGTH", "CELL",
+    "ARRAY", "TINYINT", "FLOAT", "STRING", "TIMESTAMP", "DECIMAL", "VARBINARY", "POINT", "GEOGRAPHY",
+)
 
 
-def accepted_parts(explained):
+def page(kind, name, message, entries, refusal=None, words=(), footer=()):
+    """The page as text. entries: a flat sequence of numbers (six for each field: offset, size, field number, three indices), in wire
+    order, covering the message; of a refused message (refusal is (number, place), else None) those of the fields before its place.
+    words: the sentences that tell a refusal, the first is its headline. footer: lines for the page's end."""
+    templates, ids = packed(entries)
+    told = {"paper": paper_words(), "place": refusal[1] if refusal else None, "templates": templates, "bytes_in_id": ids.itemsize}
+    return filled({
+        "title": html.escape("%s, %s" % (encodable(name), paper.KINDS[kind])),
+        "summary": "{:,} bytes, {:,} fields{}".format(len(message), len(ids), " before the refusal" if refusal else ""),
+        "state": "refused" if refusal else "accepted",
+        "words": paragraphs(words),
+        "footer": paragraphs(footer),
+        "style": text_of(STYLE),
+        "told": script_json(told),
+        "bytes": base64.b64encode(message).decode("ascii"),
+        "ids": base64.b64encode(little_endian(ids)).decode("ascii"),
+        "script": "\n".join(map(text_of, SCRIPTS)),
+    })
+
+
+def filled(parts):
+    return re.sub(r"\{\{(\w+)\}\}", lambda hole: parts[hole[1]], text_of(FRAME))
+
+
+def text_of(name):
+    return (FOLDER / name).read_text(encoding="utf-8")
+
+
+def paragraphs(sentences):
+    return "".join("<p>%s</p>" % html.escape(encodable(sentence)) for sentence in sentences)
+
+
+def encodable(text):
+    """Text that can be written as UTF-8: a file's name need not be."""
+    return text.encode("utf-8", errors="backslashreplace").decode("utf-8")
+
+
+def script_json(told):
+    """JSON that can stand in a script element: without a <, nothing in it closes the element or opens a comment."""
+    return json.dumps(told, separators=(",", ":")).replace("<", "\\u003c")
+
+
+# -- Fields, packed: each is an id into a list of templates, of which a message has few.
+
+def packed(entries):
+    """(templates, ids). A template is a field's number, its size, and how far each index is from that of the field before."""
+    columns = [entries[at::NUMBERS_IN_ENTRY] for at in range(NUMBERS_IN_ENTRY)]
+    offsets, sizes, numbers, *indices = columns
+    if any(map(operator.ne, offsets, itertools.accumulate(sizes, initial=0))):
+        raise ValueError("the fields don't follow each other from the message's start")
+    ids_of = Numbered()
+    ids = list(map(ids_of.__getitem__, zip(numbers, sizes, *map(differences, indices))))
+    return list(ids_of), array.array(smallest_type(len(ids_of)), ids)
+
+
+class Numbered(dict):
+    """Gives each new key the next number."""
+
+    def __missing__(self, key):
+        self[key] = len(self)
+        return self[key]
+
+
+def differences(column):
+    return map(operator.sub, column, itertools.chain([0], column))
+
+
+def smallest_type(count):
+    """The array type that holds the numbers below a count in the fewest bytes."""
+    return next(code for code in "BHI" if count <= 256 ** array.array(code).itemsize)
+
+
+def little_endian(ids):
+    """The ids' bytes as the browsers' machines order them."""
+    if sys.byteorder == "big":
+        ids.byteswap()
+    return ids.tobytes()
+
+
+# -- Words
+
+def paper_words():
     return {
-        "summary": "%d bytes, %d fields" % (len(explained.message), len(explained.fields)),
-        "state": "accepted",
-        "told": "<p>Each colour is a field.</p>",
-        "colours": colour_rules(explained.fields),
-        "table": HINT + table(explained.fields),
+        "fields": paper.FIELDS,
+        "types": paper.TYPES,
+        "statuses": paper.STATUSES,
+        "results": paper.RESULTS,
+        "hashes": paper.HASHES,
+        "flags": list(paper.FLAGS.items()),
+        "parameter_fields": [paper.PARAMETER_FIELDS[0], paper.PARAMETER_FIELDS[-1]],
+        "table_fields": [paper.TABLE_FIELDS[0], paper.TABLE_FIELDS[-1]],
+        "decimal_places": values.DECIMAL_PLACES,
+        "most_shown": values.MOST_SHOWN,
+        **{name: getattr(paper, name) for name in NUMBERS},
     }
-
-
-def refused_parts(refusal, message):
-    """The bytes around the place, from the start of a line of 16."""
-    place = refusal[1]
-    start = max(0, place - MOST_AROUND) // 16 * 16
-    words = lines.refusal_words(refusal, message)
-    first = '<p class="value">%s</p>' % html.escape(words[0])
-    rest = "".join("<p>%s</p>" % html.escape(text) for text in words[1:])
-    return {
-        "summary": "%d bytes" % len(message),
-        "state": "refused",
-        "told": first + rest,
-        "start": str(start),
-        "bad": "" if lines.too_long(message) else str(place),
-        "bytes": message[start:place + MOST_AROUND].hex(),
-    }
-
-
-def table(fields):
-    head = "<tr>%s</tr>" % "".join("<th>%s</th>" % word for word in ("offset", "size", "bytes", "field", "where", "value"))
-    return "<table>\n<thead>%s</thead>\n<tbody>\n%s\n</tbody>\n</table>" % (head, "\n".join(map(table_row, fields)))
-
-
-def table_row(field):
-    attributes = 'class="%s" data-o="%d" data-s="%d"' % (colour_class(field), field.offset, field.size)
-    if column_of(field):
-        attributes += ' data-c="%s"' % column_of(field)
-        if field.number <= paper.COLUMN_NAME:
-            attributes += ' data-d="1"'
-    told = (field.offset, field.size, lines.short_hex(field.raw), field.name, field.where, field.value)
-    cells = ["<td>%s</td>" % html.escape(str(text)) for text in told]
-    cells[3] = cells[3].replace("<td>", '<td class="swatch">', 1)
-    return "<tr %s>%s</tr>" % (attributes, "".join(cells))
-
-
-def column_of(field):
-    """Which column a cell belongs to, and which one a column's type or name declares."""
-    if paper.COLUMN_TYPE <= field.number <= paper.COLUMN_NAME or field.number >= paper.CELL_LENGTH:
-        return "%d-%d" % (field.indices[0], field.indices[2])
-    return ""
-
-
-# -- Colours: one hue for each field number, and for cells one for each column; a length is a paler shade of its body's.
-
-def colour_class(field):
-    return "f%d-%d" % colour_key(field)
-
-
-def colour_key(field):
-    return field.number, field.indices[2] if field.number >= paper.CELL_LENGTH else 0
-
-
-def colour_rules(fields):
-    return "\n".join(colour_rule(*key) for key in sorted(set(map(colour_key, fields))))
-
-
-def colour_rule(number, column):
-    paired = number in PAIRED_LENGTHS
-    body = number + 1 if paired else number
-    hue = (60 + HUE_STEP * column if body == paper.CELL else HUE_STEP * body) % 360
-    return ".f%d-%d { --h: %.0f } i.f%d-%d { background: hsl(var(--h) 60%% var(--%s)) }" % (
-        number, column, hue, number, column, "pale" if paired else "full")
