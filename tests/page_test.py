@@ -288,11 +288,25 @@ class Seen(unittest.TestCase):
         self.assertLess(self.browser.run("document.querySelectorAll('*').length"), 3000)
         self.browser.key("End")
         self.assert_pinned(len(message) - 1)
-        self.browser.run("document.getElementById('list').scrollTop = 0")
-        self.browser.settle()
-        self.assertEqual(self.browser.run("document.querySelector('#list .field:not(.head)').field"), 0)
+        self.check_scrolling()
         self.browser.run("dispatchEvent(new Event('beforeprint'))")
         self.assertRegex(self.browser.run("document.querySelector('#printed .note').textContent"), r"^Printed are bytes .* those on the screen")
+
+    def scrolled(self, how):
+        """The list's first row in view after its pane is scrolled."""
+        self.browser.run("listPane.scrollTop %s" % how)
+        self.browser.settle()
+        return self.browser.run("list.top")
+
+    def check_scrolling(self):
+        """The whole list is taller than its pane can be: jumps reach every part of it, and steps are rows."""
+        self.assertGreater(self.browser.run("list.count * list.height"), self.browser.run("listPane.scrollHeight"))
+        self.assertEqual(self.scrolled("= 0"), 0)
+        self.assertAlmostEqual(self.scrolled("= listPane.scrollHeight / 2") / self.browser.run("list.count"), 0.5, 2)
+        top = self.browser.run("list.top")
+        for step in (1, 2, 3):
+            self.assertAlmostEqual(self.scrolled("+= list.height"), top + step)
+        self.assertAlmostEqual(self.scrolled("= listPane.scrollHeight"), self.browser.run("list.count - list.view / list.height"))
 
 
 if __name__ == "__main__":

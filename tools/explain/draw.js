@@ -6,14 +6,9 @@ const HUE_STEP = 137.508;     // the golden angle: hues of neighbouring numbers 
 const HUE_OF_CELLS = 60;      // of those of the first column
 const BYTES_SHOWN = 8;        // of a field in the list, before they are cut
 const BYTES_TOLD = 16;        // of a field in the panel
-const BYTES_IN_LINE = 16;     // of what is copied or printed, and of the grid in a wide window
-const BYTES_IN_NARROW_LINE = 8;
-const MOST_PRINTED = 8192;    // bytes of a message that is printed whole
 
 const byId = id => document.getElementById(id);
-const panel = byId("panel"), told = byId("told"), gridPane = byId("grid"), listPane = byId("list");
-const narrow = matchMedia("(max-width: 44rem)");
-
+const told = byId("told"), gridPane = byId("grid"), listPane = byId("list");
 const data = JSON.parse(byId("data-told").textContent);
 const bytes = fromBase64(byId("data-bytes").textContent);
 const message = new Message(data, bytes, unpackedIds(byId("data-ids").textContent, data.bytes_in_id));
@@ -21,7 +16,7 @@ const place = data.place === null ? -1 : Math.min(data.place, bytes.length);
 const last = place === bytes.length ? place : bytes.length - 1;  // a place at the end has a spot of its own, without a byte
 
 const state = { pointed: -1, pinned: -1, anchor: -1, dragged: -1 };
-let bytesInLine = BYTES_IN_LINE, shown = -1, declaring = [];
+let bytesInLine, shown = -1, declaring = [];
 
 // -- Drawing: the grid
 
@@ -29,14 +24,14 @@ const grid = new Rows(gridPane, line => drawLine(line, bytesInLine));
 
 function drawLine(line, width) {
   const row = element("div", "line"), from = line * width;
-  row.append(element("b", "", from), element("em", "", from.toString(16)));
-  for (let at = from; at < from + width; at++) row.append(at <= last ? dressed(spot(at)) : element("i"));
-  row.append(element("s", "", characters(bytes.subarray(from, from + width))));
+  row.append(element("span", "offset", from), element("span", "hex", from.toString(16)));
+  for (let at = from; at < from + width; at++) row.append(at <= last ? dressed(spot(at)) : element("span", "byte"));
+  row.append(element("span", "text", characters(bytes.subarray(from, from + width))));
   return row;
 }
 
 function spot(at) {
-  const it = element("i", "spot", at < bytes.length ? hex([bytes[at]]) : ""), field = message.owner(at);
+  const it = element("span", "byte spot", at < bytes.length ? hex([bytes[at]]) : ""), field = message.owner(at);
   Object.assign(it, { at, field });
   if (field >= 0) {
     tint(it, field);
@@ -73,9 +68,9 @@ function tint(it, field) {
 
 function gridHead(width) {
   const row = element("div", "line head");
-  row.append(element("b", "", "offset"), element("em", "", "hex"));
-  for (let at = 0; at < width; at++) row.append(element("i", "", at.toString(16)));
-  row.append(element("s", "", "text"));
+  row.append(element("span", "offset", "offset"), element("span", "hex", "hex"));
+  for (let at = 0; at < width; at++) row.append(element("span", "byte", at.toString(16)));
+  row.append(element("span", "text", "text"));
   return row;
 }
 
@@ -90,7 +85,8 @@ function listHead() {
 
 function drawField(field) {
   const row = fieldRow("", "cell", fieldTexts(field));
-  Object.assign(row, { at: message.offset[field], field, ariaRowIndex: field + 1 });
+  Object.assign(row, { at: message.offset[field], field });
+  row.setAttribute("aria-rowindex", field + 2);  // the head is row 1
   tint(row, field);
   return dressedField(row);
 }
@@ -103,23 +99,22 @@ function fieldTexts(field) {
 
 function fieldRow(kind, role, [offset, hexOffset, name, where, size, hexBytes, value]) {
   const row = element("div", "field " + kind);
-  row.role = "row";
+  row.setAttribute("role", "row");
   row.append(cell("offset", offset, role), cell("hex", hexOffset, role), cell("name", name, role), cell("size", size, role),
     cell("bytes", hexBytes, role), cell("value", value, role));
   row.querySelector(".name").append(element("span", "where", where));
-  row.title = `${name}, ${where}: ${value}`;
   return row;
 }
 
 function dressedField(row) {
   row.classList.toggle("shown", row.field === shown);
-  row.ariaCurrent = row.field === shown;
+  row.setAttribute("aria-current", row.field === shown);
   return row;
 }
 
 function cell(kind, text, role) {
   const made = element("span", kind, text);
-  made.role = role;
+  made.setAttribute("role", role);
   return made;
 }
 
@@ -132,6 +127,7 @@ function shortHex(raw, most) {
 // -- Drawing: the panel
 
 function tell(at) {
+  told.classList.toggle("hint", at < 0);
   if (at < 0) return told.replaceChildren(element("p", "faint", HINT));
   const field = message.owner(at);
   told.replaceChildren(...(field < 0 ? unreadLines(at) : fieldLines(field)), element("p", "faint", byteLine(at, field)));
@@ -143,8 +139,13 @@ function fieldLines(field) {
   return [
     element("p", "", message.name(field) + (where ? ", " + where : "")),
     element("p", "value", message.value(field)),
-    element("p", "faint", `${span(offset, offset + size - 1)}, ${countOf(size, "byte")}: ${hexBytes}`),
+    element("p", "faint", `${span(offset, offset + size - 1)}, ${countOf(size, "byte")}: ${hexBytes}${declaredText(field)}`),
   ];
+}
+
+function declaredText(field) {
+  const offsets = message.number(field) < message.paper.CELL_LENGTH ? [] : message.declaring(field).map(other => message.offset[other]);
+  return offsets.length ? ` · its column is declared at ${offsets.join(", ")}` : "";
 }
 
 function unreadLines(at) {

@@ -1,5 +1,8 @@
 // What the page does: the grid and the list follow each other, the pointer, the keys and the address; copying, printing, the window's size.
 
+const BYTES_IN_LINE = 16;   // of what is copied or printed
+const MOST_PRINTED = 8192;  // bytes of a message that is printed whole
+
 // -- What is shown
 
 function current() { return state.pointed >= 0 ? state.pointed : state.pinned; }
@@ -28,8 +31,6 @@ function pin(at, goesOn = false) {
   update();
 }
 
-function unpin() { pin(-1); }
-
 // Scrolls the grid and the list to the pinned byte and its field.
 function reveal() {
   if (state.pinned < 0) return;
@@ -41,7 +42,7 @@ function reveal() {
 // -- The pointer
 
 function watchPointer(pane) {
-  pane.addEventListener("pointerover", event => overSpot(holder(event.target), event));
+  pane.addEventListener("pointermove", event => movedOver(holder(event.target), event));
   pane.addEventListener("pointerleave", () => pointAt(-1));
   pane.addEventListener("click", event => clicked(holder(event.target), event));
 }
@@ -49,10 +50,11 @@ function watchPointer(pane) {
 // The spot or the row that an element stands in.
 function holder(target) { return target.closest(".spot, .field:not(.head)"); }
 
-function overSpot(it, event) {
+function movedOver(it, event) {
   if (it === null) return;
   const drags = state.dragged >= 0 && event.buttons === 1 && event.pointerType === "mouse";
   if (!drags) return pointAt(it.at);
+  if (it.at === state.pinned && state.anchor === state.dragged) return;
   state.anchor = state.dragged;
   pin(it.at, true);
 }
@@ -75,7 +77,8 @@ function startDrag(event) {
 function pressed(event) {
   if (event.ctrlKey || event.metaKey || event.altKey) return;
   if (event.key === "Escape") return letGo();
-  const to = destination(event.key, listPane.contains(event.target));
+  const key = event.key.length === 1 ? event.key.toLowerCase() : event.key;
+  const to = destination(key, listPane.contains(event.target));
   if (to === null) return;
   event.preventDefault();
   pin(clamp(to, 0, last), event.shiftKey);
@@ -86,7 +89,7 @@ function pressed(event) {
 function destination(key, inList) {
   const moves = inList ? { ...byteMoves(), ...fieldMoves() } : byteMoves();
   if (!Object.hasOwn(moves, key)) return null;
-  const starts = state.pinned < 0 && key !== "End";
+  const starts = state.pinned < 0 && key !== "Home" && key !== "End";
   return starts ? Math.max(place, 0) : moves[key](state.pinned);
 }
 
@@ -115,7 +118,7 @@ function byFields(at, steps) {
 }
 
 function letGo() {
-  unpin();
+  pin(-1);
   keepAddress();
 }
 
@@ -156,15 +159,23 @@ function hexLines(from, to) {
 // -- Printing: what is drawn on the screen is a part of the whole, so paper has lines and rows of its own.
 
 function drawPrint() {
-  const whole = last < MOST_PRINTED;
-  const [from, to] = whole ? [0, last] : inView();
+  const whole = last < MOST_PRINTED, [from, to] = whole ? [0, last] : inView();
   const note = whole ? "" : `Printed are ${span(from, to)} of ${bytes.length}, those on the screen, and their fields.`;
-  const bytesPrinted = element("div", "bytes"), fieldsPrinted = element("div", "fields");
-  bytesPrinted.append(gridHead(BYTES_IN_LINE));
-  for (let line = Math.floor(from / BYTES_IN_LINE); line * BYTES_IN_LINE <= to; line++) bytesPrinted.append(drawLine(line, BYTES_IN_LINE));
-  fieldsPrinted.append(listHead());
-  for (let field = message.owner(from); field >= 0 && field < message.count && message.offset[field] <= to; field++) fieldsPrinted.append(drawField(field));
-  byId("printed").replaceChildren(element("p", "note", note), bytesPrinted, fieldsPrinted);
+  byId("printed").replaceChildren(element("p", "note", note), printedBytes(from, to), printedFields(from, to));
+}
+
+function printedBytes(from, to) {
+  const lines = element("div", "bytes");
+  lines.append(gridHead(BYTES_IN_LINE));
+  for (let line = Math.floor(from / BYTES_IN_LINE); line * BYTES_IN_LINE <= to; line++) lines.append(drawLine(line, BYTES_IN_LINE));
+  return lines;
+}
+
+function printedFields(from, to) {
+  const rows = element("div", "fields"), first = message.owner(from);
+  rows.append(listHead());
+  for (let field = first; first >= 0 && field < message.count && message.offset[field] <= to; field++) rows.append(drawField(field));
+  return rows;
 }
 
 function inView() {
@@ -175,11 +186,11 @@ function inView() {
 // -- The window's size
 
 function lay() {
-  bytesInLine = narrow.matches ? BYTES_IN_NARROW_LINE : BYTES_IN_LINE;
+  bytesInLine = setting("--bytes-in-line");
   gridPane.querySelector(".head")?.remove();
   gridPane.prepend(gridHead(bytesInLine));
-  grid.lay(Math.floor(last / bytesInLine) + 1, pixels("--line"));
-  list.lay(message.count, pixels("--row"));
+  grid.lay(Math.floor(last / bytesInLine) + 1, setting("--line"));
+  list.lay(message.count, setting("--row"));
 }
 
 // Keeps what the window showed: the pinned byte if it was there, else the first bytes and fields.
@@ -192,13 +203,14 @@ function resized() {
   if (showedPin) reveal();
 }
 
-function pixels(name) { return parseFloat(getComputedStyle(document.documentElement).getPropertyValue(name)); }
+// A number of the style, which knows how wide the window is.
+function setting(name) { return parseFloat(getComputedStyle(document.documentElement).getPropertyValue(name)); }
 
 function start() {
   const { style } = document.documentElement;
   style.setProperty("--digits", String(bytes.length).length + "ch");
   style.setProperty("--hex-digits", bytes.length.toString(16).length + "ch");
-  listPane.ariaRowCount = message.count;
+  listPane.setAttribute("aria-rowcount", message.count + 1);
   lay();
   update();
   followAddress();
