@@ -117,7 +117,10 @@ class Seen(unittest.TestCase):
         cls.folder = tempfile.TemporaryDirectory()
         cls.path = pathlib.Path(cls.folder.name) / "page.html"
         cls.addClassCleanup(cls.folder.cleanup)
-        cls.browser = browser.Browser()
+        try:
+            cls.browser = browser.Browser()
+        except OSError as problem:
+            raise unittest.SkipTest("Chromium doesn't start: %s" % problem)
         cls.addClassCleanup(cls.browser.close)
 
     def setUp(self):
@@ -226,6 +229,17 @@ class Seen(unittest.TestCase):
             same = self.browser.run("""[...document.querySelectorAll('#grid .spot')].filter((spot, at, spots) =>
                 at > 0 && (spot.field === spots[at - 1].field) !== (getComputedStyle(spot).backgroundColor === getComputedStyle(spots[at - 1]).backgroundColor)).length""")
             self.assertEqual(same, 0)
+
+    def test_the_field_shown_stands_out(self):
+        self.open_reply()
+        alike = self.browser.run("""[...document.querySelectorAll('#grid .spot')].filter(spot => {
+            const looks = () => getComputedStyle(spot).backgroundColor;
+            pin(-1);
+            const before = looks();
+            pin(spot.at);
+            return looks() === before;
+        }).length""")
+        self.assertEqual(alike, 0)
 
     def test_lines_tell_fields_apart_where_colours_do_not(self):
         self.open_reply()

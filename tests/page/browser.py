@@ -17,7 +17,7 @@ class Browser:
     """One browser with one page, until it is closed."""
 
     def __init__(self):
-        self.folder = tempfile.TemporaryDirectory()
+        self.folder = tempfile.TemporaryDirectory(ignore_cleanup_errors=True)
         theirs_in, self.to_it = os.pipe()
         self.from_it, theirs_out = os.pipe()
         # The browser reads from descriptor 3 and writes to 4; the shell puts the pipes there.
@@ -34,8 +34,13 @@ class Browser:
         self.send("Page.enable")
 
     def close(self):
-        self.process.kill()
-        self.process.wait()
+        self.session = None
+        try:
+            self.send("Browser.close")
+            self.process.wait(SECONDS)
+        except (OSError, subprocess.TimeoutExpired):  # it is gone, or it hangs
+            self.process.kill()
+            self.process.wait()
         os.close(self.to_it)
         os.close(self.from_it)
         self.folder.cleanup()
@@ -67,7 +72,10 @@ class Browser:
             ready = select.select([self.from_it], [], [], max(0, end - time.monotonic()))[0]
             if not ready:
                 raise TimeoutError("the browser didn't answer in %d s" % SECONDS)
-            self.unread += os.read(self.from_it, 1 << 20)
+            chunk = os.read(self.from_it, 1 << 20)
+            if not chunk:
+                raise ConnectionError("the browser is gone")
+            self.unread += chunk
 
     # -- What a user does
 
