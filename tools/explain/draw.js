@@ -1,7 +1,7 @@
 // What the page shows: the grid of bytes, the list of fields, and the panel that tells the field pointed at or pinned.
 
 const HINT = "Point at a byte, or click or tap it, or move with the arrow keys, Page Up, Page Down, Home and End; n and p go from field to field, "
-  + "Escape lets go. Drag, or hold Shift, to choose bytes; copying gives their hex. Underlined bytes declare the column of the cell shown.";
+  + "Escape lets go. Drag, or hold Shift, to choose bytes; copying gives their hex. #N in the address pins byte N. Underlined bytes declare the column of the cell shown.";
 const HUE_STEP = 137.508;     // the golden angle: hues of neighbouring numbers lie far apart
 const HUE_OF_CELLS = 60;      // of those of the first column
 const BYTES_SHOWN = 8;        // of a field in the list, before they are cut
