@@ -127,6 +127,10 @@ class Seen(unittest.TestCase):
         self.browser.media()
         self.browser.resize(1400, 860)
 
+    def tearDown(self):
+        self.browser.settle()
+        self.assertEqual(self.browser.problems, [])
+
     def open(self, text, fragment=""):
         self.path.write_text(text, encoding="utf-8")
         self.browser.open(self.path, fragment)
@@ -221,6 +225,10 @@ class Seen(unittest.TestCase):
         self.browser.click(*self.spot(0))
         self.browser.click(*self.spot(20), shift=True)
         self.assertEqual(self.copied(), REPLY[:16].hex(" ") + "\n" + REPLY[16:21].hex(" ") + "\n")
+        self.browser.mouse("mousePressed", *self.spot(3), button="left", buttons=1, clickCount=1)
+        self.browser.mouse("mouseMoved", *self.spot(5), button="left", buttons=1)
+        self.browser.mouse("mouseReleased", *self.spot(5), button="left", clickCount=1)
+        self.assertEqual(self.copied(), REPLY[3:6].hex(" ") + "\n")
 
     def test_neighbours_differ(self):
         for scheme in ("light", "dark"):

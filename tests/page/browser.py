@@ -29,9 +29,11 @@ class Browser:
         os.close(theirs_in)
         os.close(theirs_out)
         self.unread, self.count, self.session = b"", 0, None
+        self.problems = []  # what the page's scripts threw, and what the browser says against the page
         target = self.send("Target.createTarget", url="about:blank")["targetId"]
         self.session = self.send("Target.attachToTarget", targetId=target, flatten=True)["sessionId"]
-        self.send("Page.enable")
+        for domain in ("Page", "Runtime", "Log"):
+            self.send(domain + ".enable")
 
     def close(self):
         self.session = None
@@ -67,6 +69,8 @@ class Browser:
             while b"\0" in self.unread:
                 text, self.unread = self.unread.split(b"\0", 1)
                 message = json.loads(text)
+                if message.get("method") in ("Runtime.exceptionThrown", "Log.entryAdded"):
+                    self.problems.append(message["params"])
                 if is_wanted(message):
                     return message
             ready = select.select([self.from_it], [], [], max(0, end - time.monotonic()))[0]
