@@ -231,12 +231,17 @@ class Seen(unittest.TestCase):
         self.assertEqual(self.copied(), REPLY[3:6].hex(" ") + "\n")
 
     def test_neighbours_differ(self):
+        """In how light they are, so that those differ too whose hues are alike."""
         for scheme in ("light", "dark"):
             self.browser.media(prefers_color_scheme=scheme)
             self.open_reply()
-            same = self.browser.run("""[...document.querySelectorAll('#grid .spot')].filter((spot, at, spots) =>
-                at > 0 && (spot.field === spots[at - 1].field) !== (getComputedStyle(spot).backgroundColor === getComputedStyle(spots[at - 1]).backgroundColor)).length""")
-            self.assertEqual(same, 0)
+            wrong = self.browser.run("""(() => {
+                const lightness = spot => parseFloat(getComputedStyle(spot).backgroundColor.slice("oklch(".length));
+                const step = (spot, before) => spot.field === before.field ? lightness(spot) === lightness(before)
+                    : Math.abs(lightness(spot) - lightness(before)) > 0.05;
+                return [...document.querySelectorAll("#grid .spot")].filter((spot, at, spots) => at > 0 && !step(spot, spots[at - 1])).length;
+            })()""")
+            self.assertEqual(wrong, 0)
 
     def test_the_field_shown_stands_out(self):
         self.open_reply()
@@ -303,7 +308,8 @@ class Seen(unittest.TestCase):
         text = page_of(4, message, messages.listed(4, message))
         self.assertLess(len(text.encode()), MOST_BYTES)
         self.open(text, "#2000000")
-        paint = self.browser.run("performance.getEntriesByType('paint')[0].startTime")
+        paint = self.browser.run("""new Promise(done =>
+            new PerformanceObserver(list => done(list.getEntries()[0].startTime)).observe({ type: 'paint', buffered: true }))""")
         drawn = self.browser.run("performance.getEntriesByName('drawn')[0].startTime")
         self.assertLess(max(paint, drawn) / 1000, MOST_SECONDS)
         self.assert_pinned(2_000_000)
