@@ -476,7 +476,8 @@ class WithTheProvedLibrary(unittest.TestCase):
         self.failed("no kind accepts these bytes", self.path("none", b"abc"))
 
     def test_json_and_standard_input(self):
-        done = self.run_it("4", "-", "--json", input=None, stdin=open(ENGINES, "rb"))
+        with open(ENGINES, "rb") as given:
+            done = self.run_it("4", "-", "--json", stdin=given)
         told = [json.loads(line) for line in done.stdout.splitlines()]
         self.assertEqual((len(told), told[-1]["fields"], told[-1]["kind"]), (76, 75, 4))
         self.assertEqual("".join(record["bytes"] for record in told[:-1]), ENGINES.read_bytes().hex())

@@ -26,7 +26,7 @@ MOST_SECONDS, MOST_BYTES = 3, 30_000_000  # to the first paint of a page of 4 MB
 
 def told_by_python(message, entries):
     """What fields.py tells of each field."""
-    return [(field.name, field.where, field.value) for field in Explained(message, entries).fields]
+    return [(field.name, field.where, field.value) for field in Explained(message, entries)]
 
 
 def page_of(kind, message, entries, **more):
@@ -101,6 +101,9 @@ class Told(unittest.TestCase):
         for message, kind in SAMPLES.items():
             entries = messages.listed(kind, message)
             self.compare((kind, message, entries[:count]) for count in range(len(entries)))
+
+    def test_the_fields_up_to_a_fault(self):
+        self.compare(messages.refused(500))
 
     def test_more_than_256_templates(self):
         rows = [[b"x" * size] for size in range(1, 300)]

@@ -9,9 +9,10 @@ import sys
 
 sys.path.insert(0, str(pathlib.Path(__file__).resolve().parents[1] / "second"))
 
+import generate
 import harbour
 from encoder import encode
-from reader import read
+from reader import Refused, read
 from wire import *
 
 FLOATS = [0.0, -0.0, 0.1, 1.0, -1.5, 100.0, 123456789.125, 1e15, 9999999999999998.0, 1e16, 1.5e16, 1e21, 1e22, 1e-4, 0.00012345, 1e-5, 1.5e-7,
@@ -96,6 +97,16 @@ def big():
 def listed(kind, message):
     """The fields of an accepted message."""
     return read(kind, message)[1]
+
+
+def refused(count):
+    """(kind, message, fields up to the fault) of made-up messages that are refused."""
+    for kind, message in generate.messages(count, 5):
+        try:
+            read(kind, message)
+        except Refused as no:
+            if kind in KINDS:
+                yield kind, message, no.fields
 
 
 def flat(fields):

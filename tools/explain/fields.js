@@ -60,15 +60,18 @@ class Message {
     return `parameter ${this.i[field]}${isValue && this.inArray(field) ? `, element ${this.j[field]}` : ""}`;
   }
 
+  // In a message that is refused before they were read, a column has no name, and perhaps no type.
   columnText(field) {
-    return `column ${this.k[field]} ${this.columnName(field)} (${this.paper.types[this.columnType(field)]})`;
+    const name = this.columnName(field), type = this.paper.types[this.columnType(field)];
+    return `column ${this.k[field]}${name && " " + name}${type ? ` (${type})` : ""}`;
   }
 
   // A column's name as people write it: bare if it is one word that needn't be cut, else in quotes.
   columnName(field) {
-    const declared = this.declaring(field).find(other => this.number(other) === this.paper.COLUMN_NAME);
-    const raw = declared === undefined ? new Uint8Array() : this.raw(declared);
-    const shown = quoted(raw, this.paper.most_shown);
+    const declared = this.declaring(field), find = number => declared.find(other => this.number(other) === number);
+    const length = find(this.paper.COLUMN_NAME_LENGTH), name = find(this.paper.COLUMN_NAME);
+    if (name === undefined) return length !== undefined && signed(this.raw(length)) === 0n ? '""' : "";
+    const shown = quoted(this.raw(name), this.paper.most_shown);
     return /^"\w+"$/.test(shown) ? shown.slice(1, -1) : shown;
   }
 

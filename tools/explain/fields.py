@@ -147,6 +147,6 @@ SHAPES = {
 
 
 def shown_name(name):
-    """A column's name as people write it: bare if it is one word, else in quotes."""
-    text = name.decode("ascii", errors="replace")
-    return text if text and text.replace("_", "a").isalnum() else values.quoted(name)
+    """A column's name as people write it: bare if it is one word that needn't be cut, else in quotes."""
+    bare = len(name) <= values.MOST_SHOWN and name.replace(b"_", b"a").isalnum()
+    return name.decode("ascii") if bare else values.quoted(name)

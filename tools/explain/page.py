@@ -23,7 +23,7 @@ NUMBERS_IN_ENTRY = 6  # offset, size, field number, three indices
 
 # The numbers of the paper that the scripts go by, under their names in paper.py.
 NUMBERS = (
-    "PARAMETER_TYPE", "ELEMENT_TYPE", "VALUE_LENGTH", "VALUE", "COLUMN_TYPE", "COLUMN_NAME", "ROW_LENGTH", "CELL_LENGTH", "CELL",
+    "PARAMETER_TYPE", "ELEMENT_TYPE", "VALUE_LENGTH", "VALUE", "COLUMN_TYPE", "COLUMN_NAME_LENGTH", "COLUMN_NAME", "ROW_LENGTH", "CELL_LENGTH", "CELL",
     "ARRAY", "TINYINT", "FLOAT", "STRING", "TIMESTAMP", "DECIMAL", "VARBINARY", "POINT", "GEOGRAPHY",
 )
 
