@@ -218,7 +218,7 @@ function start() {
 }
 
 start();
-performance.mark("drawn");
+performance.mark("drawn");  // for those who measure it
 watchPointer(gridPane);
 watchPointer(listPane);
 gridPane.addEventListener("pointerdown", startDrag);
