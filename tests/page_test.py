@@ -70,7 +70,7 @@ class Text(unittest.TestCase):
         self.assertEqual([page.smallest_type(count) for count in (0, 256, 257, 65536, 65537)], ["B", "B", "H", "H", "I"])
 
     def test_a_message_of_nothing(self):
-        self.assertIn("0 bytes, 0 fields before the refusal", page_of(2, b"", [], refusal=(1, 0), words=("refused 1 at 0",)))
+        self.assertIn("0 bytes, 0 fields up to the refusal", page_of(2, b"", [], refusal=(1, 0), words=("refused 1 at 0",)))
 
 
 @unittest.skipUnless(shutil.which("node"), "there is no node")

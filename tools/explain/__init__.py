@@ -13,6 +13,7 @@ Where each field stands comes from the proved library (listing.py); nothing here
     sources.py   what an answer was made from: the file, the project's commit, the kit
     lines.py     the answers as lines of text
     records.py   the answers as lines of JSON
-    page.py      the answer as one page for a browser (page.html is its frame)
+    page.py      the answer as one page for a browser: page.html is its frame, page.css its style, fields.js and values.js put the same words to fields,
+                 rows.js draws what is visible of a long list, draw.js the bytes and fields, page.js answers pointer and keys
     main.py      the answers to what is asked
 """

@@ -36,7 +36,7 @@ def page(kind, name, message, entries, refusal=None, words=(), footer=()):
     told = {"paper": paper_words(), "place": refusal[1] if refusal else None, "templates": templates, "bytes_in_id": ids.itemsize}
     return filled({
         "title": html.escape("%s, %s" % (encodable(name), paper.KINDS[kind])),
-        "summary": "{:,} bytes, {:,} fields{}".format(len(message), len(ids), " before the refusal" if refusal else ""),
+        "summary": "{:,} bytes, {:,} fields{}".format(len(message), len(ids), " up to the refusal" if refusal else ""),
         "state": "refused" if refusal else "accepted",
         "words": paragraphs(words),
         "footer": paragraphs(footer),
