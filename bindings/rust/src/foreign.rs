@@ -25,8 +25,10 @@ extern "C" {
     pub fn chaloenpik_rows(message: *const u8, length: usize, table: usize) -> u64;
     pub fn chaloenpik_columns(message: *const u8, length: usize, table: usize) -> u64;
     pub fn chaloenpik_column_type(message: *const u8, length: usize, table: usize, column: usize) -> u64;
+    pub fn chaloenpik_column_name(message: *const u8, length: usize, table: usize, column: usize, part: *mut [u64; 2]) -> u64;
     pub fn chaloenpik_find_column(message: *const u8, length: usize, table: usize, name: *const u8, name_length: usize) -> u64;
     pub fn chaloenpik_cell(message: *const u8, length: usize, table: usize, row: usize, column: usize, cell: *mut [u64; 4]) -> u64;
+    pub fn chaloenpik_cell_place(message: *const u8, length: usize, table: usize, row: usize, column: usize, part: *mut [u64; 2]) -> u64;
 
     pub fn chaloenpik_make_card(
         message: *const u8, length: usize, table: usize, name: *const u8, name_length: usize, out: *mut u8, size: usize,

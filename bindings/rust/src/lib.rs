@@ -80,7 +80,7 @@
 //! |---|---|
 //! | list a message's fields, ask for a byte's owner | [`fields`], [`field()`], [`owner`] |
 //! | read what a message says | [`login_request`], [`login_response`], [`invocation`], [`response`] |
-//! | read tables; parameters | [`Table`], or [`cell`] for one cell; [`parameter`] and [`element`] |
+//! | read tables; parameters | [`Table`], or [`cell`] and [`cell_place`] for one cell; [`parameter`] and [`element`] |
 //! | keep a column on a card | [`make_card`], [`open_card`] |
 //! | write a message | [`write_login_request`], [`write_login_response`], [`CallWriter`], [`ReplyWriter`] |
 //!
@@ -112,7 +112,7 @@ pub use call::{element, invocation, parameter, CallWriter, Invocation, Parameter
 pub use card::{make_card, open_card, Card, CARD_SIZE};
 pub use field::{field, fields, owner, Field};
 pub use login::{login_request, login_response, write_login_request, write_login_response, LoginRequest, LoginResponse, Welcome};
-pub use query::{cell, column_type, columns, find_column, rows, tables};
+pub use query::{cell, cell_place, column_name, column_type, columns, find_column, rows, tables};
 pub use refusal::{Cause, Refusal};
 pub use reply::{response, ColumnEntry, Optional, ReplyHead, ReplyWriter, Response};
 pub use table::{Cell, Column, Row, Table};

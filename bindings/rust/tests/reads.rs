@@ -1,6 +1,7 @@
 use chaloenpik::{
-    accept, cell, column_type, columns, element, field, fields, find_column, invocation, login_request, login_response, make_card,
-    open_card, owner, parameter, response, rows, tables, Cause, Decimal, Kind, Optional, Parameter, Refusal, Value, Welcome, WireType,
+    accept, cell, cell_place, column_name, column_type, columns, element, field, fields, find_column, invocation, login_request,
+    login_response, make_card, open_card, owner, parameter, response, rows, tables, Cause, Decimal, Kind, Optional, Parameter, Refusal,
+    Value, Welcome, WireType,
 };
 
 const LOGIN: &[u8] = include_bytes!("../../../samples/1-login.bin");
@@ -42,6 +43,8 @@ fn the_sample_s_table() {
     assert_eq!(find_column(REPLY, 0, "THROTTLE_LIMIT"), Ok(3));
     assert_eq!(find_column(REPLY, 0, b"THROTTLE_LIMIT"), Ok(3));
     assert_eq!(column_type(REPLY, 0, 3), Ok(WireType::Decimal));
+    assert_eq!(column_name(REPLY, 0, 3), Ok(&b"THROTTLE_LIMIT"[..]));
+    assert_eq!(column_name(REPLY, 0, 7), Err(PAST_END));
     assert_eq!(find_column(REPLY, 0, "LIMIT"), Err(NO_COLUMN));
     assert_eq!(rows(REPLY, 1), Err(PAST_END));
 }
@@ -75,6 +78,8 @@ fn the_sample_s_cells() {
     assert_eq!(shown(2, 3), Value::Decimal(None));
     assert_eq!(shown(3, 2), Value::Text(None));
     assert!(shown(2, 3).is_null() && shown(3, 2).is_null() && !shown(1, 3).is_null());
+    assert_eq!(cell_place(REPLY, 0, 1, 1), Ok(216..225));
+    assert_eq!(cell_place(REPLY, 0, 4, 0), Err(PAST_END));
     assert_eq!(cell(REPLY, 0, 4, 0), Err(PAST_END));
     assert_eq!(cell(REPLY, 0, 0, 7), Err(PAST_END));
 }

@@ -1,8 +1,8 @@
 //! The reader over a table, held against the proved functions that answer for one cell at a time.
 
 use chaloenpik::{
-    accept, cell, column_type, columns, fields, find_column, rows, tables, Cause, Cell, Decimal, Field, Kind, Refusal, ReplyHead,
-    ReplyWriter, Table, Value, WireType,
+    accept, cell, cell_place, column_name, column_type, columns, fields, find_column, rows, tables, Cause, Cell, Decimal, Field, Kind,
+    Refusal, ReplyHead, ReplyWriter, Table, Value, WireType,
 };
 use std::ops::Range;
 
@@ -50,6 +50,7 @@ fn hold_columns(message: &[u8], number: usize, table: &Table<'_>) -> Result<(), 
     assert_eq!(table.columns().len(), columns(message, number)?);
     for (position, column) in table.columns().iter().enumerate() {
         assert_eq!(column.wire_type, column_type(message, number, position)?);
+        assert_eq!(column.name, column_name(message, number, position)?);
         assert_eq!(table.find(column.name), find_column(message, number, column.name));
     }
     assert_eq!(table.find("no such name"), find_column(message, number, "no such name"));
@@ -63,6 +64,7 @@ fn hold_cells(message: &[u8], number: usize, table: &Table<'_>, list: &[Field]) 
             let Cell { value, place } = shown?;
             assert_same(value, cell(message, number, row.number(), position)?);
             assert_eq!(place, listed(list, [number, row.number(), position]));
+            assert_eq!(place, cell_place(message, number, row.number(), position)?);
         }
         let past = table.columns().len();
         assert_eq!(row.cell(past).map(|shown| shown.value), cell(message, number, row.number(), past));
