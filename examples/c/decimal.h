@@ -1,5 +1,6 @@
 /* Prints a decimal by its upper and lower 64 bits. It counts units of 10^-12, and -2^127 is null. */
 #pragma once
+#include <stdbool.h>
 #include <stdint.h>
 #include <stdio.h>
 
@@ -11,7 +12,7 @@ static inline void print_decimal(uint64_t upper, uint64_t lower) {
         printf("null");
         return;
     }
-    int negative = upper >> 63;
+    bool negative = upper >> 63 != 0;
     if (negative) units = -units;
     char digits[40];
     int count = 0;
