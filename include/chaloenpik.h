@@ -7,9 +7,9 @@
    Each answers one number, taken apart by the first two functions below: 0 in its low 8 bits if the call was carried out, and
    then what it found above them; else the number of a refusal, and its place above it. A refusal changes no lent memory.
 
-   A call that is given a message reads it from its start, whatever it asks: its cost grows with the message's length. To go over a whole
-   table, or a whole message, don't ask cell by cell: take its field list, by `chaloenpik_field_count` and one `chaloenpik_fields`. Each
-   entry says where a field stands, so all the rest is read there, at no further cost (examples/c/table.c). */
+   Each call that is given a message walks over the whole of it once, to accept it, and those for the field list once more. So to go over
+   a table, or a message, don't ask cell by cell: take the field list, by one `chaloenpik_field_count` and one `chaloenpik_fields`. Each
+   entry says where a field stands, and all the rest is read there, at no further cost (examples/c/table.c). */
 #ifndef CHALOENPIK_H
 #define CHALOENPIK_H
 
@@ -108,7 +108,7 @@ uint64_t chaloenpik_field_count(uint8_t kind, const uint8_t *message, size_t len
 /* Writes entries of the field list into `out`, which has room for `size` numbers: those from number `first` on, from 0, as
    many whole ones as fit. An entry is CHALOENPIK_ENTRY numbers: offset, size, field number, three indices. The value is how many entries
    were written; what stands behind them in `out` is left as it was. 11 at 0: the list has no entry `first`. Fields are listed in the order
-   of their bytes, without a gap. Each call reads the whole message again, so take few large windows, or one. */
+   of their bytes, without a gap. Each call walks over the whole message again, so take few large windows, or one. */
 uint64_t chaloenpik_fields(uint8_t kind, const uint8_t *message, size_t length, size_t first, uint64_t *out, size_t size);
 
 /* The number, in the field list, of the field that owns a byte. 11 at 0: the message has no such byte. */

@@ -10,7 +10,7 @@ int main(int count, char **words) {
         return 2;
     }
     size_t length = read_file(words[2], message, sizeof message);
-    found(chaloenpik_kind_text((uint64_t)kind), chaloenpik_accept((uint8_t)kind, message, length));
-    printf("%s: accepted, %lu bytes\n", chaloenpik_kind_text((uint64_t)kind), (unsigned long)length);
+    found("message", chaloenpik_accept((uint8_t)kind, message, length));
+    printf("accepted, %s of %lu bytes\n", chaloenpik_kind_text((uint64_t)kind), (unsigned long)length);
     return 0;
 }
