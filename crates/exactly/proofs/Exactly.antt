@@ -3,34 +3,37 @@ use Prim.Native.Nat.{ℕ, zero, suc, _+_, _≤_, _<_}
 use mathlib.Core.Path.{_≡_, refl, sym, _∙_, ap, subst}
 use mathlib.Core.Bool.{Bool, true, false}
 use mathlib.Core.List.{List, [], _∷_, map}
-use mathlib.Core.Option.{Option, some}
-use lib.ListN.{length, take}
+use mathlib.Core.Option.{Option, some, none}
+use lib.ListN.{length, take, replicate, length-append}
 use lib.Seq.{length-take-le}
-use lib.Dec.{ltb, leb}
+use lib.Dec.{ltb, leb, lit<}
 use native.Mathlib.Omega.{arith}
 use borrow.Author.Tests.{ltb-true, leb-true, leb-false, lt-ltb}
 use Rattle.format.specs.declared.Fault.{Fault}
 use Rattle.format.specs.Result.{Res, ok, no, bind}
 use Rattle.format.specs.Number.{Bytes}
-use Rattle.format.specs.Format.{Index, Entry, number, ruled, each, piece}
-use Rattle.format.specs.Value.{Value, value, isColumn}
+use Rattle.format.specs.Format.{Index, Entry, number, ruled, counted, each, piece}
+use Rattle.format.specs.Value.{Value, value, isColumn, ascii, mostBytes}
 use Rattle.format.specs.Message.{first, second, third, count, columnType, unlimited, mostItems, mostColumns, mostRow, metadata, row, Table, table, head, response, Message, message, contentOf, response-of, responseLayout, readMessage, messageFields, noIndex}
 use Rattle.format.proofs.Results.{ok-same, no-ok, bound}
+use Rattle.format.proofs.Numbers.{length-numBytes}
+use Rattle.format.proofs.Lengths.{lawful-counted}
 use Rattle.places.specs.Stands.{Stands}
-use Rattle.places.specs.Places.{tablesOf, tableAt, typeAt, rowAt, cellAt}
+use Rattle.places.specs.Places.{tablesOf, tableAt, typeAt, nameAt, nameBytes, rowAt, cellAt}
 use Rattle.places.specs.Entries.{entry, Here, cellHere}
 use Rattle.places.proofs.Stands.{stands-at}
-use Rattle.places.proofs.Lists.{total, entry-in, entry-below, stands-entry}
-use Rattle.places.proofs.Layouts.{length-number, length-count, types-total, type-place, row-place, cell-place, metadata-stands, types-stand, type-stands}
+use Rattle.places.proofs.Lists.{total, length-total, entry-in, entry-below, stands-entry}
+use Rattle.places.proofs.Layouts.{length-number, length-count, name, types-total, type-place, name-place, row-place, cell-place, metadata-stands, types-stand, names-stand, names-all, type-stands}
 use Rattle.places.proofs.Contents.{content-response}
 use Rattle.places.proofs.Replies.{tabled, headSize, table-place, table-stands}
 use Rattle.places.proofs.Values.{there}
 use Rattle.show.specs.declared.Cell.{Cell}
 use Rattle.show.specs.Cells.{typeOf}
-use Rattle.query.specs.Answers.{shownHere, placeHere, askCell, askCellPlace}
-use Rattle.exactly.specs.Listed.{listedFor, startOf, bytesFor, fieldBytes, CellReads, Alike}
-use Rattle.exactly.proofs.Alone.{Other, Misses, Alone, misses, misses-number, misses-ruled, misses-list, misses-value, none-piece, in-back, in-room, in-into, in-ruled, in-first, in-second, in-some, in-cells, in-list, past-cells, past-list}
-use Rattle.exactly.proofs.Says.{alone-number, alone-value, kept, byte-reads, listed-start, listed-bytes, value-reads, reads-alike}
+use Rattle.query.specs.declared.ColumnLayout.{ColumnLayout}
+use Rattle.query.specs.Answers.{columnOf, shownHere, placeHere, spanIn, askColumn, askColumnName, askCell, askCellPlace}
+use Rattle.exactly.specs.Listed.{listedFor, bytesAt, startOf, bytesFor, fieldBytes, CellReads, Alike}
+use Rattle.exactly.proofs.Alone.{Other, Misses, Alone, misses, misses-number, misses-counted, misses-ruled, misses-some, misses-list, misses-value, none-piece, in-back, in-room, in-into, in-ruled, in-first, in-second, in-some, in-cells, in-list, past-cells, past-list}
+use Rattle.exactly.proofs.Says.{start-counted, alone-number, alone-counted, alone-value, stands-bytes, kept, byte-reads, listed-start, listed-bytes, value-reads, reads-alike}
 
 -- ---- parts of a response that list nothing for it, if no such field at such indices is it
 module _ {l b : ℕ} {ix jx : Index} where
@@ -55,7 +58,12 @@ pub length-ruled : (rule : ℕ → Bool) (fault : Fault) (k field n : ℕ) → l
 unfolding ruled
 length-ruled rule fault k field n = length-number k field n
 
--- ---- on the way to a table, and in it to a column's type or to a cell
+name-size : (n : Option (List ℕ)) → length (name .bytes n) ≡ 4 + length (nameBytes n)
+unfolding counted
+name-size none = rw length-numBytes
+name-size (some bs) = rw (length-append, length-numBytes)
+
+-- ---- on the way to a table, and in it to a column's type, its name, or a cell
 module _ {l b : ℕ} {ix : Index} {es : List Entry} where
   -- a message's content, after its length and its version
   pub in-message : (layout : ℕ) (r : Message) → ((n : ℕ) (y : Index) → leb n 2 ≡ true → Other l b ix n y) → Alone l b ix es (contentOf layout (r .version)) noIndex 5 (r .content) → listedFor l b ix (messageFields layout r) ≡ es
@@ -99,6 +107,26 @@ module _ (jx : Index) (at : ℕ) (tab : Table) where
       place =
           let below = entry-below types c e in
           omega (arith, length-number 1 43 (tab .metadata .status), length-count 2 mostColumns 44 (length types), types-total (take c types), length-take-le c types (omega arith), type-place at (tab .metadata) c (omega arith))
+
+  -- the name of column c
+  name-alone : (c : ℕ) {n : Option (List ℕ)} → length (tab .metadata .names) ≡ length types → entry (tab .metadata .names) c ≡ ok n
+      → Alone 46 47 (third c jx) (name .fields (third c jx) (nameAt at (tab .metadata) c) n) table jx at tab
+  unfolding table metadata
+  name-alone c all e =
+      in-room unlimited 41 (omega arith) (in-into _ _ (in-first (λ m. misses-list second 4 unlimited 48 (omega arith) (λ j. misses-row (m .types) (omega (arith, leb-true))))
+      (in-room unlimited 42 (omega arith) (in-into _ _ (in-second _ (misses-number 1 43 (omega arith)) (in-second _ (search (misses, other-44))
+      (in-second _ (misses-some third 0 (length types) (λ j h. misses-ruled _ _ (misses-number 1 45 (omega arith))))
+      (in-some third (length types) (tab .metadata .names) c (omega arith) e (λ j h. misses-counted false mostBytes ascii 46 47 (omega arith) (omega arith)) (alone-counted false ascii 46 47 (third c jx) place)))))))))
+    where
+      other-44 : Other 46 47 (third c jx) 44 jx
+      other-44 = omega arith
+
+      place : at + 4 + 4 + length (number 1 43 .bytes (tab .metadata .status)) + length (count 2 mostColumns 44 .bytes (length types)) + length (each third 0 (replicate (length types) (columnType 45)) .bytes types) + total name (take c (tab .metadata .names))
+          ≡ nameAt at (tab .metadata) c
+      place =
+          let below = entry-below (tab .metadata .names) c e in
+          let few = length-take-le c (tab .metadata .names) (omega arith) in
+          omega (arith, length-number 1 43 (tab .metadata .status), length-count 2 mostColumns 44 (length types), length-total third 0 (length types) (columnType 45) types (omega arith), types-total types, name-place at (tab .metadata) c (omega arith))
 
   -- the cells of row k, and that in column c
   in-rows : {es : List Entry} (k c : ℕ) (cells : List Value) → entry (tab .rows) k ≡ ok cells → Alone 50 51 (third c (second k jx)) es (each third 0 (map (value 50 51) types)) (second k jx) (rowAt at tab k + 4) cells
@@ -177,6 +205,19 @@ module _ (timed : Bool) (m : List ℕ) (all : Bytes m) (r : Message) (accepted :
       let fine = column-type (f .type-is) in
       rw (listed-start m all 50 51 (h .type) _ (h .value) fine (f .stands) _ fs (f .listed), listed-bytes m all 50 51 (h .type) _ (h .value) fine (f .stands) _ fs (f .listed))
 
+  -- a column's name: its length and its bytes
+  name-placed : {n : Option (List ℕ)} → entry (tab .metadata .names) c ≡ ok n
+      → (startOf (listedFor 46 47 (record { i = t; j = 0; k = c }) fs) ≡ nameAt at (tab .metadata) c) × (length (bytesFor 46 47 (record { i = t; j = 0; k = c }) m fs) ≡ 4 + length (nameBytes n))
+  name-placed {n} e =
+      let md = metadata-stands stood in
+      let names = tab .metadata .names in
+      let below = entry-below names c e in
+      let few = length-take-le c names (omega arith) in
+      let all-named = names-all md in
+      let d : Stands name m (nameAt at (tab .metadata) c) n = stands-at (omega (arith, name-place at (tab .metadata) c (omega arith))) (stands-entry third 0 (length (tab .metadata .types)) name names c (names-stand md) e) in
+      let w = in-response timed r t refl (omega (arith, ltb-true)) is (name-alone (first t noIndex) at tab c all-named e) in
+      (ap startOf w ∙ start-counted 46 47 _ false n ascii _, ap length (ap (bytesAt m) w ∙ stands-bytes (lawful-counted false mostBytes ascii 46 47 (lit< tt)) m _ d) ∙ name-size n)
+
 pub cell-reads-its-bytes : (m : List ℕ) → Bytes m → (r : Message) → readMessage 4 m ≡ ok r → (t k c : ℕ) (x : Cell) → askCell m t k c ≡ ok x → CellReads m (messageFields 4 r) t k c x
 cell-reads-its-bytes m all r accepted t k c x e =
     let tab = bound (entry (tablesOf r) t) {k = λ b. bind (cellHere (tableAt true r t) b k c) (λ h. ok (shownHere h))} (rw accepted at e) in
@@ -190,6 +231,22 @@ place-is-listed m all r accepted t k c p e =
     let tab = bound (entry (tablesOf r) t) {k = λ b. bind (cellHere (tableAt true r t) b k c) (λ h. ok (some (placeHere h)))} (rw accepted at e) in
     let h = bound (cellHere (tableAt true r t) (tab .0) k c) (tab .2) in
     sym (ok-same (h .2)) ∙ ap some (sym (here-placed true m all r accepted t k c (tab .1) (h .0) (h .1)))
+
+-- what is listed for a column's name begins with its length, of 4 bytes, and then its place; and it has its size beside those
+pub name-is-listed : (m : List ℕ) → Bytes m → (r : Message) → readMessage 4 m ≡ ok r → (t c start size : ℕ) → askColumnName m t c ≡ ok (some (start, size))
+    → (startOf (listedFor 46 47 (record { i = t; j = 0; k = c }) (messageFields 4 r)) + 4 ≡ start) × (length (bytesFor 46 47 (record { i = t; j = 0; k = c }) m (messageFields 4 r)) ≡ 4 + size)
+name-is-listed m all r accepted t c start size e =
+    let l = bound (askColumn m t c) e in
+    let opened = ap (λ (z : Res Message). bind z (λ y. bind (entry (tablesOf y) t) (λ b. columnOf (tableAt true y t) b c))) accepted in
+    let tab = bound (entry (tablesOf r) t) {k = λ b. columnOf (tableAt true r t) b c} (sym opened ∙ l .1) in
+    let type = bound (entry (tab .0 .metadata .types) c) (tab .2) in
+    let n = bound (entry (tab .0 .metadata .names) c) (type .2) in
+    let w = name-placed true m all r accepted t 0 c (tab .1) (n .1) in
+    let layout = ok-same (n .2) in
+    let part = ok-same (l .2) in (
+      ap (λ (x : ℕ). x + 4) (w .0) ∙ ap (λ (z : ColumnLayout). z .name) layout ∙ ap (λ (z : Option (ℕ × ℕ)). spanIn (ok z) .0) part,
+      w .1 ∙ ap (λ (x : ℕ). 4 + x) (ap (λ (z : ColumnLayout). z .«name_length») layout ∙ ap (λ (z : Option (ℕ × ℕ)). spanIn (ok z) .1) part),
+    )
 
 -- ---- for a cell that is refused nothing is listed
 pub entry-none : {A : Type 0} (l : List A) (i : ℕ) {f : Fault} {p : ℕ} → entry l i ≡ no f p → length l ≤ i

@@ -17,6 +17,7 @@ use Rattle.format.specs.Value.{Value, value, isCounted, isColumn, body-of, widt
 use Rattle.format.proofs.Results.{ok-same}
 use Rattle.format.proofs.Numbers.{length-numBytes}
 use Rattle.format.proofs.Took.{Tiles, tiles-piece}
+use Rattle.format.proofs.Laws.{Lawful}
 use Rattle.format.proofs.Formats.{lawful-value}
 use Rattle.show.specs.declared.Cell.{Cell}
 use Rattle.show.specs.Cells.{cellOf, typeOf, valueOf}
@@ -54,30 +55,34 @@ module _ (l b : ℕ) (ix : Index) where
   all-length : (n o : ℕ) → listedFor l b ix (piece n o l ix) ≡ piece n o l ix
   all-length n o = all-piece n o l (rw (eq-eqb l l refl))
 
-  all-counted : (v : Option (List ℕ)) (rule : List ℕ → Verdict) (o : ℕ) → listedFor l b ix (counted true mostBytes rule l b .fields ix o v) ≡ counted true mostBytes rule l b .fields ix o v
+  all-counted : (nullable : Bool) (v : Option (List ℕ)) (rule : List ℕ → Verdict) (o : ℕ) → listedFor l b ix (counted nullable mostBytes rule l b .fields ix o v) ≡ counted nullable mostBytes rule l b .fields ix o v
   unfolding counted
-  all-counted none rule o = all-length 4 o
-  all-counted (some bs) rule o = listed-both l b ix (piece 4 o l ix) (piece (length bs) (o + 4) b ix) ∙ rw (all-length 4 o, all-body (length bs) (o + 4))
+  all-counted nullable none rule o = all-length 4 o
+  all-counted nullable (some bs) rule o = listed-both l b ix (piece 4 o l ix) (piece (length bs) (o + 4) b ix) ∙ rw (all-length 4 o, all-body (length bs) (o + 4))
 
   all-value : (t o : ℕ) (v : Value) → listedFor l b ix (value l b t .fields ix o v) ≡ value l b t .fields ix o v
-  all-value t o v = of-value (λ es. listedFor l b ix es ≡ es) t o v (λ e. all-counted (body-of v) (ruleOf t) o) (λ e. all-body (widthOf t) o)
+  all-value t o v = of-value (λ es. listedFor l b ix es ≡ es) t o v (λ e. all-counted true (body-of v) (ruleOf t) o) (λ e. all-body (widthOf t) o)
 
   start-piece : (n o : ℕ) → not (eqb n 0) ≡ true → startOf (piece n o b ix) ≡ o
   start-piece zero o h = absurd (false≢true h)
   start-piece (suc n) o h = refl
 
-  start-counted : (v : Option (List ℕ)) (rule : List ℕ → Verdict) (o : ℕ) → startOf (counted true mostBytes rule l b .fields ix o v) ≡ o
+  pub start-counted : (nullable : Bool) (v : Option (List ℕ)) (rule : List ℕ → Verdict) (o : ℕ) → startOf (counted nullable mostBytes rule l b .fields ix o v) ≡ o
   unfolding counted
-  start-counted none rule o = refl
-  start-counted (some bs) rule o = refl
+  start-counted nullable none rule o = refl
+  start-counted nullable (some bs) rule o = refl
 
   start-value : (t o : ℕ) (v : Value) → isColumn t ≡ true → startOf (value l b t .fields ix o v) ≡ o
-  start-value t o v is = of-value (λ es. startOf es ≡ o) t o v (λ e. start-counted (body-of v) (ruleOf t) o) (λ e. start-piece (widthOf t) o (rw e at is))
+  start-value t o v is = of-value (λ es. startOf es ≡ o) t o v (λ e. start-counted true (body-of v) (ruleOf t) o) (λ e. start-piece (widthOf t) o (rw e at is))
 
 -- so they are alone, at their place
 pub alone-number : (k field : ℕ) (ix : Index) {o p n : ℕ} → o ≡ p → Alone field field ix (number k field .fields ix p n) (number k field) ix o n
 unfolding number
 alone-number k field ix {o} {p} e = record { is = rw e (all-body field field ix k p) }
+
+pub alone-counted : (nullable : Bool) (rule : List ℕ → Verdict) (l b : ℕ) (ix : Index) {o p : ℕ} {v : Option (List ℕ)} → o ≡ p
+    → Alone l b ix (counted nullable mostBytes rule l b .fields ix p v) (counted nullable mostBytes rule l b) ix o v
+alone-counted nullable rule l b ix {o} {p} {v} e = record { is = rw e (all-counted l b ix nullable v rule p) }
 
 pub alone-value : (l b t : ℕ) (ix : Index) {o p : ℕ} {v : Value} → o ≡ p → Alone l b ix (value l b t .fields ix p v) (value l b t) ix o v
 alone-value l b t ix {o} {p} {v} e = record { is = rw e (all-value l b ix t p v) }
@@ -98,6 +103,12 @@ tiled-bytes m (x ∷ es) o n t =
     let end : o + x .size + rest ≡ o + n = omega arith in
     let others = tiled-bytes m es (o + x .size) rest (rw end (t .2)) in
     rw (t .0, others, ← drop-drop (x .size) o m, ← take-add (x .size) rest (drop o m), n-is)
+
+-- so the bytes at the fields of what stands in a message are its encoding
+pub stands-bytes : {A : Type 0} {f : Format A} → Lawful f → (m : List ℕ) (ix : Index) {at : ℕ} {a : A} → Stands f m at a → bytesAt m (f .fields ix at a) ≡ f .bytes a
+stands-bytes {f = f} law m ix {at} {a} d =
+    let part : take (length (f .bytes a)) (drop at m) ≡ f .bytes a = rw (← d .whole, drop-at (d .before) (f .bytes a ++ d .after) at (d .start), take-at (f .bytes a) (d .after) (length (f .bytes a)) refl) in
+    tiled-bytes m (f .fields ix at a) at (length (f .bytes a)) (law .tiles ix at a (d .good)) ∙ part
 
 -- ---- a number that stands, and is listed alone
 pub number-reads : (m : List ℕ) (k field : ℕ) (ix : Index) (fs : List Entry) (at n : ℕ) → Stands (number k field) m at n → listedFor field field ix fs ≡ number k field .fields ix at n → fieldBytes field ix m fs ≡ numBytes k n
@@ -133,9 +144,7 @@ module _ (m : List ℕ) (all : Bytes m) (l b t at : ℕ) (v : Value) (is : isCol
     listed-start = ap startOf w ∙ start-value l b ix t at v is
 
     pub listed-bytes : bytesFor l b ix m fs ≡ itsBytes
-    listed-bytes =
-        let part : take (length itsBytes) (drop at m) ≡ itsBytes = rw (← d .whole, drop-at (d .before) (itsBytes ++ d .after) at (d .start), take-at itsBytes (d .after) (length itsBytes) refl) in
-        ap (bytesAt m) w ∙ tiled-bytes m (value l b t .fields ix at v) at (length itsBytes) (lawful-value l b t .tiles ix at v (d .good)) ∙ part
+    listed-bytes = ap (bytesAt m) w ∙ stands-bytes (lawful-value l b t) m ix d
 
     pub value-reads : Reads l b ix m fs shown
     value-reads = record { entries = rw (kept .0, kept .1, listed-start) w; says = rw (listed-bytes, listed-start) stands-says }
