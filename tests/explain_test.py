@@ -499,11 +499,15 @@ class WithTheProvedLibrary(unittest.TestCase):
         self.failed("No space left on device", "4", str(ENGINES), "--html", "/dev/full")
         self.failed("No such file or directory", "4", str(ENGINES), "--html", self.path("no/such"))
 
-    @unittest.skipIf(os.geteuid() == 0, "root reads every file")
     def test_an_unreadable_file(self):
+        """Root reads every file, so nobody is asked to, if nobody may run explain."""
         file = self.path("secret", MESSAGE)
         os.chmod(file, 0)
-        self.failed("Permission denied", "4", file)
+        os.chmod(self.folder.name, 0o755)
+        other = {"user": 65534, "group": 65534, "extra_groups": []} if os.geteuid() == 0 else {}
+        if subprocess.run(["test", "-r", str(ROOT / "explain")], **other).returncode != 0:
+            self.skipTest("nobody may not run explain here")
+        self.failed("Permission denied", "4", file, **other)
 
     def test_odd_file_names(self):
         for name in ("two words", "line\nfeed", "Ærø", os.fsdecode(b"\xff\xfe"), "<b>", "-"):
@@ -530,16 +534,16 @@ class WithTheProvedLibrary(unittest.TestCase):
         self.assertEqual((running.communicate()[1], running.returncode), ("explain: stopped\n", 2))
 
     def test_a_message_of_4_megabytes(self):
-        """Of the harbour's table as many rows as a message may have; one more byte is too many."""
-        row = harbour.ENGINES["rows"][1]
-        table = dict(harbour.ENGINES, rows=[row] * ((4_194_304 - 200) // 78))
-        message = encoder.encode(wire.REPLY, harbour.reply(table))
-        self.assertGreater(len(message), 4_190_000)
-        file = self.path("whole", message)
-        count = len(table["rows"])
-        done = self.run_it("4", file, "--cell", "0", str(count - 1), "THROTTLE_LIMIT")
-        self.assertEqual((done.returncode, done.stdout.splitlines()[0]), (0, "table 0, row %d, column 3 THROTTLE_LIMIT (decimal) is 0.800000000000" % (count - 1)))
-        self.assertEqual(listing.listing(4, message)[1].tolist()[-6:], [len(message) - 8, 8, 51, 0, count - 1, 6])
+        """The longest that there is, with the harbour's table; one byte more is too many."""
+        table = dict(harbour.ENGINES, rows=[harbour.ENGINES["rows"][1]] * 53_000)
+        record = harbour.reply(table)
+        room = paper.MOST_BYTES - len(encoder.encode(wire.REPLY, record))
+        message = encoder.encode(wire.REPLY, dict(record, status_string=b"ok" + b"." * room))
+        self.assertEqual(len(message), paper.MOST_BYTES)
+        done = self.run_it("4", self.path("whole", message), "--cell", "0", "52999", "THROTTLE_LIMIT")
+        self.assertEqual((done.returncode, done.stdout.splitlines()[0]), (0, "table 0, row 52999, column 3 THROTTLE_LIMIT (decimal) is 0.800000000000"))
+        self.assertEqual(listing.listing(4, message)[1].tolist()[-6:], [len(message) - 8, 8, 51, 0, 52_999, 6])
+        self.failed("is longer than a message can be", "4", self.path("whole", message + b"."))
 
 
 @unittest.skipUnless(shutil.which("rt"), "the Rattle kit isn't here")

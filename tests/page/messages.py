@@ -100,8 +100,9 @@ def listed(kind, message):
 
 
 def refused(count):
-    """(kind, message, fields up to the fault) of made-up messages that are refused."""
-    for kind, message in generate.messages(count, 5):
+    """(kind, message, fields up to the fault) of made-up messages that are refused, and of one for a point that is no number."""
+    nowhere = reply([{"status": 0, "types": [POINT], "names": [b"P"], "rows": [[(float("nan"), 0.0)]]}])
+    for kind, message in itertools.chain(generate.messages(count, 5), [nowhere]):
         try:
             read(kind, message)
         except Refused as no:

@@ -106,6 +106,7 @@ function point(raw) {
 }
 
 function degrees(number, positive, negative) {
+  if (Number.isNaN(number)) return "NaN";  // in a message that is refused for it
   return `${floatDigits(Math.abs(number))}° ${isBackward(number) ? negative : positive}`;
 }
 

@@ -92,6 +92,8 @@ def point(raw):
 
 
 def degrees(number, positive, negative):
+    if math.isnan(number):  # in a message that is refused for it
+        return "NaN"
     backward = math.copysign(1, number) < 0
     return "%r° %s" % (abs(number), negative if backward else positive)
 
