@@ -18,7 +18,8 @@ Says what each byte of a message means.
   --cell TABLE --where NAME=VALUE --column COLUMN
                   the value of a cell, and the bytes that are it, that name it and that fix its place. COLUMN is a name, or if no
                   column has that name a number. With --where, the cell is of the first row whose column NAME is VALUE
-  --json          the fields as lines of JSON
+  --json          the fields as lines of JSON: offset, size, field (its number), indices, name, where, value, bytes (in hex), and with --cell and
+                  of a refused message their group; the last line says the kind and what the answer was made from
   --html OUT      writes a page that shows the bytes, for a browser
   --              what follows is KIND and FILE, even if it begins with -
 
