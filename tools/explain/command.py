@@ -10,7 +10,7 @@ usage: explain [KIND] FILE [--byte N | --cell TABLE ..] [--json | --html OUT]
 Says what each byte of a message means.
 
   KIND            %s;
-                  if it is left out, the only kind that accepts the message
+                  also as --kind KIND; if it is left out, the only kind that accepts the message
   FILE            holds one message, its length first, of at most %d bytes; - is standard input
   --byte N        only the field that owns byte N
   --cell TABLE ROW COLUMN
