@@ -68,8 +68,9 @@ static uint64_t cell_plain(const uint8_t *m, size_t size) {
     case 4: out[3] = load32(at); break;
     case 8: out[3] = load64(at); break;
     case 16: out[2] = load64(at), out[3] = load64(at + 8); break;
-    default: out[1] = c.null ? CHALOENPIK_NONE : CHALOENPIK_BYTES, out[2] = c.null ? 0 : c.offset, out[3] = c.null ? 0 : c.size;
+    default: out[1] = CHALOENPIK_BYTES, out[2] = c.offset, out[3] = c.size;
     }
+    if (c.null) out[1] = CHALOENPIK_NONE, out[2] = 0, out[3] = 0;
     return 0;
 }
 

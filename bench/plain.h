@@ -19,7 +19,7 @@ enum {
 /* Whether a message is a response. */
 plain_refusal plain_accept(const uint8_t *message, size_t length);
 
-/* A cell: its column's type and where its bytes stand. A counted one's are its body's, and null is told apart. */
+/* A cell: its column's type and where its bytes stand. A counted one's are its body's. The null of a counted one and of a point is told apart. */
 typedef struct {
     uint8_t type;
     bool null;

@@ -197,6 +197,11 @@ static size_t past_cell(const uint8_t *m, size_t at, uint8_t type) {
     return at + 4 + (n == UINT32_MAX ? 0 : n);
 }
 
+static bool is_null_cell(const uint8_t *at, uint8_t type) {
+    if (type == PLAIN_POINT) return is_null_point(load64(at), load64(at + 8));
+    return is_counted(type) && load32(at) == UINT32_MAX;
+}
+
 plain_refusal plain_find_cell(const uint8_t *m, size_t size, size_t table, size_t row, size_t column, plain_cell *found) {
     const plain_refusal past_end = {PAST_END, 0};
     plain_refusal no = plain_accept(m, size);
@@ -218,7 +223,7 @@ plain_refusal plain_find_cell(const uint8_t *m, size_t size, size_t table, size_
     for (size_t k = 0; k < column; k++) at = past_cell(m, at, types[k]);
     size_t prefix = fixed_size(types[column]) == 0 ? 4 : 0;
     found->type = types[column];
-    found->null = prefix != 0 && load32(m + at) == UINT32_MAX;
+    found->null = is_null_cell(m + at, types[column]);
     found->offset = at + prefix;
     found->size = past_cell(m, at, types[column]) - found->offset;
     return no;

@@ -63,9 +63,16 @@ static inline bool decimal_fine(uint64_t upper, uint64_t lower) {
     return (-most <= units && units <= most) || is_null;
 }
 
+static inline double float_of(uint64_t bits) {
+    double x;
+    memcpy(&x, &bits, 8);
+    return x;
+}
+
+static inline bool is_null_point(uint64_t first, uint64_t second) { return float_of(first) == 360.0 && float_of(second) == 360.0; }
+
 static inline bool point_fine(uint64_t first, uint64_t second) {
-    double longitude, latitude;
-    memcpy(&longitude, &first, 8);
-    memcpy(&latitude, &second, 8);
-    return -180.0 <= longitude && longitude <= 180.0 && -90.0 <= latitude && latitude <= 90.0;
+    double longitude = float_of(first), latitude = float_of(second);
+    bool is_position = -180.0 <= longitude && longitude <= 180.0 && -90.0 <= latitude && latitude <= 90.0;
+    return is_position || is_null_point(first, second);
 }

@@ -25,6 +25,9 @@ static void open_table(plain_writer *w, const uint8_t *types, size_t count, size
     plain_open_table(w, 0, columns, count, letters, sizeof letters - 1);
 }
 
+/* Puts a value of a type into the open row. */
+typedef plain_refusal put_value(plain_writer *w, uint8_t type, uint64_t *state);
+
 static plain_refusal put_any(plain_writer *w, uint8_t type, uint64_t *state) {
     uint64_t n = made_up(state);
     switch (type) {
@@ -36,8 +39,22 @@ static plain_refusal put_any(plain_writer *w, uint8_t type, uint64_t *state) {
     }
 }
 
+/* A null decimal; a point that is null or at the ends of its range, by turns. */
+static plain_refusal put_edge(plain_writer *w, uint8_t type, uint64_t *state) {
+    static const uint64_t points[][2] = {{0x4076800000000000, 0x4076800000000000}, {0x4066800000000000, 0xc056800000000000}, {0xc066800000000000, 0x4056800000000000}};
+    if (type == PLAIN_DECIMAL) return plain_put_pair(w, type, (uint64_t)1 << 63, 0);
+    const uint64_t *point = points[(*state)++ % 3];
+    return plain_put_pair(w, type, point[0], point[1]);
+}
+
+/* A value as any, but every second decimal is null, and a point is like those above: which, by chance. */
+static plain_refusal put_of_boat(plain_writer *w, uint8_t type, uint64_t *state) {
+    uint64_t chance = made_up(state);
+    return type == PLAIN_POINT || (type == PLAIN_DECIMAL && chance % 2) ? put_edge(w, type, &chance) : put_any(w, type, state);
+}
+
 /* Rows of some types until the buffer is full. The row that doesn't fit any more is taken back. */
-static size_t fill(uint8_t *buffer, size_t size, const uint8_t *types, size_t count) {
+static size_t fill_with(put_value *put, uint8_t *buffer, size_t size, const uint8_t *types, size_t count) {
     plain_writer w;
     uint64_t state = 1;
     begin(&w, buffer, size);
@@ -45,7 +62,7 @@ static size_t fill(uint8_t *buffer, size_t size, const uint8_t *types, size_t co
     for (;;) {
         plain_writer before = w;
         bool whole = plain_open_row(&w).number == 0;
-        for (size_t k = 0; whole && k < count; k++) whole = put_any(&w, types[k], &state).number == 0;
+        for (size_t k = 0; whole && k < count; k++) whole = put(&w, types[k], &state).number == 0;
         if (!whole) {
             w = before;
             break;
@@ -56,6 +73,8 @@ static size_t fill(uint8_t *buffer, size_t size, const uint8_t *types, size_t co
     plain_finish(&w);
     return w.at;
 }
+
+static size_t fill(uint8_t *buffer, size_t size, const uint8_t *types, size_t count) { return fill_with(put_any, buffer, size, types, count); }
 
 static size_t bigints(uint8_t *buffer, size_t size) {
     const uint8_t types[] = {PLAIN_BIGINT, PLAIN_BIGINT, PLAIN_BIGINT, PLAIN_BIGINT, PLAIN_BIGINT, PLAIN_BIGINT, PLAIN_BIGINT, PLAIN_BIGINT};
@@ -70,6 +89,23 @@ static size_t strings(uint8_t *buffer, size_t size) {
 static size_t decimals(uint8_t *buffer, size_t size) {
     const uint8_t types[] = {PLAIN_DECIMAL, PLAIN_DECIMAL, PLAIN_DECIMAL, PLAIN_DECIMAL};
     return fill(buffer, size, types, sizeof types);
+}
+
+static size_t points(uint8_t *buffer, size_t size) {
+    const uint8_t types[] = {PLAIN_POINT, PLAIN_POINT, PLAIN_POINT, PLAIN_POINT};
+    return fill(buffer, size, types, sizeof types);
+}
+
+/* Nothing but nulls and values at the end of their range. */
+static size_t edges(uint8_t *buffer, size_t size) {
+    const uint8_t types[] = {PLAIN_DECIMAL, PLAIN_POINT, PLAIN_POINT, PLAIN_POINT};
+    return fill_with(put_edge, buffer, size, types, sizeof types);
+}
+
+/* An everyday table. */
+static size_t boats(uint8_t *buffer, size_t size) {
+    const uint8_t types[] = {PLAIN_INTEGER, PLAIN_STRING, PLAIN_POINT, PLAIN_DECIMAL, PLAIN_TIMESTAMP};
+    return fill_with(put_of_boat, buffer, size, types, sizeof types);
 }
 
 static size_t tinyints(uint8_t *buffer, size_t size) {
@@ -149,6 +185,9 @@ const shape shapes[] = {
     {"tinyints", "rows of one tinyint", tinyints},
     {"strings", "rows of 4 strings, some null", strings},
     {"decimals", "rows of 4 decimals", decimals},
+    {"points", "rows of 4 points", points},
+    {"edges", "rows of a null decimal and points that are null or at 180 and 90 degrees", edges},
+    {"boats", "rows of a boat's values, each with such a point and every second with a null decimal", boats},
     {"mixed", "rows of 64 columns of all types", mixed},
     {"tables", "tables of one bigint, at most 32767", tables},
     {"names", "4 columns with long names", names},

@@ -136,7 +136,7 @@ uint64_t chaloenpik_response(const uint8_t *message, size_t length, uint64_t rec
 enum {
     CHALOENPIK_FIXED = 0, /* of a fixed size: its upper and its lower 64 bits, which the functions below take apart */
     CHALOENPIK_BYTES = 1, /* text or binary: where its bytes start in the message, and how many they are */
-    CHALOENPIK_NONE = 2,  /* null: 0 and 0 */
+    CHALOENPIK_NONE = 2,  /* null, of a point too: 0 and 0. A null decimal is shown by its bits, -2^127 */
     CHALOENPIK_MANY = 3   /* an array: its elements' wire type, and how many they are */
 };
 
@@ -181,6 +181,11 @@ static inline double chaloenpik_float_value(uint64_t bits) {
     memcpy(&x, &bits, sizeof x);
     return x;
 }
+
+/* The bits of 360.0. A point is a position, from -180 to 180 and from -90 to 90 degrees, or it is null: then its upper and its lower 64
+   bits are both these. By them a null is written, as any value of a fixed size, and told apart at its entry of the field list, which has
+   16 bytes as a position's has. Any other point breaks its rule. */
+#define CHALOENPIK_DEGREES_360 0x4076800000000000U
 
 /* A parameter of an invocation (kind 3), counted from 0; 11 at 0: there is no such one. */
 uint64_t chaloenpik_parameter(const uint8_t *message, size_t length, size_t parameter, uint64_t cell[4]);
@@ -247,8 +252,8 @@ uint64_t chaloenpik_begin_call(uint8_t *out, size_t size, uint64_t state[CHALOEN
 /* A null parameter. */
 uint64_t chaloenpik_null_param(uint8_t *out, size_t size, uint64_t state[CHALOENPIK_STATE]);
 
-/* A parameter of a fixed size, by its upper and lower 64 bits; one of at most 8 bytes stands in the lower. 6: the type has no fixed
-   size, or not so many bits. */
+/* A parameter of a fixed size, by its upper and lower 64 bits; one of at most 8 bytes stands in the lower, and a null point is
+   CHALOENPIK_DEGREES_360 in both. 6: the type has no fixed size, or not so many bits. */
 uint64_t chaloenpik_fixed_param(uint8_t *out, size_t size, uint64_t state[CHALOENPIK_STATE], uint8_t type,
                                 uint64_t upper, uint64_t lower);
 

@@ -35,6 +35,7 @@ SAMPLE = STORED / "engines.reply"
 MESSAGE = SAMPLE.read_bytes()
 LISTED = (STORED / "engines.list").read_text()
 ENGINES = ROOT / "samples" / "4-engines.bin"
+POSITIONS = ROOT / "samples" / "4-positions.bin"
 
 
 def sample():
@@ -83,6 +84,12 @@ class Sample(unittest.TestCase):
         self.assertEqual(b"".join(bytes.fromhex(record["bytes"]) for record in told), MESSAGE)
         self.assertEqual(told[34], {"offset": 144, "size": 16, "field": 51, "indices": [0, 0, 2], "name": "cell", "bytes": "00000000000000000000050091 8bd800".replace(" ", ""),
                                     "where": "table 0, row 0, column 2 THROTTLE_LIMIT (decimal)", "value": "5.500000000000"})
+
+
+class Harbour(unittest.TestCase):
+    def test_the_samples_are_its_messages(self):
+        made = {name + ".bin": encoder.encode(kind, record) for name, (kind, record) in harbour.MESSAGES.items()}
+        self.assertEqual({file.name: file.read_bytes() for file in (ROOT / "samples").glob("*.bin")}, made)
 
 
 class InsurersQuestion(unittest.TestCase):
@@ -171,6 +178,15 @@ class InsurersQuestion(unittest.TestCase):
         self.assertEqual(told[0][:2], ["table 0, row 1, column 1 MODEL (string) is null", "the number or bytes behind it: no bytes: the length says null"])
         self.assertEqual(told[1][:2], ['table 0, row 2, column 1 MODEL (string) is ""', "the number or bytes behind it: 0 bytes"])
 
+    def test_a_boat_without_a_position(self):
+        for row, value, bits in ((1, "longitude 10.4072° E, latitude 54.8889° N", "0x4024d07c84b5dcc6 and 0x404b71c779a6b50b"),
+                                 (2, "null", "0x4076800000000000 and 0x4076800000000000")):
+            told = lines.cell_lines(chosen(POSITIONS.read_bytes(), "--cell", "0", str(row), "POSITION"))
+            self.assertEqual(told[:2], ["table 0, row %d, column 2 POSITION (point) is %s" % (row, value), "the number or bytes behind it: the bits %s" % bits])
+        clam = chosen(POSITIONS.read_bytes(), "--cell", "0", "--where", "VESSEL=Clam", "--column", "POSITION")
+        cell, field, *_ = map(json.loads, records.cell_records(clam))
+        self.assertEqual((cell["cell"]["value"], field["value"], field["size"]), ("null", "null", 16))
+
     def test_no_byte_is_left_out(self):
         message = reply([wire.STRING], [b"NOTE"], [[bytes(range(40))]])
         told = lines.cell_lines(chosen(message, "--cell", "0", "0", "NOTE"))
@@ -245,6 +261,19 @@ class Refused(unittest.TestCase):
                 (damaged(m, 208, 0, 0, 0, 75), ["The row length of table 0, row 1, at 208, says 75, so its room ends at 287, and 1 byte is left in it after its last field."])):
             self.assertEqual(self.words(message)[1:], told)
 
+    def test_points_that_are_nearly_null(self):
+        m = POSITIONS.read_bytes()
+        at = chosen(m, "--cell", "0", "2", "POSITION").cell.start
+        for longitude, latitude, told in ((360.0, 0.0, "40 76 80 00 .. 00 00 00: longitude 360.0° E, latitude 0.0° N"),
+                                          (0.0, 360.0, "00 00 00 00 .. 00 00 00: longitude 0.0° E, latitude 360.0° N"),
+                                          (360.0, -360.0, "40 76 80 00 .. 00 00 00: longitude 360.0° E, latitude 360.0° S"),
+                                          (-360.0, -360.0, "c0 76 80 00 .. 00 00 00: longitude 360.0° W, latitude 360.0° S"),
+                                          (360.0, 360.00000000000006, "40 76 80 00 .. 00 00 01: longitude 360.0° E, latitude 360.00000000000006° N")):
+            self.assertEqual(self.words(damaged(m, at, *struct.pack(">dd", longitude, latitude))), [
+                "refused 7 at %d: a decimal, point, flag byte, column name or empty geography breaks its rule" % at,
+                "The field is: cell, table 0, row 2, column 2 POSITION (point). Its bytes are %s." % told,
+                "A point's longitude is from -180 to 180 and its latitude from -90 to 90, and neither is NaN; or both are 360, which is null: one of them alone isn't."])
+
     def test_the_fields_before_are_shown(self):
         m = damaged(ENGINES.read_bytes(), 41, 7)
         told = lines.refusal_lines(refusals.Refusal(wire.REPLY, m, (6, 41)))
@@ -309,6 +338,8 @@ class Values(unittest.TestCase):
 
     def test_points(self):
         self.assertEqual(values.point(struct.pack(">dd", -122.0264, 36.90719)), "longitude 122.0264° W, latitude 36.90719° N")
+        self.assertEqual(values.point(struct.pack(">dd", -0.0, 0.0)), "longitude 0.0° W, latitude 0.0° N")
+        self.assertEqual(values.point(bytes.fromhex("4076800000000000" * 2)), "null")
 
     def test_text(self):
         self.assertEqual(values.quoted(b'a "b" \\ \n'), '"a \\"b\\" \\\\ \\u{a}"')
@@ -345,6 +376,12 @@ class OtherKinds(unittest.TestCase):
             ("parameter 2", "-99: array"), ("parameter 2", "3: tinyint"), ("parameter 2", "2 bytes"), ("parameter 2", "0xbeef"),
             ("parameter 3", "1: null"),
         ])
+
+    def test_null_points(self):
+        parameters = [(wire.POINT, None), (wire.ARRAY, (wire.POINT, [(12.5, 0.0), None]))]
+        message = encoder.encode(wire.INVOCATION, {"version": 0, "procedure": b"", "client_data": bytes(8), "parameters": parameters})
+        told = [(field.where, field.value) for field in read_by_second(message, wire.INVOCATION) if field.number == paper.VALUE]
+        self.assertEqual(told, [("parameter 0", "null"), ("parameter 1, element 0", "longitude 12.5° E, latitude 0.0° N"), ("parameter 1, element 1", "null")])
 
     def test_a_login_response(self):
         shown = explained("00" "0000000000000069" "c0a80001", (0, 1, 10, 0, 0, 0), (1, 8, 13, 0, 0, 0), (9, 4, 14, 0, 0, 0))
@@ -464,6 +501,16 @@ class WithTheProvedLibrary(unittest.TestCase):
         done = self.run_it("4", str(ENGINES), "--cell", "0", "--where", "ENGINE_ID=2", "--column", "THROTTLE_LIMIT")
         self.assertEqual((done.returncode, done.stdout.splitlines()[0]), (0, "table 0, row 1, column 3 THROTTLE_LIMIT (decimal) is 0.800000000000"))
         self.assertIn("SHA-256", done.stdout)
+
+    def test_a_boat_without_a_position(self):
+        done = self.run_it("4", str(POSITIONS), "--cell", "0", "--where", "VESSEL=Clam", "--column", "POSITION")
+        self.assertEqual((done.returncode, done.stdout.splitlines()[0]), (0, "table 0, row 2, column 2 POSITION (point) is null"))
+        m = POSITIONS.read_bytes()
+        at = m.index(struct.pack(">dd", 360.0, 360.0))
+        done = self.run_it("4", self.path("turned", damaged(m, at, 0xc0)))
+        self.assertEqual(done.returncode, 1)
+        self.assertIn("refused 7 at %d: " % at, done.stdout)
+        self.assertIn("longitude 360.0° W, latitude 360.0° N", done.stdout)
 
     def test_a_refused_message(self):
         done = self.run_it("2", str(ENGINES))

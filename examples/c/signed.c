@@ -1,16 +1,16 @@
 /* Writes a reply of one row with numbers of each type, by the header's helpers, and reads them back: no cast by hand, and a number that
-   its type doesn't hold is refused, not cut. */
+   its type doesn't hold is refused, not cut. The last column's point is null. */
 #include "decimal.h"
 #include "input.h"
 
-enum { COLUMNS = 8 };
+enum { COLUMNS = 9, LAST = COLUMNS - 1 };
 
-static const uint8_t names[] = "ABCDEFGH";
+static const uint8_t names[] = "ABCDEFGHI";
 static const uint8_t wire_types[COLUMNS] = {
     CHALOENPIK_TINYINT, CHALOENPIK_SMALLINT, CHALOENPIK_INTEGER, CHALOENPIK_BIGINT,
-    CHALOENPIK_TIMESTAMP, CHALOENPIK_FLOAT, CHALOENPIK_DECIMAL, CHALOENPIK_POINT
+    CHALOENPIK_TIMESTAMP, CHALOENPIK_FLOAT, CHALOENPIK_DECIMAL, CHALOENPIK_POINT, CHALOENPIK_POINT
 };
-static const int64_t numbers[COLUMNS] = {-5, -300, -70000, INT64_MIN, -1, 0, -800000000000, 0};
+static const int64_t numbers[COLUMNS] = {-5, -300, -70000, INT64_MIN, -1, 0, -800000000000, 0, 0};
 
 static uint8_t out[256], types[CHALOENPIK_TYPES];
 static uint64_t state[CHALOENPIK_STATE];
@@ -48,7 +48,8 @@ static size_t write_reply(void) {
     done(chaloenpik_open_table(out, sizeof out, state, types, 0, columns, 3 * COLUMNS, names, COLUMNS));
     done(chaloenpik_open_row(out, sizeof out, state, types));
     too_large(300), too_large(200), too_large(-129);
-    for (size_t k = 0; k < COLUMNS; k++) write_cell(k);
+    for (size_t k = 0; k < LAST; k++) write_cell(k);
+    done(cell(wire_types[LAST], CHALOENPIK_DEGREES_360, CHALOENPIK_DEGREES_360));
     done(chaloenpik_close_row(out, sizeof out, state, types));
     done(chaloenpik_close_table(out, sizeof out, state, types));
     return done(chaloenpik_finish_reply(out, sizeof out, state));
@@ -57,6 +58,10 @@ static size_t write_reply(void) {
 static void print_cell(size_t length, size_t column) {
     uint64_t it[4];
     done(chaloenpik_cell(out, length, 0, 0, column, it));
+    if (it[1] == CHALOENPIK_NONE) {
+        printf("null\n");
+        return;
+    }
     uint8_t type = (uint8_t)it[0];
     switch (type) {
     case CHALOENPIK_FLOAT: printf("%g", chaloenpik_float_value(it[3])); break;

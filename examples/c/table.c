@@ -25,6 +25,11 @@ static void print_wide(uint64_t upper, uint64_t lower) {
     else print_decimal(upper, lower);
 }
 
+static void print_point(uint64_t upper, uint64_t lower) {
+    if (upper == CHALOENPIK_DEGREES_360 && lower == CHALOENPIK_DEGREES_360) printf("\\N");
+    else printf("%.17g %.17g", chaloenpik_float_value(upper), chaloenpik_float_value(lower));
+}
+
 /* A value that isn't counted, or the body of one that is. */
 static void print_value(uint8_t type, const uint8_t *bytes, size_t size) {
     size_t half = size / 2;
@@ -34,9 +39,7 @@ static void print_value(uint8_t type, const uint8_t *bytes, size_t size) {
     case CHALOENPIK_GEOGRAPHY: print_hex(bytes, size); break;
     case CHALOENPIK_FLOAT: printf("%.17g", chaloenpik_float_value(bits_at(bytes, size))); break;
     case CHALOENPIK_DECIMAL: print_wide(bits_at(bytes, half), bits_at(bytes + half, half)); break;
-    case CHALOENPIK_POINT:
-        printf("%.17g %.17g", chaloenpik_float_value(bits_at(bytes, half)), chaloenpik_float_value(bits_at(bytes + half, half)));
-        break;
+    case CHALOENPIK_POINT: print_point(bits_at(bytes, half), bits_at(bytes + half, half)); break;
     default: printf("%ld", (long)chaloenpik_signed_value(type, bits_at(bytes, size)));
     }
 }

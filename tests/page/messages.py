@@ -25,7 +25,8 @@ TEXTS = [None, b"", b"plain", b'a "b" \\ \n\t\x00\x7f', "Zoë · Ærø 日本 �
          b"\xed\xa0\x80", b"\xf4\x90\x80\x80", b"\xf0\x9f\x98", b"\xe2\x82A", b"\xff" * 61, b"x" * 60, b"x" * 61, "é".encode() * 60, "é".encode() * 61,
          "😀".encode() * 61, b"x" * 59 + b"\xc3", b"x" * 60 + b"\xc3", b"</script><!-- & <b>", b"x" * 1000]
 BINARIES = [None, b"", b"\0", bytes(60), bytes(61), bytes(range(256))]
-POINTS = [(0.0, -0.0), (-0.0, 0.0), (180.0, 90.0), (-180.0, -90.0), (12.5683, -1e-7), (-122.0264, 36.90719)]
+POINTS = [None, (0.0, -0.0), (-0.0, 0.0), (180.0, 90.0), (-180.0, -90.0), (12.5683, -1e-7), (-122.0264, 36.90719)]
+NO_POINTS = [(float("nan"), 0.0), (360.0, 0.0), (0.0, 360.0), (360.0, -360.0), (-360.0, -360.0)]
 NAMES = [b"A", b"", b"two words", b"_", b"_x1", b"a-b", b'"', b"x" * 60, b"</script>", b"0", b"end"]
 
 
@@ -100,9 +101,9 @@ def listed(kind, message):
 
 
 def refused(count):
-    """(kind, message, fields up to the fault) of made-up messages that are refused, and of one for a point that is no number."""
-    nowhere = reply([{"status": 0, "types": [POINT], "names": [b"P"], "rows": [[(float("nan"), 0.0)]]}])
-    for kind, message in itertools.chain(generate.messages(count, 5), [nowhere]):
+    """(kind, message, fields up to the fault) of made-up messages that are refused, and of some for a point that is no number or nearly null."""
+    nowhere = [reply([{"status": 0, "types": [POINT], "names": [b"P"], "rows": [[point]]}]) for point in NO_POINTS]
+    for kind, message in itertools.chain(generate.messages(count, 5), nowhere):
         try:
             read(kind, message)
         except Refused as no:

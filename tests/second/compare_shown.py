@@ -83,12 +83,12 @@ class Shown:
                       sum(self.fields[F_PARAMETERS, 0, 0, 0]))]
         for p, (wire_type, value) in enumerate(it["parameters"]):
             if wire_type != ARRAY:
-                lines.append(line(NULL, NONE, 0, 0) if wire_type == NULL else self.value(wire_type, F_VALUE, p, 0, 0))
+                lines.append(self.value(wire_type, value, F_VALUE, p, 0, 0))
                 lines.append("refused %d %d" % (BAD_TYPE, self.fields[F_TYPE, p, 0, 0][0]))
             else:
                 element_type, elements = value
                 lines.append(line(ARRAY % 256, MANY, element_type, len(elements)))
-                lines += [line(TINYINT, FIXED, 0, e) if element_type == TINYINT else self.value(element_type, F_VALUE, p, i, 0)
+                lines += [line(TINYINT, FIXED, 0, e) if element_type == TINYINT else self.value(element_type, e, F_VALUE, p, i, 0)
                           for i, e in enumerate(elements)]
                 lines.append(PAST_END)
         return lines + [PAST_END]
@@ -102,9 +102,9 @@ class Shown:
             for name in table["names"]:
                 lines += self.card(t, name)
             lines += [line(*self.part(F_COLUMN_NAME, t, 0, c)) for c in range(len(table["names"]))] + [PAST_END]
-            for r in range(len(table["rows"])):
+            for r, row in enumerate(table["rows"]):
                 for c, wire_type in enumerate(table["types"]):
-                    lines += [self.value(wire_type, F_CELL, t, r, c), self.place(F_CELL, t, r, c)]
+                    lines += [self.value(wire_type, row[c], F_CELL, t, r, c), self.place(F_CELL, t, r, c)]
                 lines += [PAST_END] * 2
             lines += [PAST_END] * 2 * (len(table["types"]) + 1)
         return lines + [PAST_END]
@@ -123,14 +123,15 @@ class Shown:
         table = self.record["tables"][t]
         return str(at) if list(zip(table["types"], table["names"]))[at:at + 1] == [(wire_type, name)] else STALE
 
-    def value(self, wire_type, field, *index):
-        """A value by its bytes. A counted one's number is `field`, and a body's or a fixed one's the next."""
-        if wire_type not in COUNTED_TYPES:
-            at, size = self.fields[(field + 1, *index)]
-            bits = int.from_bytes(self.message[at:at + size], "big")
-            return line(wire_type, FIXED, bits >> 64, bits % 2**64)
-        start, size = self.part(field, *index)
-        return line(wire_type, NONE, 0, 0) if size < 0 else line(wire_type, BYTES, start, size)
+    def value(self, wire_type, it, field, *index):
+        """A value by its bytes, or that it is null. A counted one's number is `field`, and a body's or a fixed one's the next."""
+        if it is None:
+            return line(wire_type, NONE, 0, 0)
+        if wire_type in COUNTED_TYPES:
+            return line(wire_type, BYTES, *self.part(field, *index))
+        at, size = self.fields[(field + 1, *index)]
+        bits = int.from_bytes(self.message[at:at + size], "big")
+        return line(wire_type, FIXED, bits >> 64, bits % 2**64)
 
     def place(self, field, *index):
         """Start and size of all that is listed for a value: a length, a body, or both."""

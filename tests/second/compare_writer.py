@@ -1,8 +1,9 @@
 #!/usr/bin/env python3
 """Runs tests/script.c, which takes the exported steps, and the second writer over the same scripts of steps: compare_writer.py N SEED
 
-Half of the scripts spell a made-up record, into a buffer that is long enough or a little too short; the others take wild steps, with
-wrong arguments, out of order and on forged states. What `script` answers must be what the second writer does, line by line.
+Half of the scripts spell a made-up record, into a buffer that is long enough or a little too short, and try refused points before its
+points; the others take wild steps, with wrong arguments, out of order and on forged states. What `script` answers must be what the second
+writer does, line by line.
 """
 
 import pathlib
@@ -59,7 +60,15 @@ def spelling(maker):
         size = len(encode(kind, record))
         if size < MOST_BUFFER - 50:
             room = max(0, size + maker.rng.choice((-9, -1, 0, 0, 0, 1, 50)))
-            return [("buffer", (room,)), *steps.spelled(kind, record), ("show", ())]
+            script = [tried for step in steps.spelled(kind, record) for tried in (*refused_before(maker, step), step)]
+            return [("buffer", (room,)), *script, ("show", ())]
+
+
+def refused_before(maker, step):
+    """Before a point, mostly the same step with one that is refused, and so changes nothing."""
+    name, arguments = step
+    is_point = name in ("add_value", "add_element", "add_cell") and arguments[0][0] == POINT
+    return [(name, ((POINT, maker.beyond_point()),))] if is_point and maker.rng.random() < 0.7 else []
 
 
 def report(number, script, expected, found):

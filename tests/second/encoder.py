@@ -82,5 +82,5 @@ def value(wire_type, it):
     if wire_type == DECIMAL:
         return number(it, 16)
     if wire_type == POINT:
-        return struct.pack(">dd", *it)
+        return struct.pack(">dd", *(NULL_POINT if it is None else it))
     return counted(it)

@@ -2,7 +2,8 @@
 
     messages(count, seed)  ->  (kind, message) pairs, the same ones for the same seed
 
-Fields are chosen by their number first, so that rare fields are damaged as often as frequent ones.
+Fields are chosen by their number first, so that rare fields are damaged as often as frequent ones. Points have more than their share: much
+is nearly null.
 """
 
 import math
@@ -63,12 +64,12 @@ class Maker:
         return record
 
     def parameter(self):
-        wire_type = self.rng.choice(PARAMETER_TYPES + (ARRAY, ARRAY, ARRAY))
+        wire_type = self.rng.choice(PARAMETER_TYPES + (ARRAY, ARRAY, ARRAY, POINT))
         if wire_type == NULL:
             return NULL, None
         if wire_type != ARRAY:
             return wire_type, self.value(wire_type)
-        element_type = self.rng.choice(COLUMN_TYPES + (TINYINT, TINYINT))
+        element_type = self.rng.choice(COLUMN_TYPES + (TINYINT, TINYINT) + (POINT,) * 6)
         if element_type == TINYINT:
             return ARRAY, (TINYINT, self.text())
         return ARRAY, (element_type, [self.value(element_type) for _ in range(self.size(60))])
@@ -110,9 +111,12 @@ class Maker:
             wide = rng.randint(-MOST_DECIMAL, MOST_DECIMAL)
             return rng.choice((0, -1, MOST_DECIMAL, -MOST_DECIMAL, NULL_DECIMAL, rng.randint(-10**15, 10**15), wide))
         if wire_type == POINT:
-            return self.degrees(180.0), self.degrees(90.0)
+            return None if rng.random() < 0.2 else self.position()
         body = self.body()
         return b"\0" if wire_type == GEOGRAPHY and body == b"" else body
+
+    def position(self):
+        return self.degrees(180.0), self.degrees(90.0)
 
     def degrees(self, most):
         rng = self.rng
@@ -133,9 +137,12 @@ class Maker:
         """An already refused message is damaged blindly."""
         rng = self.rng
         try:
-            _, fields = read(kind, message)
+            record, fields = read(kind, message)
         except Refused:
             return self.blindly(kind, message)
+        points = points_of(kind, record, fields)
+        if points and rng.random() < (0.6 if kind == INVOCATION else 0.2):  # invocations have fewer of them
+            return kind, replaced(message, rng.choice(points), struct.pack(">dd", *self.beyond_point()))
         way = rng.random()
         if way < 0.62:
             return kind, self.field_changed(message, self.chosen(fields))
@@ -162,10 +169,10 @@ class Maker:
         elif number == F_COLUMN_NAME + 1:
             new = self.with_high_bytes(old)
         elif number in (F_VALUE + 1, F_CELL + 1) and size == 16:
-            new = self.rng.choice((self.beyond_decimal, self.beyond_point))()
+            new = self.beyond_decimal()
         else:
             new = self.rng.randbytes(size)
-        return message[:at] + new + message[at + size:]
+        return replaced(message, field, new)
 
     def other_length(self, old, size):
         """Off by one or a few, negative, at a limit and just beyond it, huge, or anything."""
@@ -189,20 +196,20 @@ class Maker:
         return edge.to_bytes(16, "big", signed=True)
 
     def beyond_point(self):
+        """A point that is refused: nearly null, null but for a bit, or with a number out of range beside one that is in range or is 360."""
         rng = self.rng
-        longitude, latitude = self.degrees(180.0), self.degrees(90.0)
-        which = rng.randrange(4)
-        bad = rng.choice((math.inf, -math.inf, math.nan, -math.nan, 360.0, 1e300))
-        if which == 0:
-            longitude = rng.choice((bad, math.nextafter(180.0, 999), math.nextafter(-180.0, -999)))
-        elif which == 1:
-            latitude = rng.choice((bad, math.nextafter(90.0, 999), math.nextafter(-90.0, -999), 180.0))
-        elif which == 2:
-            longitude, latitude = 360.0, 360.0
-        else:
-            patterns = [p for p in FLOAT_PATTERNS if p & (2**63 - 1) > 0x7FF0000000000000]
-            return rng.choice(patterns).to_bytes(8, "big") + struct.pack(">d", latitude)
-        return struct.pack(">dd", longitude, latitude)
+        way = rng.random()
+        if way < 0.5:
+            nearly = zip(rng.choice(NEARLY_NULL), self.position())
+            return tuple(degrees if number is IN_RANGE else number for number, degrees in nearly)
+        if way < 0.6:
+            bits = int.from_bytes(struct.pack(">dd", *NULL_POINT), "big") ^ 1 << rng.randrange(128)
+            return struct.unpack(">dd", bits.to_bytes(16, "big"))
+        longitude, latitude = rng.choice((NULL_POINT, self.position()))
+        bad = rng.choice((math.inf, -math.inf, 1e300, *NANS))
+        if rng.random() < 0.5:
+            return rng.choice((bad, math.nextafter(180.0, 999), math.nextafter(-180.0, -999))), latitude
+        return longitude, rng.choice((bad, math.nextafter(90.0, 999), math.nextafter(-90.0, -999), 180.0))
 
     def resized(self, message, fields):
         """Bytes put in or taken out at a field, or at the end of a room, with the lengths of the rooms around it mended: mostly of
@@ -273,6 +280,19 @@ def mended(message):
     return (len(message) - 4).to_bytes(4, "big") + message[4:] if len(message) >= 4 else message
 
 
+def replaced(message, field, new):
+    at, size = field[:2]
+    return message[:at] + new + message[at + size:]
+
+
+def points_of(kind, record, fields):
+    """The fields that are points."""
+    if kind == REPLY:
+        return [field for field in fields if field[2] == F_CELL + 1 and record["tables"][field[3]]["types"][field[5]] == POINT]
+    types = [it[0] if wire_type == ARRAY else wire_type for wire_type, it in record.get("parameters", ())]
+    return [field for field in fields if field[2] == F_VALUE + 1 and types[field[3]] == POINT]
+
+
 def rooms_of(message, fields):
     """(start, end) of the message's room and of each table, metadata and row, the outer before the inner."""
     starts = [at + 4 for at, _, number, *_ in fields if number in (F_LENGTH, F_TABLE, F_METADATA, F_ROW)]
@@ -289,4 +309,12 @@ FLOAT_PATTERNS = (
     0x0000000000000000, 0x8000000000000000, 0x7FF0000000000000, 0xFFF0000000000000,
     0x7FF8000000000000, 0xFFF8000000000000, 0x7FF0000000000001, 0xFFFFFFFFFFFFFFFF,
     0x0000000000000001, 0x7FEFFFFFFFFFFFFF, 0x3FF0000000000000,
+)
+NANS = [number for number in (struct.unpack(">d", p.to_bytes(8, "big"))[0] for p in FLOAT_PATTERNS) if math.isnan(number)]
+
+# What is nearly a null point: one of its numbers beside one in range, a wrong sign, the numbers next to 360.
+IN_RANGE, BELOW, ABOVE = None, math.nextafter(360.0, 0), math.nextafter(360.0, 999)
+NEARLY_NULL = (
+    (360.0, IN_RANGE), (IN_RANGE, 360.0), (-360.0, IN_RANGE), (IN_RANGE, -360.0), (-360.0, -360.0), (-360.0, 360.0), (360.0, -360.0),
+    (BELOW, 360.0), (360.0, BELOW), (ABOVE, 360.0), (360.0, ABOVE),
 )

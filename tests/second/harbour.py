@@ -1,7 +1,7 @@
 #!/usr/bin/env python3
-"""Makes samples/: messages of a made-up harbour whose engine control asks a database for the limits of its engines, and a reply
-that lacks a column; and, for the program `limit`, its input and what it prints: the sample reply, the same with a row more, three in which the limit's column is no
-longer what it was, and one that lacks a later column."""
+"""Makes samples/: messages of a made-up harbour whose engine control asks a database for the limits of its engines, a reply that lacks
+a column, and one with the positions of boats; and, for the program `limit`, its input and what it prints: the sample reply, the same with
+a row more, three in which the limit's column is no longer what it was, and one that lacks a later column."""
 
 import pathlib
 
@@ -22,6 +22,19 @@ ENGINES = {
         [2, b"Bodil", b"starboard", 800_000_000_000, 0x4055200000000000, (12.5683, 55.6761), 1_761_000_000_000_000],
         [7, "Ærø".encode(), b"main", NULL_DECIMAL, 0x7FF8000000000000, (10.4072, 54.8889), 0],
         [9, b"Tug 9", None, 1_000_000_000_000, 0x4053000000000000, (-0.0, 51.5), 1_759_000_000_000_000],
+    ],
+}
+
+BOATS = {
+    "status": 0,
+    "types": [INTEGER, STRING, POINT, TIMESTAMP],
+    "names": [b"BOAT_ID", b"VESSEL", b"POSITION", b"SEEN"],
+    "rows": [
+        [1, b"Bodil", (12.6127, 55.7034), 1_762_000_000_000_000],
+        [4, "Ærø".encode(), (10.4072, 54.8889), 1_762_000_060_000_000],
+        # A boat whose plotter is off.
+        [5, b"Clam", None, 1_761_900_000_000_000],
+        [9, b"Tug 9", (-0.0, 51.5), 1_762_000_030_000_000],
     ],
 }
 
@@ -54,6 +67,7 @@ MESSAGES = {
         (STRING, b"Bodil"), (ARRAY, (INTEGER, [1, 2])), (ARRAY, (TINYINT, b"\1\2")), (NULL, None)]}),
     "4-engines": (REPLY, reply(ENGINES)),
     "4-engines-without-vessel": (REPLY, reply(without(ENGINES, b"VESSEL"))),
+    "4-positions": (REPLY, reply(BOATS)),
 }
 
 

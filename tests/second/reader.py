@@ -4,7 +4,7 @@
 
 A record is a dictionary with one key for each thing of the layout. A field is (offset, size, number, i, j, k).
 Values: integers and decimals are numbers; a float is its 64 bits as a number, so that no bit of a NaN is lost; a point is
-two Python floats; strings, varbinaries and geographies are bytes, or None for null.
+two Python floats, or None for null; strings, varbinaries and geographies are bytes, or None for null.
 An array is (element type, values); for tinyint its values are bytes.
 """
 
@@ -243,11 +243,14 @@ class Reading:
                 raise Refused(BAD_VALUE, at, field + 1, index)
             return decimal
         if wire_type == POINT:
-            longitude, latitude = struct.unpack(">dd", self.block(16, field + 1, end, index))
+            longitude, latitude = point = struct.unpack(">dd", self.block(16, field + 1, end, index))
+            # Null is both 360 together: one beside a number in range is refused below, and so is one with the wrong sign.
+            if point == NULL_POINT:
+                return None
             # A comparison with a NaN is false, so a NaN is refused here too.
             if not (-180.0 <= longitude <= 180.0 and -90.0 <= latitude <= 90.0):
                 raise Refused(BAD_VALUE, at, field + 1, index)
-            return longitude, latitude
+            return point
         body = self.counted(field, end, index, null=True)
         if wire_type == GEOGRAPHY and body == b"":
             raise Refused(BAD_VALUE, at, field, index)

@@ -2,15 +2,16 @@
 """Checks the second reader against itself: selftest.py [N] [SEED]
 
 What is accepted encodes to the same bytes and its fields tile it; every fault that reading can find is found in every field
-where the paper lets it be; the limits hold to the byte.
+where the paper lets it be; null points, and all that is nearly one, are met wherever a point can be; the limits hold to the byte.
 """
 
+import struct
 import sys
 from collections import Counter
 
 from encoder import encode
 from frames import frame, swept
-from generate import messages
+from generate import IN_RANGE, NEARLY_NULL, messages
 from listing import listing
 from reader import Refused, read
 from wire import *
@@ -33,19 +34,23 @@ POSSIBLE = {
 def main():
     count = int(sys.argv[1]) if len(sys.argv) > 1 else 20000
     seed = int(sys.argv[2]) if len(sys.argv) > 2 else 1
-    verdicts, at_fields, listed = Counter(), Counter(), Counter()
+    verdicts, at_fields, listed, points = Counter(), Counter(), Counter(), Counter()
     for kind, message in messages(count, seed):
         try:
             record, fields = read(kind, message)
         except Refused as refusal:
             verdicts[refusal.number] += 1
             at_fields[refusal.number, refusal.field] += 1
+            if refusal.number == BAD_VALUE:
+                points.update((BAD_VALUE, *it) for it in points_in(refusal.fields[-2:], message))
             continue
         verdicts[0] += 1
         assert encode(kind, record) == message, (kind, message.hex())
         check_tiling(fields, message)
         listed.update(field[2] for field in fields)
+        points.update((0, *it) for it in points_in(fields, message))
     report(count, seed, verdicts, at_fields, listed)
+    report_points(count, points)
     check_limits()
     check_frames()
     print("selftest passed")
@@ -59,6 +64,15 @@ def check_tiling(fields, message):
     assert at == len(message), message.hex()
 
 
+def points_in(fields, message):
+    """Where each value of 16 bytes stands, and its two numbers if it is a point; IN_RANGE for those that are."""
+    for before, (at, size, number, *_) in zip(fields, fields[1:]):
+        if size == 16 and number in (F_VALUE + 1, F_CELL + 1):
+            where = "cell" if number == F_CELL + 1 else "parameter" if before[2] == F_TYPE else "element"
+            point = struct.unpack(">dd", message[at:at + size])
+            yield where, tuple(IN_RANGE if abs(degrees) <= most else degrees for degrees, most in zip(point, (180.0, 90.0)))
+
+
 def report(count, seed, verdicts, at_fields, listed):
     print("seed %d: %d messages, %d accepted with %d fields" % (seed, count, verdicts[0], sum(listed.values())))
     for number in sorted(POSSIBLE):
@@ -69,6 +83,14 @@ def report(count, seed, verdicts, at_fields, listed):
             assert hit == POSSIBLE[number], (number, POSSIBLE[number] - hit)
     if count >= 20000:
         assert set(listed) == {1, *FIXED, *COUNTS, *LENGTHS, 5, 7, 16, 21, 33, 36, 39, 47}, sorted(listed)
+
+
+def report_points(count, points):
+    verdicts = ((0, NULL_POINT), *((BAD_VALUE, nearly) for nearly in NEARLY_NULL))
+    met = [points[number, where, point] for where in ("cell", "parameter", "element") for number, point in verdicts]
+    print("  null points accepted, and %d that are nearly null refused, as cells, parameters and elements: each at least %d times" % (
+        len(NEARLY_NULL), min(met)))
+    assert count < 20000 or min(met) > 0, met
 
 
 def verdict(kind, message):

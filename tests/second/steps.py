@@ -2,8 +2,8 @@
 
 A script is a list of steps, each (name, arguments). Its text has one step a line: the name and its arguments, one space between.
 Numbers are decimal; bytes are hexadecimal, `-` if empty and `null` if null; a value is its wire type, `:` and the value (a float
-its 64 bits in hexadecimal, a point two such with a comma between; the bare bits of a number `#` and they); a list has commas between its
-entries, `-` if empty.
+its 64 bits in hexadecimal, a point two such with a comma between, a null one too; the bare bits of a number `#` and they); a list has
+commas between its entries, `-` if empty.
 
     buffer SIZE                                         a new buffer, byte i holding i mod 251; no state
     login VERSION HASHVERSION SERVICE USER HASH         the two logins are whole messages from 0
@@ -112,11 +112,11 @@ def spelled_parameter(wire_type, it):
     if wire_type == NULL:
         return [("add_null", ())]
     if wire_type != ARRAY:
-        return [("add_value", ((wire_type, it),))]
+        return [("add_value", (given(wire_type, it),))]
     element_type, elements = it
     if element_type == TINYINT:
         return [("add_byte_array", (elements,))]
-    return [("open_array", (element_type,)), *[("add_element", ((element_type, e),)) for e in elements], ("close_array", ())]
+    return [("open_array", (element_type,)), *[("add_element", (given(element_type, e),)) for e in elements], ("close_array", ())]
 
 
 def spelled_table(table):
@@ -126,8 +126,13 @@ def spelled_table(table):
         names += name
     script = [("open_table", (table["status"], tuple(columns), names))]
     for row in table["rows"]:
-        script += [("open_row", ()), *[("add_cell", (value,)) for value in zip(table["types"], row)], ("close_row", ())]
+        script += [("open_row", ()), *[("add_cell", (value,)) for value in map(given, table["types"], row)], ("close_row", ())]
     return script + [("close_table", ())]
+
+
+def given(wire_type, it):
+    """A record's value as a step takes it: a null point by its numbers, as a position."""
+    return wire_type, NULL_POINT if wire_type == POINT and it is None else it
 
 
 # -- Text.

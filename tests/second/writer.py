@@ -2,7 +2,8 @@
 
 A step takes the state and the buffer and gives (answer, state, buffer): the answer is None, or (number, place), and then state and
 buffer are the same as before. A value is (wire type, value), with values as in reader.py, or the `Bits` of one of a fixed size, as the
-exported steps take it. Nothing here reads the buffer back.
+exported steps take it. So a null point is given by its numbers, as a position is, and None is a body's null. Nothing here reads the
+buffer back.
 """
 
 import struct
@@ -284,12 +285,12 @@ def value_of(wire_type, bits, place):
 
 
 def check_value(value, place):
-    """A value's own rule: a body's limit; 7 for a decimal, a point or an empty geography."""
+    """A value's own rule: a body's limit; 7 for a decimal, a point that is neither a position nor null, or an empty geography."""
     wire_type, it = value
     if wire_type in COUNTED_TYPES:
         check_body(it, place)
     bad = (wire_type == DECIMAL and not (-MOST_DECIMAL <= it <= MOST_DECIMAL or it == NULL_DECIMAL)
-           or wire_type == POINT and not (-180.0 <= it[0] <= 180.0 and -90.0 <= it[1] <= 90.0)
+           or wire_type == POINT and not (-180.0 <= it[0] <= 180.0 and -90.0 <= it[1] <= 90.0 or it == NULL_POINT)
            or wire_type == GEOGRAPHY and it == b"")
     if bad:
         raise No(BAD_VALUE, place)

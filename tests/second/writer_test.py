@@ -2,7 +2,8 @@
 """Checks the second writer against the second reader and encoder: writer_test.py [N] [SEED]
 
 The steps that a record spells write its encoding and nothing past it; in a buffer that is too short by k bytes some step answers 8
-at the place that it would reach, and changes nothing; a run of wild steps that reaches its end has written an accepted message.
+at the place that it would reach, and changes nothing; a run of wild steps that reaches its end has written an accepted message. A null
+point is written from its numbers and from its bits, and what is nearly one is refused.
 """
 
 import random
@@ -12,9 +13,12 @@ from collections import Counter
 import steps
 import writer
 from encoder import encode
-from generate import Maker
+from generate import IN_RANGE, NEARLY_NULL, Maker
 from reader import read
 from wire import *
+
+# The types of what is written. Points have more than their share: much is nearly null.
+TYPES = COLUMN_TYPES + (POINT,) * 3
 
 
 def main():
@@ -25,6 +29,7 @@ def main():
     for _ in range(count):
         spelled_once(maker)
         wild_once(maker, answers)
+    check_points()
     print("writer_test passed: seed %d, %d records; wild answers: %s" % (
         seed, count, ", ".join("%s %d" % pair for pair in sorted(answers.items()))))
 
@@ -54,6 +59,22 @@ def wild_once(maker, counts):
     if not forged and state.stage == writer.CLOSED and state.position:
         kind = INVOCATION if any(n == "begin_invocation" for n, _ in script[1:2]) else REPLY
         read(kind, buffer[:state.position])
+
+
+def check_points():
+    def added(it):
+        script = [("buffer", (50,)), ("begin_invocation", (0, b"", bytes(8))), ("add_value", ((POINT, it),)), ("finish_invocation", ())]
+        answers, state, buffer = steps.run(script)
+        return answers[1], buffer[:state.position]
+
+    bits = bytes.fromhex("4076800000000000" * 2)
+    null = encode(INVOCATION, {"version": 0, "procedure": b"", "client_data": bytes(8), "parameters": [(POINT, None)]})
+    assert null.endswith(bytes([POINT]) + bits)
+    assert added(NULL_POINT) == added(writer.Bits.from_bytes(bits, "big")) == ("fine", null)
+    assert added(None)[0] == "refused 6 19"
+    for nearly in NEARLY_NULL:
+        point = tuple(0.0 if number is IN_RANGE else number for number in nearly)
+        assert added(point)[0] == "refused 7 19", point
 
 
 def wild(maker, forging=0.5):
@@ -94,7 +115,7 @@ def likely(maker, stage, types):
     rng = maker.rng
     if stage == writer.CALL:
         return rng.choice((("add_null", ()), ("add_value", (some_value(maker),)), ("add_byte_array", (maker.text()[:40],)),
-                           ("open_array", (rng.choice(COLUMN_TYPES),)), ("finish_invocation", ())))
+                           ("open_array", (rng.choice(TYPES),)), ("finish_invocation", ())))
     if stage == writer.ARRAY_OPEN:
         return rng.choice((("add_element", (some_value(maker, types),)), ("add_element", (some_value(maker, types),)), ("close_array", ())))
     if stage == writer.REPLY_OPEN:
@@ -117,14 +138,13 @@ def anything(maker):
 def some_value(maker, types=()):
     """A value, mostly of the type that is due, now and then one that its own rule refuses, or that is none of its type."""
     rng = maker.rng
-    wire_type = types[0] if types and types[0] in COLUMN_TYPES and rng.random() < 0.9 else rng.choice(COLUMN_TYPES)
+    wire_type = types[0] if types and types[0] in COLUMN_TYPES and rng.random() < 0.9 else rng.choice(TYPES)
     if rng.random() < 0.05:
         return odd_value(rng, wire_type)
-    if rng.random() < 0.1 and wire_type in (DECIMAL, POINT, GEOGRAPHY):
-        return wire_type, {DECIMAL: rng.choice((10**38, -10**38, 2**127 - 1)), POINT: (rng.choice((180.5, float("nan"), 0.0)), 90.5),
-                           GEOGRAPHY: b""}[wire_type]
+    if rng.random() < (0.3 if wire_type == POINT else 0.1) and wire_type in (DECIMAL, POINT, GEOGRAPHY):
+        return wire_type, {DECIMAL: rng.choice((10**38, -10**38, 2**127 - 1)), POINT: maker.beyond_point(), GEOGRAPHY: b""}[wire_type]
     value = maker.value(wire_type)
-    return wire_type, value[:40] if isinstance(value, bytes) else value
+    return steps.given(wire_type, value[:40] if isinstance(value, bytes) else value)
 
 
 def odd_value(rng, wire_type):
@@ -147,7 +167,7 @@ def table(maker):
     for _ in range(columns):
         start = rng.randint(0, len(names))
         size = rng.randint(0, len(names) - start) if rng.random() < 0.97 else rng.choice((len(names) + 1, 2**32, 2**63))
-        wire_type = rng.choice(COLUMN_TYPES) if rng.random() < 0.98 else rng.choice((ARRAY, NULL, 0))
+        wire_type = rng.choice(TYPES) if rng.random() < 0.98 else rng.choice((ARRAY, NULL, 0))
         entries.append((wire_type, start, size))
     return "open_table", (maker.integer(1), tuple(entries), names)
 

@@ -145,7 +145,7 @@ class Refusal:
         if number in (paper.CELL_LENGTH, paper.VALUE_LENGTH):
             return ["A geography isn't empty: its length is at least 1, or -1 for null."]
         if self.field.value.startswith("longitude"):
-            return ["A point's longitude is from -180 to 180 and its latitude from -90 to 90; neither is NaN."]
+            return ["A point's longitude is from -180 to 180 and its latitude from -90 to 90, and neither is NaN; or both are 360, which is null: one of them alone isn't."]
         return ["A decimal counts units of 10^-12, here %d; it is from -(10^38 - 1) to 10^38 - 1, or -2^127, which is null." % self.said()]
 
 

@@ -1,6 +1,7 @@
 // One value's bytes as plain text, word for word as values.py tells it. Nothing is rounded: what is shown tells the bytes apart.
 
 const NULL_DECIMAL = -(2n ** 127n);
+const NULL_DEGREES = 360;  // both numbers of a null point
 const MICROSECONDS_IN_400_YEARS = 146_097n * 86_400n * 1_000_000n;  // the calendar repeats after these
 const UTF_8 = new TextDecoder("utf-8", { fatal: true, ignoreBOM: true });
 
@@ -102,7 +103,9 @@ function isBackward(number) {
 }
 
 function point(raw) {
-  return `longitude ${degrees(float(raw.subarray(0, 8)), "E", "W")}, latitude ${degrees(float(raw.subarray(8)), "N", "S")}`;
+  const longitude = float(raw.subarray(0, 8)), latitude = float(raw.subarray(8));
+  if (longitude === NULL_DEGREES && latitude === NULL_DEGREES) return "null";
+  return `longitude ${degrees(longitude, "E", "W")}, latitude ${degrees(latitude, "N", "S")}`;
 }
 
 function degrees(number, positive, negative) {

@@ -8,6 +8,7 @@ from . import paper
 
 DECIMAL_PLACES = 12
 NULL_DECIMAL = -(2**127)
+NULL_DEGREES = 360.0  # both numbers of a null point
 MOST_SHOWN = 60  # characters of a text, and bytes of a binary value, before they are cut
 
 EPOCH = datetime.datetime(1970, 1, 1)
@@ -88,6 +89,8 @@ def float_text(raw):
 
 def point(raw):
     longitude, latitude = struct.unpack(">dd", raw)
+    if longitude == latitude == NULL_DEGREES:
+        return "null"
     return "longitude %s, latitude %s" % (degrees(longitude, "E", "W"), degrees(latitude, "N", "S"))
 
 

@@ -29,7 +29,7 @@ pub enum WireType {
     Decimal = 22,
     /// Bytes with their length.
     Varbinary = 25,
-    /// Longitude and latitude, two floats.
+    /// Longitude and latitude, two floats; a null is both 360.
     Point = 26,
     /// A shape on the earth, with its length.
     Geography = 27,
@@ -75,6 +75,20 @@ pub(crate) fn answered_type(number: u64) -> Result<WireType, Refusal> {
 }
 
 /// A value, by its wire type. Text and binary values read from a message are parts of it. Text isn't checked as UTF-8.
+///
+/// A boat whose plotter is off has a null for its position:
+///
+/// ```
+/// use chaloenpik::{parameter, CallWriter, Parameter, Value};
+///
+/// let mut out = [0; 100];
+/// let mut call = CallWriter::begin(&mut out, 0, "Report", 42u64.to_be_bytes())?;
+/// call.param(Value::Point { longitude: 12.5683, latitude: 55.6761 })?.param(Value::NullPoint)?;
+/// let message = call.finish()?;
+/// assert_eq!(parameter(message, 1)?, Parameter::One(Value::NullPoint));
+/// assert!(Value::NullPoint.is_null());
+/// # Ok::<(), chaloenpik::Refusal>(())
+/// ```
 #[derive(Clone, Copy, Debug, PartialEq)]
 pub enum Value<'m> {
     /// A number of 1 byte.
@@ -95,13 +109,15 @@ pub enum Value<'m> {
     Decimal(Option<Decimal>),
     /// A varbinary, or its null.
     Binary(Option<&'m [u8]>),
-    /// A point on the earth, in degrees.
+    /// A point on the earth, in degrees. With both 360 it is written as the null, and reads back as [`Value::NullPoint`].
     Point {
         /// From -180 to 180.
         longitude: f64,
         /// From -90 to 90.
         latitude: f64,
     },
+    /// The null of a point.
+    NullPoint,
     /// A geography, which the library doesn't look into, or its null.
     Geography(Option<&'m [u8]>),
 }
@@ -112,8 +128,13 @@ pub(crate) enum Form<'m> {
     Body(Option<&'m [u8]>),
 }
 
-/// The form, in numbers, of a text or binary value that is there.
+/// The forms of a value in numbers: one of a fixed size, a text or binary one that is there, a null.
+const FIXED: u64 = 0;
 const BYTES: u64 = 1;
+const NONE: u64 = 2;
+
+/// The bits of a null point: those of 360.0 twice.
+const NULL_POINT: u128 = 0x4076_8000_0000_0000_4076_8000_0000_0000;
 
 /// The length field of a null.
 const NULL_LENGTH: [u8; 4] = (-1i32).to_be_bytes();
@@ -131,14 +152,14 @@ impl<'m> Value<'m> {
             Value::Timestamp(_) => WireType::Timestamp,
             Value::Decimal(_) => WireType::Decimal,
             Value::Binary(_) => WireType::Varbinary,
-            Value::Point { .. } => WireType::Point,
+            Value::Point { .. } | Value::NullPoint => WireType::Point,
             Value::Geography(_) => WireType::Geography,
         }
     }
 
     /// Whether it is the null of its type.
     pub fn is_null(&self) -> bool {
-        matches!(self, Value::Text(None) | Value::Decimal(None) | Value::Binary(None) | Value::Geography(None))
+        matches!(self, Value::Text(None) | Value::Decimal(None) | Value::Binary(None) | Value::NullPoint | Value::Geography(None))
     }
 
     /// Each number is brought to its own width without a sign, so none is cut.
@@ -151,6 +172,7 @@ impl<'m> Value<'m> {
             Value::Float(x) => Form::Fixed(x.to_bits().into()),
             Value::Decimal(decimal) => Form::Fixed(decimal.map_or(Decimal::NULL, Decimal::units) as u128),
             Value::Point { longitude, latitude } => Form::Fixed(u128::from(longitude.to_bits()) << 64 | u128::from(latitude.to_bits())),
+            Value::NullPoint => Form::Fixed(NULL_POINT),
             Value::Text(bytes) | Value::Binary(bytes) | Value::Geography(bytes) => Form::Body(bytes),
         }
     }
@@ -159,12 +181,12 @@ impl<'m> Value<'m> {
     pub(crate) fn from_numbers(message: &'m [u8], numbers: [u64; 4]) -> Result<Self, Refusal> {
         let [wire_type, form, upper, lower] = numbers;
         let wire_type = answered_type(wire_type)?;
-        let value = if !wire_type.is_counted() {
-            Value::fixed(wire_type, u128::from(upper) << 64 | u128::from(lower))
-        } else if form == BYTES {
-            Value::counted(wire_type, Some(part(message, upper, lower)?))
-        } else {
-            Value::counted(wire_type, None)
+        let value = match form {
+            FIXED => Value::fixed(wire_type, u128::from(upper) << 64 | u128::from(lower)),
+            BYTES => Value::counted(wire_type, Some(part(message, upper, lower)?)),
+            NONE if wire_type == WireType::Point => Some(Value::NullPoint),
+            NONE => Value::counted(wire_type, None),
+            _ => None,
         };
         value.ok_or(Refusal::UNKNOWN_ANSWER)
     }
@@ -192,6 +214,7 @@ impl<'m> Value<'m> {
             WireType::Float => Value::Float(f64::from_bits(lower)),
             WireType::Timestamp => Value::Timestamp(lower as i64),
             WireType::Decimal => Value::Decimal(Decimal::from_units(bits as i128)),
+            WireType::Point if bits == NULL_POINT => Value::NullPoint,
             WireType::Point => Value::Point { longitude: f64::from_bits(upper), latitude: f64::from_bits(lower) },
             _ => return None,
         })
@@ -221,7 +244,7 @@ impl fmt::Display for Value<'_> {
             Value::Point { longitude, latitude } => write!(f, "{longitude} {latitude}"),
             Value::Text(Some(bytes)) => write!(f, "{:?}", String::from_utf8_lossy(bytes)),
             Value::Binary(Some(bytes)) | Value::Geography(Some(bytes)) => bytes.iter().try_for_each(|byte| write!(f, "{byte:02x}")),
-            Value::Text(None) | Value::Decimal(None) | Value::Binary(None) | Value::Geography(None) => f.pad("null"),
+            Value::Text(None) | Value::Decimal(None) | Value::Binary(None) | Value::NullPoint | Value::Geography(None) => f.pad("null"),
         }
     }
 }
@@ -344,6 +367,21 @@ mod tests {
         assert_eq!(shown(Value::Binary(Some(&[0, 255]))), "00ff");
         assert_eq!(shown(Value::Point { longitude: -12.25, latitude: 55.5 }), "-12.25 55.5");
         assert_eq!(shown(Value::Text(None)), "null");
+        assert_eq!(shown(Value::NullPoint), "null");
+    }
+
+    #[test]
+    fn a_point_is_null_by_both_its_numbers() {
+        let is_null = |longitude: f64, latitude: f64| {
+            let bytes = [longitude.to_be_bytes(), latitude.to_be_bytes()].concat();
+            Value::from_bytes(WireType::Point, &bytes).unwrap().is_null()
+        };
+        assert!(is_null(360.0, 360.0));
+        assert!(!is_null(360.0, 0.0) && !is_null(0.0, 360.0) && !is_null(-360.0, -360.0) && !is_null(-0.0, 0.0));
+        assert_eq!(Value::from_numbers(&[], [26, NONE, 0, 0]), Ok(Value::NullPoint));
+        assert_eq!(Value::from_numbers(&[], [26, FIXED, 0, 0]), Ok(Value::Point { longitude: 0.0, latitude: 0.0 }));
+        assert!(matches!(Value::NullPoint.form(), Form::Fixed(NULL_POINT)));
+        assert!(matches!(Value::Point { longitude: 360.0, latitude: 360.0 }.form(), Form::Fixed(NULL_POINT)));
     }
 
     #[test]
@@ -356,5 +394,8 @@ mod tests {
         assert_eq!(Value::from_numbers(&[], [7, 0, 0, 0]), Err(Refusal::UNKNOWN_ANSWER));
         assert_eq!(Value::from_numbers(&[1], [9, BYTES, 1, 1]), Err(Refusal::UNKNOWN_ANSWER));
         assert_eq!(Value::from_numbers(&[1], [9, BYTES, u64::MAX, u64::MAX]), Err(Refusal::UNKNOWN_ANSWER));
+        for (wire_type, form) in [(26, BYTES), (9, FIXED), (22, NONE), (9, 4)] {
+            assert_eq!(Value::from_numbers(&[], [wire_type, form, 0, 0]), Err(Refusal::UNKNOWN_ANSWER));
+        }
     }
 }

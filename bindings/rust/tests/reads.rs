@@ -84,6 +84,29 @@ fn the_sample_s_cells() {
     assert_eq!(cell(REPLY, 0, 0, 7), Err(PAST_END));
 }
 
+/// Where the berth of the sample's second row starts.
+const BERTH: usize = 262;
+
+/// The sample with another berth there.
+fn with_berth(longitude: f64, latitude: f64) -> Vec<u8> {
+    let mut reply = REPLY.to_vec();
+    reply[BERTH..BERTH + 8].copy_from_slice(&longitude.to_be_bytes());
+    reply[BERTH + 8..BERTH + 16].copy_from_slice(&latitude.to_be_bytes());
+    reply
+}
+
+#[test]
+fn a_point_is_a_position_or_null() {
+    let null = with_berth(360.0, 360.0);
+    assert_eq!(cell(&null, 0, 1, 5), Ok(Value::NullPoint));
+    assert_eq!(cell_place(&null, 0, 1, 5), Ok(BERTH..BERTH + 16));
+    assert_eq!(fields(Kind::Response, &null), fields(Kind::Response, REPLY));
+    assert_eq!(cell(&with_berth(180.0, -90.0), 0, 1, 5), Ok(Value::Point { longitude: 180.0, latitude: -90.0 }));
+    for (longitude, latitude) in [(360.0, 0.0), (0.0, 360.0), (-360.0, -360.0), (360.0, -360.0), (-360.0, 360.0)] {
+        assert_eq!(accept(Kind::Response, &with_berth(longitude, latitude)), refused(Cause::BadValue, BERTH));
+    }
+}
+
 #[test]
 fn the_sample_s_parameters() {
     assert_eq!(parameter(CALL, 0), Ok(Parameter::One(Value::from("Bodil"))));

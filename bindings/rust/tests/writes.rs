@@ -1,6 +1,6 @@
 use chaloenpik::{
-    cell, columns, find_column, login_response, parameter, response, rows, write_login_request, write_login_response, CallWriter, Cause,
-    Cell, ColumnEntry, Decimal, LoginRequest, Optional, Parameter, Refusal, ReplyHead, ReplyWriter, Table, Value, Welcome, WireType,
+    cell, columns, element, find_column, login_response, parameter, response, rows, write_login_request, write_login_response, CallWriter,
+    Cause, Cell, ColumnEntry, Decimal, LoginRequest, Optional, Parameter, Refusal, ReplyHead, ReplyWriter, Table, Value, Welcome, WireType,
 };
 
 const LOGIN: &[u8] = include_bytes!("../../../samples/1-login.bin");
@@ -8,6 +8,7 @@ const LOGIN_REPLY: &[u8] = include_bytes!("../../../samples/2-login-reply.bin");
 const CALL: &[u8] = include_bytes!("../../../samples/3-engine-limits.bin");
 const REPLY: &[u8] = include_bytes!("../../../samples/4-engines.bin");
 const CLIENT: [u8; 8] = 42u64.to_be_bytes();
+const NULL_POINT: [u8; 16] = [0x40, 0x76, 0x80, 0, 0, 0, 0, 0, 0x40, 0x76, 0x80, 0, 0, 0, 0, 0];
 
 /// The cause of a step's refusal; the step may not be carried out.
 fn cause<T>(step: Result<T, Refusal>) -> Cause {
@@ -111,20 +112,56 @@ fn the_sample_reply() -> Result<(), Refusal> {
     Ok(())
 }
 
-/// The sample once more, copied in the short way: head, columns and rows as they are read.
+/// The sample once more, copied in the short way: head, columns and rows as they are read. Then with a null for its second row's berth.
 #[test]
 fn a_reply_is_copied() -> Result<(), Refusal> {
-    let table = Table::new(REPLY, 0)?;
-    let mut out = vec![0; REPLY.len()];
-    assert_eq!(response(REPLY)?.head, sample_head());
-    let mut w = ReplyWriter::begin(&mut out, response(REPLY)?.head)?;
-    w.open_table(0, table.columns())?;
-    for row in table.rows() {
-        let cells: Vec<Cell> = row.cells().collect::<Result<_, _>>()?;
-        w.row(cells.iter().map(|cell| cell.value))?;
+    let mut without_berth = REPLY.to_vec();
+    without_berth[262..278].copy_from_slice(&NULL_POINT);
+    for reply in [REPLY, &without_berth] {
+        let table = Table::new(reply, 0)?;
+        let mut out = vec![0; reply.len()];
+        assert_eq!(response(reply)?.head, sample_head());
+        let mut w = ReplyWriter::begin(&mut out, response(reply)?.head)?;
+        w.open_table(0, table.columns())?;
+        for row in table.rows() {
+            let cells: Vec<Cell> = row.cells().collect::<Result<_, _>>()?;
+            w.row(cells.iter().map(|cell| cell.value))?;
+        }
+        w.close_table()?;
+        assert_eq!(w.finish()?, reply);
     }
-    w.close_table()?;
-    assert_eq!(w.finish()?, REPLY);
+    Ok(())
+}
+
+/// A call with a point for a parameter and for an element.
+fn call_with<'b>(out: &'b mut [u8], point: Value<'_>) -> Result<&'b [u8], Refusal> {
+    let mut w = CallWriter::begin(out, 1, "P", CLIENT)?;
+    w.param(point)?.array(WireType::Point, [point])?;
+    w.finish()
+}
+
+/// The bits are the value: 360 twice is the null, however it is given, and what comes near is refused.
+#[test]
+fn null_points() -> Result<(), Refusal> {
+    let twice_360 = Value::Point { longitude: 360.0, latitude: 360.0 };
+    let (mut one, mut other) = ([0; 200], [0; 200]);
+    let message = call_with(&mut one, Value::NullPoint)?;
+    assert_eq!(call_with(&mut other, twice_360)?, message);
+    assert!(message.ends_with(&NULL_POINT));
+    assert_eq!(parameter(message, 0), Ok(Parameter::One(Value::NullPoint)));
+    assert_eq!(element(message, 1, 0), Ok(Value::NullPoint));
+
+    let mut w = ReplyWriter::begin(&mut one, ReplyHead::default())?;
+    w.open_table(0, [("POSITION", WireType::Point)])?.row([Value::NullPoint])?.row([twice_360])?.open_row()?;
+    let place = w.position();
+    for (longitude, latitude) in [(360.0, 0.0), (0.0, 360.0), (-360.0, -360.0)] {
+        let step = w.cell(Value::Point { longitude, latitude }).map(|_| ());
+        assert_eq!(step, Err(Refusal { cause: Cause::BadValue, place }));
+    }
+    w.cell(Value::NullPoint)?.close_row()?.close_table()?;
+    let table = Table::new(w.finish()?, 0)?;
+    let positions: Vec<_> = table.rows().map(|row| row.get("POSITION").map(|cell| cell.value)).collect();
+    assert_eq!(positions, [Ok(Value::NullPoint); 3]);
     Ok(())
 }
 
@@ -195,6 +232,7 @@ fn values_of_every_type() -> Result<(), Refusal> {
         Value::Binary(Some(&[0, 255])),
         Value::Binary(None),
         Value::Point { longitude: -12.25, latitude: 55.5 },
+        Value::NullPoint,
         Value::Geography(Some(&[192, 1])),
         Value::Geography(None),
     ];

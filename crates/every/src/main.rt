@@ -97,6 +97,8 @@ const GEOGRAPHY_COLUMN: usize = 10;
 
 const DECIMAL_COLUMN: usize = 7;
 
+const POINT_COLUMN: usize = 9;
+
 // The parameters behind those.
 const NULL_STRING: usize = 12;
 
@@ -557,7 +559,7 @@ fn value(c: usize) -> Bits {
     }
 }
 
-// The same, or what stands in the row of nulls: a null decimal, a NaN whose bits are kept, and zeros.
+// The same, or what stands in the row of nulls: a null decimal, a null point, a NaN whose bits are kept, and zeros.
 fn value_or_null(null: bool, c: usize) -> Bits {
     if !null {
         return value(c);
@@ -565,6 +567,7 @@ fn value_or_null(null: bool, c: usize) -> Bits {
     match c {
         4 => fixed(format::FLOAT, 0, 0xfff0_0000_0000_0001),
         7 => fixed(format::DECIMAL, 0x8000_0000_0000_0000, 0),
+        POINT_COLUMN => fixed(format::POINT, format::DEGREES_360, format::DEGREES_360),
         _ => fixed(column(c), 0, 0),
     }
 }
@@ -651,9 +654,23 @@ fn is_array(answer: Argued, wire_type: u8, size: usize) -> bool {
     t == wire_type && n == size
 }
 
-// Whether the table's cells are those of `write_reply`.
+// Whether the table's cells are those of `write_reply`, and the point in the row of nulls alone is shown as null.
 fn cells_are(m: &[u8]) -> bool {
-    row_is(m, 0, false) && row_is(m, 1, false) && row_is(m, 2, true)
+    row_is(m, 0, false)
+        && row_is(m, 1, false)
+        && row_is(m, 2, true)
+        && !shows_null_point(query::cell(m, 0, 0, POINT_COLUMN))
+        && shows_null_point(query::cell(m, 0, 2, POINT_COLUMN))
+}
+
+fn shows_null_point(answer: CellAnswer) -> bool {
+    let CellAnswer::Is(cell) = answer else {
+        return false;
+    };
+    match cell {
+        Cell::NullPoint => true,
+        _ => false,
+    }
 }
 
 // Whether a row's cells are the columns' values, or nulls.

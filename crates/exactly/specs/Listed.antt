@@ -55,6 +55,14 @@ pub record Reads (l b : ℕ) (ix : Index) (m : List ℕ) (fs : List Entry) (x : 
   pub entries : listedFor l b ix fs ≡ value l b (typeOf x) .fields ix (startOf (listedFor l b ix fs)) (valueOf m x)
   pub says : Says l b m (bytesFor l b ix m fs) (startOf (listedFor l b ix fs)) x
 
+-- the bytes of a null point: 360.0 twice
+abbrev pub nullPoint : List ℕ
+nullPoint = 0x40 ∷ 0x76 ∷ 0x80 ∷ 0 ∷ 0 ∷ 0 ∷ 0 ∷ 0 ∷ 0x40 ∷ 0x76 ∷ 0x80 ∷ 0 ∷ 0 ∷ 0 ∷ 0 ∷ 0 ∷ []
+
+-- bytes that say x, a point, are these exactly if x is null
+abbrev pub NullExactly : List ℕ → Cell → Type 0
+NullExactly bs x = (x ≡ Cell.NullPoint → bs ≡ nullPoint) × (bs ≡ nullPoint → x ≡ Cell.NullPoint)
+
 -- the cell at table t, row k and column c; its type is its column's
 pub record CellReads (m : List ℕ) (fs : List Entry) (t k c : ℕ) (x : Cell) : Type 0 where
   pub type-byte : fieldBytes 45 (record { i = t; j = 0; k = c }) m fs ≡ typeOf x ∷ []

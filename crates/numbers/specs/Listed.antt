@@ -1,10 +1,12 @@
 -- Values as four numbers in a lent list: the type, the form, and two more by the form. The form is 0 for a value of a fixed size, 1 for bytes that
 -- stand in the message, 2 for a null and 3 for an array. And parts of the message as two.
-use Prim.Native.Nat.{ℕ}
+use Prim.Native.Nat.{ℕ, _+_, _*_, _^_}
+use mathlib.Core.Bool.{_&&_}
 use mathlib.Core.List.{List, [], _∷_}
 use mathlib.Core.Option.{Option}
-use Rattle.format.specs.Result.{Res, ok, no}
-use Rattle.format.specs.Value.{tNull, tArray}
+use lib.Dec.{eqb}
+use Rattle.format.specs.Result.{Res, ok, no, pick}
+use Rattle.format.specs.Value.{tNull, tPoint, tArray, isNullPoint}
 use Rattle.show.specs.declared.Cell.{Cell}
 use Rattle.show.specs.declared.Raw.{Raw}
 use Rattle.show.specs.Cells.{rawOf}
@@ -16,9 +18,13 @@ module _ {A : Type 0} where
   lent told (ok a) before = told a
   lent told (no f p) before = before
 
--- a value by what it is on the wire: its upper and lower 64 bits, or where its bytes start and how many they are; a null by 0 and 0
+-- a value of a fixed size by its upper and lower 64 bits; a point whose bits are those of a null is told as null
+abbrev pub bitsNumbers : ℕ → ℕ → ℕ → List ℕ
+bitsNumbers t upper lower = pick (eqb t tPoint && isNullPoint (upper * 2 ^ 64 + lower)) (t ∷ 2 ∷ 0 ∷ 0 ∷ []) (t ∷ 0 ∷ upper ∷ lower ∷ [])
+
+-- a value by what it is on the wire: its bits, or where its bytes start and how many they are; a null by 0 and 0
 abbrev pub rawNumbers : Raw → List ℕ
-rawNumbers (Raw.Bits t upper lower) = t ∷ 0 ∷ upper ∷ lower ∷ []
+rawNumbers (Raw.Bits t upper lower) = bitsNumbers t upper lower
 rawNumbers (Raw.Body t start size) = t ∷ 1 ∷ start ∷ size ∷ []
 rawNumbers (Raw.Null t) = t ∷ 2 ∷ 0 ∷ 0 ∷ []
 

@@ -46,7 +46,7 @@ ghost use Rattle.columns.specs.Walks.{Bounded, addAll, putAll, FitsAll};
 ghost use Rattle.numbers.specs.Entries.{entryAt, entriesOf};
 ghost use Rattle.numbers.specs.Packed.{above, packed, packedNo, nothing, itself, numberIn, rowsOf, columnsOf, typeOf};
 ghost use Rattle.numbers.specs.Stored.{stageOf, byteOf, stateOf, numbersOf, kept};
-ghost use Rattle.numbers.specs.Listed.{lent, cellNumbers, givenNumbers, partNumbers};
+ghost use Rattle.numbers.specs.Listed.{lent, bitsNumbers, cellNumbers, givenNumbers, partNumbers};
 ghost use Rattle.numbers.specs.Records.{form, startOf, sizeOf, there, hasEdition, editionNumber, loginRequestNumbers, loginResponseNumbers, invocationNumbers, responseNumbers};
 
 // A place or a number found, above the low 8 bits.
@@ -268,13 +268,26 @@ fn four(t: u8, form: u64, a: u64, b: u64) -> [u64; 4]
     [t as u64, form, a, b]
 }
 
+// The numbers of a value of a fixed size.
+fn list_bits(t: u8, upper: u64, lower: u64) -> [u64; 4]
+    ensures { λ r. ⌜ r ≡ bitsNumbers t upper lower ⌝ }
+{
+    if t != format::POINT {
+        return four(t, 0, upper, lower);
+    }
+    if scan::is_null_point(upper, lower) {
+        return four(t, 2, 0, 0);
+    }
+    four(t, 0, upper, lower)
+}
+
 // The numbers of a shown value.
 fn list_cell(c: Cell) -> [u64; 4]
     ensures { λ r. ⌜ r ≡ cellNumbers c ⌝ }
 {
     let raw = show::raw_of(c);
     match raw {
-        Raw::Bits(t, upper, lower) => four(t, 0, upper, lower),
+        Raw::Bits(t, upper, lower) => list_bits(t, upper, lower),
         Raw::Body(t, start, size) => four(t, 1, start as u64, size as u64),
         Raw::Null(t) => four(t, 2, 0, 0),
     }

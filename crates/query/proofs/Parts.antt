@@ -12,7 +12,7 @@ use types.Run.{OneOf, miss}
 use denote.Enum.Declared.{tagOf}
 use Rattle.format.specs.declared.Fault.the-variants.{WireType}
 use Rattle.format.specs.Result.{Res, ok, no, pick}
-use Rattle.format.specs.Value.{Value, fixed, body, value, tTinyint, tSmallint, tInteger, tFloat, tString, tTimestamp, tDecimal, tVarbinary, tPoint}
+use Rattle.format.specs.Value.{Value, fixed, body, value, tTinyint, tSmallint, tInteger, tFloat, tString, tTimestamp, tDecimal, tVarbinary, tPoint, isNullPoint}
 use Rattle.format.proofs.Results.{ok-same, no-ok}
 use Rattle.show.specs.declared.Cell.{Cell}
 use Rattle.show.specs.Cells.{cellOf, fixedCell, plainCell, bodyCell}
@@ -42,7 +42,7 @@ module _ (p : ℕ) where
   fixed-part : (t n : ℕ) → Gives p (fixedCell t n) (no WireType p)
   unfolding plainCell
   fixed-part t n =
-      by-pick (eqb t tDecimal) (record { is = refl }) (by-pick (eqb t tPoint) (record { is = refl })
+      by-pick (eqb t tDecimal) (record { is = refl }) (by-pick (eqb t tPoint) (by-pick (isNullPoint n) (record { is = refl }) (record { is = refl }))
       (by-pick (eqb t tTinyint) (record { is = refl }) (by-pick (eqb t tSmallint) (record { is = refl }) (by-pick (eqb t tInteger) (record { is = refl })
       (by-pick (eqb t tFloat) (by-pick (nanBits binary64 n) (record { is = refl }) (record { is = refl })) (by-pick (eqb t tTimestamp) (record { is = refl }) (record { is = refl })))))))
 

@@ -70,40 +70,64 @@ fn past_geography(s: &[u8], at: usize) -> usize
     past_body(s, at)
 }
 
-// Past a decimal that its first 4 bytes show to be in range: all but those next to an end, and null. 10^38 starts with 1262177448,
-// -10^38 with 3032789847.
+// The number of 2 bytes at a place.
+fn two(s: &[u8], at: usize) -> u64
+    requires { ⌜ at + 2 ≤ length (now s) ⌝ }
+    ensures { λ r. ⌜ (r ≡ numAt 2 (now (s .entry)) at) × (r < 65536) ⌝ }
+{
+    let a = wide(s[at]);
+    let b = wide(s[at + 1]);
+    a * 256 + b
+}
+
+// The number of 8 bytes at a place. They are added in pairs, so that the compiler sees that the terms don't overlap, and reads all bytes at once.
+fn eight(s: &[u8], at: usize) -> u64
+    requires { ⌜ at + 8 ≤ length (now s) ⌝ }
+    ensures { λ r. ⌜ r ≡ numAt 8 (now (s .entry)) at ⌝ }
+{
+    let a = two(s, at);
+    let b = two(s, at + 2);
+    let c = two(s, at + 4);
+    let d = two(s, at + 6);
+    (a * 0x1_0000_0000_0000 + b * 0x1_0000_0000) + (c * 0x1_0000 + d)
+}
+
+// Past a decimal whose upper half shows it to be in range, or that is null: all but those that have an end's upper half.
 fn past_decimal(s: &[u8], at: usize) -> usize
     requires { ⌜ Low at ⌝ }
     ensures { λ r. ⌜ Past (now (s .entry)) at (ruled decimalFine Decimal (number 16 0) .read (now (s .entry)) at) r ⌝ }
 {
-    if s.len() < at + 4 {
+    if s.len() < at + 16 {
         return 0;
     }
-    let first = four(s, at);
-    if first < 1262177448 {
+    let upper = eight(s, at);
+    if upper < 5421010862427522170 {
         return at + 16;
     }
-    if 3032789847 < first {
+    if 13025733211282029445 < upper {
         return at + 16;
     }
-    0
+    if upper != 0x8000_0000_0000_0000 {
+        return 0;
+    }
+    if eight(s, at + 8) != 0 {
+        return 0;
+    }
+    at + 16
 }
 
-// Past a point whose numbers' first 4 bytes show them to be in range: 180.0 starts with 0x40668000, 90.0 with 0x40568000.
+// Past a point.
 fn past_point(s: &[u8], at: usize) -> usize
     requires { ⌜ Low at ⌝ }
     ensures { λ r. ⌜ Past (now (s .entry)) at (ruled pointFine Point (number 16 0) .read (now (s .entry)) at) r ⌝ }
 {
-    if s.len() < at + 12 {
+    if s.len() < at + 16 {
         return 0;
     }
-    if 0x4066_8000 <= four(s, at) % 0x8000_0000 {
-        return 0;
+    if scan::point_fine(eight(s, at), eight(s, at + 8)) {
+        return at + 16;
     }
-    if 0x4056_8000 <= four(s, at + 8) % 0x8000_0000 {
-        return 0;
-    }
-    at + 16
+    0
 }
 
 // Past a value of a wire type.
@@ -259,16 +283,17 @@ fn is_plain(s: &[u8], at: usize, plain: usize) -> bool
     four(s, at) == plain as u64
 }
 
-// Past n rows whose columns have no rule.
+// Past n rows whose columns have no rule. From a row of another length on they are read as any rows: skip_ruled so has two callers and stays a function
+// of its own, in which the compiler keeps all places in registers.
 fn skip_plain(s: &[u8], from: usize, types: &[u8], n: usize, plain: usize) -> Next
-    requires { ⌜ PlainRow (now types) plain × (0 < plain) × (plain ≤ mostPlain) ⌝ }
+    requires { ⌜ PlainRow (now types) plain × (0 < plain) × (plain ≤ mostPlain) × (length (now types) ≤ mostColumns) ⌝ }
     ensures { λ r. ⌜ r ≡ shownNext (each second 0 (replicate n (row (now (types .entry)))) .read (now (s .entry)) from) ⌝ }
 {
     let mut at = from;
     let mut i = 0;
     while i < n {
         if !is_plain(s, at, plain) {
-            return scan::skip_rows(s, at, types, n - i);
+            return skip_ruled(s, at, types, n - i);
         }
         at = at + (4 + plain);
         i += 1;

@@ -46,16 +46,16 @@ module _ (b l : ℕ) (k : l < P) where
   under : (c d : ℕ) → b < c → ltb (c * P + d) (b * P + l) ≡ false
   under c d h = le-ltb _ _ (le-of-lt (upper-less P b l c d h k))
 
-  small : b < top → decimalFine (b * P + l) ≡ true
+  pub small : b < top → decimalFine (b * P + l) ≡ true
   small h = rw (less top 687399551400673280 h)
 
-  large : bottom < b → decimalFine (b * P + l) ≡ true
+  pub large : bottom < b → decimalFine (b * P + l) ≡ true
   large h = rw (more top 687399551400673280 (omega arith) (omega arith), above bottom 17759344522308878336 (omega arith) h)
 
   between : top < b → b < bottom → (b ≡ null → ⊥) → decimalFine (b * P + l) ≡ false
   between h g n = rw (more top 687399551400673280 (omega arith) h, under bottom 17759344522308878336 g, null-upper b l k n)
 
-  at-null : b ≡ null → decimalFine (b * P + l) ≡ eqb l 0
+  pub at-null : b ≡ null → decimalFine (b * P + l) ≡ eqb l 0
   at-null e = rw (more top 687399551400673280 (omega arith) (omega arith), under bottom 17759344522308878336 (omega arith), e) (sym (null-lower l))
 
   at-top : b ≡ top → decimalFine (b * P + l) ≡ ltb l 687399551400673280

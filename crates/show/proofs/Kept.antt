@@ -13,18 +13,18 @@ use borrow.Author.Tests.{eqb-true}
 use Rattle.format.specs.Result.{Res, ok, no, bind, pick}
 use Rattle.format.specs.Number.{Bytes}
 use Rattle.format.specs.Format.{Verdict, number, ruled, into, counted}
-use Rattle.format.specs.Value.{Value, fixed, body, number-of, body-of, string, value, isColumn, mostBytes, anything, notEmpty, textRule, pointFine}
+use Rattle.format.specs.Value.{Value, fixed, body, number-of, body-of, string, value, isColumn, mostBytes, anything, notEmpty, textRule, degrees360, isNullPoint, pointFine}
 use Rattle.format.proofs.Results.{bound, ok-same, no-ok}
 use Rattle.format.proofs.Formats.{lawful-value}
 use Rattle.scan.specs.Shown.{refusal}
 use Rattle.show.specs.declared.Cell.{Cell}
 use Rattle.show.specs.declared.Shown.{Shown}
 use Rattle.scan.specs.Signed.{signed, unsigned}
-use Rattle.show.specs.Cells.{plainCell, floatCell, cellOf, typeOf, valueOf, shownAs, toldShown}
+use Rattle.show.specs.Cells.{plainCell, floatCell, positionCell, pointCell, cellOf, typeOf, valueOf, shownAs, toldShown}
 use Rattle.scan.proofs.Twos.{signed-back}
 use Rattle.show.proofs.Floats.{kept}
 use Rattle.show.proofs.Bodies.{stood}
-use Rattle.show.proofs.Values.{point-numbers}
+use Rattle.show.proofs.Values.{null-numbers, point-numbers}
 
 -- what holds of each type that a column has holds of every such type
 pub among : (P : ℕ → Type 0) → P 3 → P 4 → P 5 → P 6 → P 8 → P 9 → P 11 → P 22 → P 25 → P 26 → P 27 → (t : ℕ) → isColumn t ≡ true → P t
@@ -62,10 +62,20 @@ module _ (m : List ℕ) (at : ℕ) where
   decimal-keeps : (n : ℕ) → n < 256 ^ 16 → unsigned 8 (signed 8 (n / 2 ^ 64)) * 2 ^ 64 + n % 2 ^ 64 ≡ n
   decimal-keeps n small = ap (λ (u : ℕ). u * 2 ^ 64 + n % 2 ^ 64) (signed-back 8 (n / 2 ^ 64) (upper-lt n small)) ∙ div-add-mod' n (2 ^ 64)
 
-  point-keeps : (n : ℕ) → n < 256 ^ 16 → pointFine n ≡ true → toBits binary64 (ofBits binary64 (n / 2 ^ 64)) * 2 ^ 64 + toBits binary64 (ofBits binary64 (n % 2 ^ 64)) ≡ n
-  point-keeps n small fine =
-      let w = point-numbers (n / 2 ^ 64) (n % 2 ^ 64) (omega arith) (ap pointFine (div-add-mod' n (2 ^ 64)) ∙ fine) in
+  position-keeps : (n : ℕ) → n < 256 ^ 16 → pointFine n ≡ true → toBits binary64 (ofBits binary64 (n / 2 ^ 64)) * 2 ^ 64 + toBits binary64 (ofBits binary64 (n % 2 ^ 64)) ≡ n
+  position-keeps n small fine =
+      let w = point-numbers n fine in
       ap₂ (λ (a b : ℕ). a * 2 ^ 64 + b) (kept (n / 2 ^ 64) (upper-lt n small) (w .0)) (kept (n % 2 ^ 64) (omega arith) (w .1)) ∙ div-add-mod' n (2 ^ 64)
+
+  null-keeps : (n : ℕ) → isNullPoint n ≡ true → degrees360 * 2 ^ 64 + degrees360 ≡ n
+  null-keeps n null = let w = null-numbers n null in sym (ap₂ (λ (a b : ℕ). a * 2 ^ 64 + b) (w .0) (w .1)) ∙ div-add-mod' n (2 ^ 64)
+
+  point-keeps : (n : ℕ) → n < 256 ^ 16 → pointFine n ≡ true → (valueOf m (pointCell n) ≡ fixed n) × (typeOf (pointCell n) ≡ 26)
+  point-keeps n small fine = by-test (isNullPoint n) refl
+    where
+      by-test : (b : Bool) → isNullPoint n ≡ b → (valueOf m (pick b Cell.NullPoint (positionCell n)) ≡ fixed n) × (typeOf (pick b Cell.NullPoint (positionCell n)) ≡ 26)
+      by-test true e = (ap fixed (null-keeps n e), refl)
+      by-test false e = (ap fixed (position-keeps n small fine), refl)
 
   -- every bit of a good value of a fixed size is kept, whatever the numbers of its fields
   pub fixed-kept : (l b t n : ℕ) → isColumn t ≡ true → value l b t .Good (fixed n) → Keeps m t at (fixed n)
@@ -81,7 +91,7 @@ module _ (m : List ℕ) (at : ℕ) where
       (λ g. (low (signed-back 8 n (g .0 .0)), refl))
       (λ g. (ap fixed (decimal-keeps n (g .0 .0)), refl))
       (λ g. absurd (no-number (g .1)))
-      (λ g. (ap fixed (point-keeps n (g .0 .0) (g .0 .1)), refl))
+      (λ g. point-keeps n (g .0 .0) (g .0 .1))
       (λ g. absurd (no-number (g .1)))
       t
     where

@@ -13,7 +13,7 @@ use lib.Ieee.Bits.{is-true, is-false, cond-no, nanBits-is, nanBits-above}
 use lib.Ieee.Exact.{HasValue, odd-sign}
 use lib.Ieee.Fits.{down-pos, and-l}
 use lib.Ieee.Order.{transfer}
-use Rattle.format.specs.Value.{pointFine}
+use Rattle.format.specs.Value.{isPosition}
 
 -- from -k to k, where k is given by its bits
 abbrev pub inRange : ℕ → Float → Bool
@@ -242,6 +242,6 @@ within-bits k b l =
           | inr m ↦ nan-out (ofBits binary64 k) (ofBits binary64 b) (subst T (sym (nanBits-above binary64 b) ∙ nanBits-is binary64 b) (lt→ltb (2047 * hid) (b % top) m))
         ]
 
--- longitude from -180 to 180, latitude from -90 to 90
-pub point-range : (n : ℕ) → pointFine n ≡ (inRange 0x4066800000000000 (ofBits binary64 (n / 2 ^ 64)) && inRange 0x4056800000000000 (ofBits binary64 (n % 2 ^ 64)))
-point-range n = sym (ap₂ _&&_ (within-bits 0x4066800000000000 (n / 2 ^ 64) (lit< tt)) (within-bits 0x4056800000000000 (n % 2 ^ 64) (lit< tt)))
+-- a position by its numbers: longitude from -180 to 180, latitude from -90 to 90
+pub position-range : (n : ℕ) → isPosition n ≡ (inRange 0x4066800000000000 (ofBits binary64 (n / 2 ^ 64)) && inRange 0x4056800000000000 (ofBits binary64 (n % 2 ^ 64)))
+position-range n = sym (ap₂ _&&_ (within-bits 0x4066800000000000 (n / 2 ^ 64) (lit< tt)) (within-bits 0x4056800000000000 (n % 2 ^ 64) (lit< tt)))

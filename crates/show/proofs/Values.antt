@@ -1,24 +1,24 @@
 -- How a value of a wire type is shown, type by type.
-use Prim.Native.Nat.{ℕ, _+_, _*_, _%_, _^_, _<_, _≤_}
+use Prim.Native.Nat.{ℕ, _+_, _*_, _/_, _%_, _^_, _<_, _≤_}
 use mathlib.Core.Path.{_≡_, refl, sym, _∙_, ap}
-use mathlib.Core.Bool.{true, false}
+use mathlib.Core.Bool.{Bool, true, false}
 use mathlib.Core.List.{List}
 use mathlib.Core.Logic.{_⊎_, ⊎-elim}
-use lib.Dec.{eqb}
+use lib.Dec.{eqb, lit≤}
 use lib.Arith.{digits-div, digits-mod}
 use lib.Ieee.{binary64, ofBits, nanBits}
 use native.Mathlib.Omega.{arith}
-use borrow.Author.Tests.{leb-true}
+use borrow.Author.Tests.{leb-true, eqb-true}
 use Rattle.format.specs.declared.Fault.the-variants.{Decimal, Point}
 use Rattle.format.specs.Result.{Res, ok, no, bind, pick}
 use Rattle.format.specs.Format.{Format, number, ruled, into}
-use Rattle.format.specs.Value.{fixed, body, number-of, body-of, value, string, ruleOf, isCounted, widthOf, fixedFine, decimalFine, pointFine, within}
-use Rattle.format.proofs.Results.{and-true-both}
+use Rattle.format.specs.Value.{fixed, body, number-of, body-of, value, string, ruleOf, isCounted, widthOf, fixedFine, decimalFine, degrees360, isPosition, isNullPoint, pointFine, within}
+use Rattle.format.proofs.Results.{and-true-both, or-true}
 use Rattle.scan.proofs.Steps.{ruled-any}
 use Rattle.show.specs.declared.Cell.{Cell}
 use Rattle.show.specs.declared.Shown.{Shown}
 use Rattle.scan.specs.Signed.{signed}
-use Rattle.show.specs.Cells.{plainCell, decimalCell, pointCell, fixedCell, bodyCell, cellOf, shownAs}
+use Rattle.show.specs.Cells.{plainCell, decimalCell, positionCell, pointCell, fixedCell, bodyCell, cellOf, shownAs}
 use Rattle.show.proofs.Floats.{no-nan}
 
 -- a reading put into a value is shown as the value is
@@ -75,13 +75,37 @@ module _ (hi lo : ℕ) (small : lo < 2 ^ 64) where
   pub decimal-halves : decimalCell (hi * 2 ^ 64 + lo) ≡ Cell.Decimal (signed 8 hi) lo
   decimal-halves = rw (digits-div hi small, digits-mod hi small)
 
-  pub point-halves : pointCell (hi * 2 ^ 64 + lo) ≡ Cell.Point (ofBits binary64 hi) (ofBits binary64 lo)
-  point-halves = rw (digits-div hi small, digits-mod hi small)
+  pub position-halves : isNullPoint (hi * 2 ^ 64 + lo) ≡ false → pointCell (hi * 2 ^ 64 + lo) ≡ Cell.Point (ofBits binary64 hi) (ofBits binary64 lo)
+  position-halves other =
+      ap (λ (b : Bool). pick b Cell.NullPoint (positionCell (hi * 2 ^ 64 + lo))) other ∙ rw (digits-div hi small, digits-mod hi small)
+
+pub null-cell : (n : ℕ) → isNullPoint n ≡ true → pointCell n ≡ Cell.NullPoint
+null-cell n null = ap (λ (b : Bool). pick b Cell.NullPoint (positionCell n)) null
+
+-- the numbers of a null point
+pub null-numbers : (n : ℕ) → isNullPoint n ≡ true → (n / 2 ^ 64 ≡ degrees360) × (n % 2 ^ 64 ≡ degrees360)
+null-numbers n null =
+    let w = and-true-both (eqb (n / 2 ^ 64) degrees360) (eqb (n % 2 ^ 64) degrees360) null in
+    (eqb-true _ _ (w .0), eqb-true _ _ (w .1))
+
+-- what lies within a range is a number
+within-number : (most b : ℕ) → most ≤ 0x7ff0000000000000 → within most b ≡ true → nanBits binary64 b ≡ false
+within-number most b small is = let low : b % 2 ^ 63 ≤ most = leb-true _ _ is in no-nan b (omega arith)
 
 -- the halves of a point are numbers
-pub point-numbers : (x y : ℕ) → y < 2 ^ 64 → pointFine (x * 2 ^ 64 + y) ≡ true → (nanBits binary64 x ≡ false) × (nanBits binary64 y ≡ false)
-point-numbers x y small e =
-    let w = and-true-both (within 0x4066800000000000 x) (within 0x4056800000000000 y) (rw (digits-div x small, digits-mod x small) at e) in
-    let a : x % 2 ^ 63 ≤ 0x4066800000000000 = leb-true _ _ (w .0) in
-    let b : y % 2 ^ 63 ≤ 0x4056800000000000 = leb-true _ _ (w .1) in
-    (no-nan x (omega arith), no-nan y (omega arith))
+pub point-numbers : (n : ℕ) → pointFine n ≡ true → (nanBits binary64 (n / 2 ^ 64) ≡ false) × (nanBits binary64 (n % 2 ^ 64) ≡ false)
+point-numbers n e = ⊎-elim position null (or-true (isPosition n) (isNullPoint n) e)
+  where
+    Numbers : Type 0
+    Numbers = (nanBits binary64 (n / 2 ^ 64) ≡ false) × (nanBits binary64 (n % 2 ^ 64) ≡ false)
+
+    position : isPosition n ≡ true → Numbers
+    position is =
+        let w = and-true-both (within 0x4066800000000000 (n / 2 ^ 64)) (within 0x4056800000000000 (n % 2 ^ 64)) is in
+        (within-number _ (n / 2 ^ 64) (lit≤ tt) (w .0), within-number _ (n % 2 ^ 64) (lit≤ tt) (w .1))
+
+    null : isNullPoint n ≡ true → Numbers
+    null is = let w = null-numbers n is in rw (w .0, w .1) (no-nan degrees360 (lit≤ tt), no-nan degrees360 (lit≤ tt))
+
+pub halves-numbers : (x y : ℕ) → y < 2 ^ 64 → pointFine (x * 2 ^ 64 + y) ≡ true → (nanBits binary64 x ≡ false) × (nanBits binary64 y ≡ false)
+halves-numbers x y small e = rw (digits-div x small, digits-mod x small) at (point-numbers (x * 2 ^ 64 + y) e)

@@ -6,7 +6,7 @@ use lib.ListN.{length, take, drop}
 use lib.Dec.{eqb}
 use lib.Ieee.{Float, binary64, ofBits, toBits, nanBits}
 use Rattle.format.specs.Result.{Res, ok, no, pick}
-use Rattle.format.specs.Value.{Value, fixed, body, tTinyint, tSmallint, tInteger, tBigint, tFloat, tString, tTimestamp, tDecimal, tVarbinary, tPoint, tGeography}
+use Rattle.format.specs.Value.{Value, fixed, body, tTinyint, tSmallint, tInteger, tBigint, tFloat, tString, tTimestamp, tDecimal, tVarbinary, tPoint, tGeography, degrees360, isNullPoint}
 use Rattle.scan.specs.Shown.{refusal}
 use Rattle.scan.specs.Signed.{signed, unsigned}
 use Rattle.show.specs.declared.Cell.{Cell}
@@ -27,12 +27,15 @@ plainCell t n =
     (pick (eqb t tTimestamp) (Cell.Timestamp (signed 8 n))
     (Cell.Bigint (signed 8 n))))))
 
--- a decimal is its upper 64 bits, with the sign, and its lower 64; a point is two floats
+-- a decimal is its upper 64 bits, with the sign, and its lower 64; a point is two floats, or null
 abbrev pub decimalCell : ℕ → Cell
 decimalCell n = Cell.Decimal (signed 8 (n / 2 ^ 64)) (n % 2 ^ 64)
 
+abbrev pub positionCell : ℕ → Cell
+positionCell n = Cell.Point (ofBits binary64 (n / 2 ^ 64)) (ofBits binary64 (n % 2 ^ 64))
+
 abbrev pub pointCell : ℕ → Cell
-pointCell n = Cell.Point (ofBits binary64 (n / 2 ^ 64)) (ofBits binary64 (n % 2 ^ 64))
+pointCell n = pick (isNullPoint n) Cell.NullPoint (positionCell n)
 
 -- a value of a fixed size
 abbrev pub fixedCell : ℕ → ℕ → Cell
@@ -78,6 +81,7 @@ rawOf (Cell.Float x) = Raw.Bits tFloat 0 (toBits binary64 x)
 rawOf (Cell.FloatBits bits) = Raw.Bits tFloat 0 bits
 rawOf (Cell.Decimal upper lower) = Raw.Bits tDecimal (unsigned 8 upper) lower
 rawOf (Cell.Point longitude latitude) = Raw.Bits tPoint (toBits binary64 longitude) (toBits binary64 latitude)
+rawOf Cell.NullPoint = Raw.Bits tPoint degrees360 degrees360
 rawOf (Cell.Text start size) = Raw.Body tString start size
 rawOf Cell.NullText = Raw.Null tString
 rawOf (Cell.Binary start size) = Raw.Body tVarbinary start size

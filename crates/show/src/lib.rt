@@ -15,7 +15,8 @@ ghost use Rattle.scan.specs.Shown.{shownBody};
 ghost use Rattle.show.specs.Cells.{floatCell, plainCell, decimalCell, pointCell, partCell, nullCell, bodyCell, cellOf, shownAs, rawOf};
 ghost use Rattle.show.specs.Parts.{IsPart};
 
-// A value of a wire type. Text, varbinary and geography are where their bytes start and how many they are, or null.
+// A value of a wire type. Text, varbinary and geography are where their bytes start and how many they are, or null. Nulls have cases of their own, but
+// for decimals: a null one is shown by its halves.
 pub enum Cell {
     Tinyint(i8),
     Smallint(i16),
@@ -29,6 +30,7 @@ pub enum Cell {
     Decimal(i64, u64),
     // longitude and latitude
     Point(f64, f64),
+    NullPoint,
     Text(usize, usize),
     NullText,
     Binary(usize, usize),
@@ -108,6 +110,9 @@ fn read_point(s: &[u8], at: usize) -> Shown
             fault: Fault::Point,
             place: at,
         });
+    }
+    if scan::is_null_point(longitude, latitude) {
+        return Shown::Is(Cell::NullPoint, next);
     }
     Shown::Is(
         Cell::Point(f64::from_bits(longitude), f64::from_bits(latitude)),
@@ -194,6 +199,7 @@ pub fn raw_of(c: Cell) -> Raw
         Cell::FloatBits(bits) => Raw::Bits(format::FLOAT, 0, bits),
         Cell::Decimal(upper, lower) => Raw::Bits(format::DECIMAL, scan::unsigned64(upper), lower),
         Cell::Point(x, y) => Raw::Bits(format::POINT, float_bits(x), float_bits(y)),
+        Cell::NullPoint => { Raw::Bits(format::POINT, format::DEGREES_360, format::DEGREES_360) }
         Cell::Text(start, size) => Raw::Body(format::STRING, start, size),
         Cell::NullText => Raw::Null(format::STRING),
         Cell::Binary(start, size) => Raw::Body(format::VARBINARY, start, size),

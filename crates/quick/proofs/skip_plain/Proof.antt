@@ -25,14 +25,14 @@ loop-holds c =
 is-plain-requires : tie.Need-is-plain-requires Inv-loop μ-loop
 is-plain-requires c κs = search needs
 
-sub-skip-rows : tie.Need-sub-skip-rows Inv-loop μ-loop
-sub-skip-rows c = search needs
+sub-skip-ruled : tie.Need-sub-skip-ruled Inv-loop μ-loop
+sub-skip-ruled c = search needs
 
-skip-rows-requires : tie.Need-skip-rows-requires Inv-loop μ-loop
-skip-rows-requires c κs = search needs
+skip-ruled-requires : tie.Need-skip-ruled-requires Inv-loop μ-loop
+skip-ruled-requires c κs = search needs
 
 returns : tie.Need-returns Inv-loop μ-loop
-returns c = c .skip-rows .ensures ∙ c .before .before .before .before .loop .inv .1
+returns c = c .skip-ruled .ensures ∙ c .before .before .before .before .loop .inv .1
 
 add-at : tie.Need-add-at Inv-loop μ-loop
 add-at c = search needs
@@ -71,8 +71,8 @@ skip-plain-spec =
     μ-loop
     loop-holds
     is-plain-requires
-    sub-skip-rows
-    skip-rows-requires
+    sub-skip-ruled
+    skip-ruled-requires
     returns
     add-at
     add-at-2

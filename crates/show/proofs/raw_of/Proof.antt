@@ -65,23 +65,26 @@ float-bits-requires-2 c κs = search needs
 float-bits-requires-3 : tie.Need-float-bits-requires-3
 float-bits-requires-3 c κs = search needs
 
-enum-known-c-10 : tie.Need-enum-known-c-10
-enum-known-c-10 c = search needs
-
 enum-told : tie.Need-enum-told
 enum-told c = search needs
 
-enum-known-c-11 : tie.Need-enum-known-c-11
-enum-known-c-11 c = search needs
+enum-known-c-10 : tie.Need-enum-known-c-10
+enum-known-c-10 c = search needs
 
 enum-told-2 : tie.Need-enum-told-2
 enum-told-2 c = search needs
 
-enum-known-c-12 : tie.Need-enum-known-c-12
-enum-known-c-12 c = search needs
+enum-known-c-11 : tie.Need-enum-known-c-11
+enum-known-c-11 c = search needs
 
 enum-told-3 : tie.Need-enum-told-3
 enum-told-3 c = search needs
+
+enum-known-c-12 : tie.Need-enum-known-c-12
+enum-known-c-12 c = search needs
+
+enum-told-4 : tie.Need-enum-told-4
+enum-told-4 c = search needs
 
 returns : tie.Need-returns
 returns c =
@@ -129,22 +132,25 @@ returns-9 : tie.Need-returns-9
 returns-9 c = ap₂ (Raw.Bits tPoint) (c .before .float-bits2 .ensures) (c .float-bits3 .ensures) ∙ sym (ap rawOf (c .before .before .before .c9 .given .1))
 
 returns-10 : tie.Need-returns-10
-returns-10 c = sym (ap rawOf (c .before .c10 .given .1))
+returns-10 c = sym (ap rawOf (c .enum-told .given .1))
 
 returns-11 : tie.Need-returns-11
-returns-11 c = sym (ap rawOf (c .enum-told .given .1))
+returns-11 c = sym (ap rawOf (c .before .c10 .given .1))
 
 returns-12 : tie.Need-returns-12
-returns-12 c = sym (ap rawOf (c .before .c11 .given .1))
+returns-12 c = sym (ap rawOf (c .enum-told2 .given .1))
 
 returns-13 : tie.Need-returns-13
-returns-13 c = sym (ap rawOf (c .enum-told2 .given .1))
+returns-13 c = sym (ap rawOf (c .before .c11 .given .1))
 
 returns-14 : tie.Need-returns-14
-returns-14 c = sym (ap rawOf (c .before .c12 .given .1))
+returns-14 c = sym (ap rawOf (c .enum-told3 .given .1))
 
 returns-15 : tie.Need-returns-15
-returns-15 c = sym (ap rawOf (c .enum-told3 .given .1))
+returns-15 c = sym (ap rawOf (c .before .c12 .given .1))
+
+returns-16 : tie.Need-returns-16
+returns-16 c = sym (ap rawOf (c .enum-told4 .given .1))
 
 pub raw-of-spec : {M : Type 1} → statement M
 raw-of-spec =
@@ -168,12 +174,13 @@ raw-of-spec =
     enum-known-c-9
     float-bits-requires-2
     float-bits-requires-3
-    enum-known-c-10
     enum-told
-    enum-known-c-11
+    enum-known-c-10
     enum-told-2
-    enum-known-c-12
+    enum-known-c-11
     enum-told-3
+    enum-known-c-12
+    enum-told-4
     returns
     returns-2
     returns-3
@@ -188,4 +195,5 @@ raw-of-spec =
     returns-12
     returns-13
     returns-14
-    returns-15)
+    returns-15
+    returns-16)
