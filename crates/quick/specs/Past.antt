@@ -9,7 +9,7 @@ use Rattle.format.specs.Result.{Res, pick}
 use Rattle.format.specs.Number.{numAt, null4}
 use Rattle.format.specs.Format.{Format, each}
 use Rattle.format.specs.Value.{value, widthOf, mostBytes, tDecimal, tPoint}
-use Rattle.format.specs.Message.{second, third, mostColumns}
+use Rattle.format.specs.Message.{second, third, row, mostColumns}
 use Rattle.scan.specs.declared.Next.{Next}
 use Rattle.scan.specs.Shown.{shownNext}
 use Rattle.quick.specs.declared.Run.{Run}
@@ -67,3 +67,7 @@ module _ {A : Type 0} (f : Format A) (s : List ℕ) where
   -- after some of n readings, those that are left end where all do
   abbrev pub RunOf : ℕ → ℕ → Run → Type 0
   RunOf from n r = (r .rows ≤ n) × (Ends (n - r .rows) (r .at) ≡ Ends n from)
+
+-- the same of rows of so many bytes, whatever their types, if any such bytes are their cells
+abbrev pub PlainRun : List ℕ → ℕ → ℕ → ℕ → Run → Type 0
+PlainRun s from n plain r = (r .rows ≤ n) × ((types : List ℕ) → PlainRow types plain → Ends (row types) s (n - r .rows) (r .at) ≡ Ends (row types) s n from)

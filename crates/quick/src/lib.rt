@@ -13,7 +13,7 @@ ghost use Rattle.format.specs.Format.{each, number, ruled};
 ghost use Rattle.format.specs.Value.{value, string, notEmpty, decimalFine, pointFine};
 ghost use Rattle.format.specs.Message.{second, third, row, mostColumns};
 ghost use Rattle.scan.specs.Shown.{shownNext};
-ghost use Rattle.quick.specs.Past.{Low, Past, PastBody, PlainRow, RowOf, RunOf, Surely, Within, mostPlain, plainOf, sizeOf};
+ghost use Rattle.quick.specs.Past.{Low, Past, PastBody, PlainRow, PlainRun, RowOf, RunOf, Surely, Within, mostPlain, plainOf, sizeOf};
 
 // A byte as a number.
 fn wide(b: u8) -> u64
@@ -283,25 +283,24 @@ fn is_plain(s: &[u8], at: usize, plain: usize) -> bool
     four(s, at) == plain as u64
 }
 
-// Past n rows whose columns have no rule. From a row of another length on they are read as any rows: skip_ruled so has two callers and stays a function
-// of its own, in which the compiler keeps all places in registers.
-fn skip_plain(s: &[u8], from: usize, types: &[u8], n: usize, plain: usize) -> Next
-    requires { ⌜ PlainRow (now types) plain × (0 < plain) × (plain ≤ mostPlain) × (length (now types) ≤ mostColumns) ⌝ }
-    ensures { λ r. ⌜ r ≡ shownNext (each second 0 (replicate n (row (now (types .entry)))) .read (now (s .entry)) from) ⌝ }
+// Past as many of n rows as have so many bytes. No row is asked more whose columns have no rule.
+fn plain_rows(s: &[u8], from: usize, n: usize, plain: usize) -> Run
+    requires { ⌜ (0 < plain) × (plain ≤ mostPlain) ⌝ }
+    ensures { λ r. ⌜ PlainRun (now (s .entry)) from n plain r ⌝ }
 {
     let mut at = from;
     let mut i = 0;
     while i < n {
         if !is_plain(s, at, plain) {
-            return skip_ruled(s, at, types, n - i);
+            return Run { rows: i, at: at };
         }
         at = at + (4 + plain);
         i += 1;
     }
-    Next::At(at)
+    Run { rows: i, at: at }
 }
 
-// Past n rows.
+// Past n rows. As skip_ruled has two callers it stays a function of its own, in which the compiler keeps all places in registers.
 pub fn skip_rows(s: &[u8], from: usize, types: &[u8], n: usize) -> Next
     ensures { λ r. ⌜ r ≡ shownNext (each second 0 (replicate n (row (now (types .entry)))) .read (now (s .entry)) from) ⌝ }
 {
@@ -312,5 +311,9 @@ pub fn skip_rows(s: &[u8], from: usize, types: &[u8], n: usize) -> Next
     if plain == 0 {
         return skip_ruled(s, from, types, n);
     }
-    skip_plain(s, from, types, n, plain)
+    let run = plain_rows(s, from, n, plain);
+    if run.rows == n {
+        return Next::At(run.at);
+    }
+    skip_ruled(s, run.at, types, n - run.rows)
 }
