@@ -92,7 +92,8 @@ fn eight(s: &[u8], at: usize) -> u64
     (a * 0x1_0000_0000_0000 + b * 0x1_0000_0000) + (c * 0x1_0000 + d)
 }
 
-// Past a decimal whose upper half shows it to be in range, or that is null: all but those that have an end's upper half.
+// Past a decimal whose upper half shows it to be in range, or that is null: all but those that have the upper half of 10^38, 5421010862427522170, or
+// of -10^38, 13025733211282029445 without a sign.
 fn past_decimal(s: &[u8], at: usize) -> usize
     requires { ⌜ Low at ⌝ }
     ensures { λ r. ⌜ Past (now (s .entry)) at (ruled decimalFine Decimal (number 16 0) .read (now (s .entry)) at) r ⌝ }

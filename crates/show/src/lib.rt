@@ -199,7 +199,7 @@ pub fn raw_of(c: Cell) -> Raw
         Cell::FloatBits(bits) => Raw::Bits(format::FLOAT, 0, bits),
         Cell::Decimal(upper, lower) => Raw::Bits(format::DECIMAL, scan::unsigned64(upper), lower),
         Cell::Point(x, y) => Raw::Bits(format::POINT, float_bits(x), float_bits(y)),
-        Cell::NullPoint => { Raw::Bits(format::POINT, format::DEGREES_360, format::DEGREES_360) }
+        Cell::NullPoint => Raw::Bits(format::POINT, format::DEGREES_360, format::DEGREES_360),
         Cell::Text(start, size) => Raw::Body(format::STRING, start, size),
         Cell::NullText => Raw::Null(format::STRING),
         Cell::Binary(start, size) => Raw::Body(format::VARBINARY, start, size),
