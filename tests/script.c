@@ -172,6 +172,36 @@ static void show(void) {
     printf("%lu %s\n", state[1], size == 0 ? "-" : hex);
 }
 
+static uint32_t table[256];
+
+static void make_table(void) {
+    for (uint32_t b = 0; b < 256; b++) {
+        table[b] = b;
+        for (int i = 0; i < 8; i++) table[b] = table[b] >> 1 ^ (table[b] & 1 ? 0xedb88320 : 0);
+    }
+}
+
+/* The CRC-32 of the buffer, as zip files have it. */
+static uint32_t checksum(void) {
+    uint32_t sum = UINT32_MAX;
+    for (size_t i = 0; i < size; i++) sum = sum >> 8 ^ table[(sum ^ out[i]) & 255];
+    return ~sum;
+}
+
+/* The stage, the position, what is open at that stage, and the buffer's checksum. */
+static void print_left(void) {
+    enum { CALL = 1, ARRAY = 2, TABLE = 4, ROW = 5 };
+    uint64_t stage = state[0], columns = state[10];
+    bool in_table = stage == TABLE || stage == ROW;
+    printf("%lu %lu", stage, state[1]);
+    if (stage >= CALL && stage <= ROW) printf(" %lu %lu", state[2], state[3]);
+    if (stage == ARRAY) printf(" %lu %lu %lu", state[4], state[5], state[6]);
+    if (stage == ROW) printf(" %lu %lu", state[4], state[6]);
+    if (in_table) printf(" %lu %lu %lu ", state[7], state[8], state[9]);
+    for (size_t i = 0; in_table && i < columns && i < CHALOENPIK_TYPES; i++) printf("%02x", types[i]);
+    printf(" %08x\n", checksum());
+}
+
 static uint64_t stepped(uint8_t name) {
     switch (name) {
     case LOGIN: return login();
@@ -195,19 +225,31 @@ static uint64_t stepped(uint8_t name) {
     }
 }
 
+/* Takes a step, and says what it answers and what it left. A refusal must leave every number of the state and every type as it was. */
+static void step(uint8_t name) {
+    uint64_t state_before[CHALOENPIK_STATE];
+    uint8_t types_before[CHALOENPIK_TYPES];
+    memcpy(state_before, state, sizeof state);
+    memcpy(types_before, types, sizeof types);
+    uint64_t answer = stepped(name);
+    if (chaloenpik_refusal(answer) == 0) printf("fine\n");
+    else {
+        printf("refused %u %lu\n", chaloenpik_refusal(answer), chaloenpik_value(answer));
+        if (memcmp(state_before, state, sizeof state) != 0 || memcmp(types_before, types, sizeof types) != 0) printf("changed by a refusal\n");
+    }
+    print_left();
+}
+
 static void one(uint8_t name) {
     if (name == BUFFER) buffer();
     else if (name == FORGE) forge();
     else if (name == SHOW) show();
-    else {
-        uint64_t answer = stepped(name);
-        if (chaloenpik_refusal(answer) == 0) printf("fine\n");
-        else printf("refused %u %lu\n", chaloenpik_refusal(answer), chaloenpik_value(answer));
-    }
+    else step(name);
 }
 
 int main(void) {
     uint8_t head[4];
+    make_table();
     while (fread(head, 1, sizeof head, stdin) == sizeof head) {
         next = head, end = head + sizeof head;
         size_t bytes = big_endian(4);

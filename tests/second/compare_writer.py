@@ -3,7 +3,7 @@
 
 Half of the scripts spell a made-up record, into a buffer that is long enough or a little too short, and try refused points before its
 points; the others take wild steps, with wrong arguments, out of order and on forged states. What `script` answers must be what the second
-writer does, line by line.
+writer does, line by line: after each step the whole state and the buffer too.
 """
 
 import pathlib
@@ -35,10 +35,10 @@ def main():
     found = subprocess.run(RUN, input=data, stdout=subprocess.PIPE, check=True).stdout.decode().splitlines()
     counts, at = Counter(), 0
     for number, script in enumerate(scripts):
-        expected = [told(answer) for answer in steps.run(script)[0]]
+        expected = [told(line) for line in steps.lines(script)]
         if found[at:at + len(expected)] != expected:
             return report(number, script, expected, found[at:at + len(expected)])
-        counts.update(a.split()[1] if a.startswith("refused") else "fine" for a in expected[:-1])
+        counts.update(line.split()[1] if line.startswith("refused") else line for line in expected if line.startswith(("refused", "fine")))
         at += len(expected)
     if found[at:]:
         print("compare_writer: DIFFERENCE: %d lines too many" % len(found[at:]))

@@ -18,7 +18,7 @@ commas between its entries, `-` if empty.
     show                                                the position, and the buffer's bytes
 
 What is answered, a line a step: `fine`, or `refused NUMBER PLACE`; for `buffer` and `forge` nothing; for `show` the position, a space
-and the buffer in hexadecimal.
+and the buffer in hexadecimal. A program prints after each step's answer a line with what it left (`left`).
 
 For a program, `packed` makes each step a frame (frames.py): a byte that names the step (its place in NAMES), then its arguments: a
 number as 8 bytes; bytes as a length of 4 bytes (-1 null) and the bytes; a value as its wire type and a byte, 0 before 16 bytes of a number
@@ -26,11 +26,12 @@ and 1 before bytes; columns as their number in 4 bytes, then for each its type a
 """
 
 import struct
+import zlib
 
 import encoder
 import writer
 from wire import *
-from writer import Bits, No, State
+from writer import ARRAY_OPEN, CALL, ROW_OPEN, TABLE_OPEN, Bits, No, State
 
 WHOLE = {"login": writer.write_login, "login_reply": writer.write_login_reply}
 BEGINNINGS = {"begin_invocation": writer.begin_invocation, "begin_reply": writer.begin_reply}
@@ -38,7 +39,8 @@ STEPS = {step.__name__: step for step in (
     writer.add_null, writer.add_value, writer.add_byte_array, writer.open_array, writer.add_element, writer.close_array,
     writer.finish_invocation, writer.open_table, writer.open_row, writer.add_cell, writer.close_row, writer.close_table,
     writer.finish_reply)}
-NAMES = ("buffer", "forge", "show", *WHOLE, *BEGINNINGS, *STEPS)
+NO_STEPS = ("buffer", "forge", "show")
+NAMES = (*NO_STEPS, *WHOLE, *BEGINNINGS, *STEPS)
 NO_STATE = State(writer.CLOSED, 0)
 
 
@@ -46,16 +48,17 @@ def fresh(size):
     return bytes(i % 251 for i in range(size))
 
 
-def run(script):
-    """The answers of the second writer, and the state and the buffer that it leaves."""
-    state, buffer, answers = NO_STATE, b"", []
+def walked(script):
+    """After each step, the answer of the second writer, and the state and the buffer that it leaves. What is no step has no answer."""
+    state, buffer = NO_STATE, b""
     for name, arguments in script:
+        answer = None
         if name == "buffer":
             state, buffer = NO_STATE, fresh(*arguments)
         elif name == "forge":
             state = forged(*arguments)
         elif name == "show":
-            answers.append("%d %s" % (state.position, buffer.hex() or "-"))
+            answer = "%d %s" % (state.position, buffer.hex() or "-")
         else:
             try:
                 if name in WHOLE:
@@ -64,10 +67,42 @@ def run(script):
                     state, buffer = BEGINNINGS[name](buffer, *arguments)
                 else:
                     state, buffer = STEPS[name](state, buffer, *arguments)
-                answers.append("fine")
+                answer = "fine"
             except No as no:
-                answers.append("refused %d %d" % no.answer)
+                answer = "refused %d %d" % no.answer
+        yield answer, state, buffer
+
+
+def run(script):
+    """The answers of the second writer, and the state and the buffer that it leaves."""
+    answers, state, buffer = [], NO_STATE, b""
+    for answer, state, buffer in walked(script):
+        if answer is not None:
+            answers.append(answer)
     return answers, state, buffer
+
+
+def lines(script):
+    """What a program must print for a script: each answer and, after that of a step, what it left."""
+    for (name, _), (answer, state, buffer) in zip(script, walked(script)):
+        if answer is not None:
+            yield answer
+        if name not in NO_STEPS:
+            yield left(state, buffer)
+
+
+def left(state, buffer):
+    """The stage, the position, what is open at that stage, and the buffer's checksum."""
+    s, words = state, [state.stage, state.position]
+    if CALL <= s.stage <= ROW_OPEN:
+        words += [s.count_at, s.count]
+    if s.stage == ARRAY_OPEN:
+        words += [s.inner_at, s.inner_type % 2**64, s.inner_count]
+    if s.stage == ROW_OPEN:
+        words += [s.inner_at, s.inner_count]
+    if s.stage in (TABLE_OPEN, ROW_OPEN):
+        words += [s.table_at, s.rows_at, s.rows, bytes(t % 256 for t in s.types[:MOST_COLUMNS]).hex()]
+    return " ".join(map(str, words)) + " %08x" % zlib.crc32(buffer)
 
 
 def forged(*fields):

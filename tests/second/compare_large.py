@@ -1,0 +1,80 @@
+#!/usr/bin/env python3
+"""Runs tools/explain/fields.c, which asks the exported functions, and the second reader over messages at the limits.
+
+The longest reply, the longest row and the most elements, with null points among the values, and each with its last null point spoiled; a reply
+and a row with one byte more. Answers and field lists must be equal.
+"""
+
+import array
+import pathlib
+import struct
+import subprocess
+import sys
+
+from encoder import encode
+from reader import Refused, read
+from wire import *
+
+ROOT = pathlib.Path(__file__).resolve().parents[2]
+RUN = [ROOT / "tools" / "c" / "kit", "run", ROOT / "target" / "tests" / "fields"]
+NULL_BYTES = struct.pack(">dd", *NULL_POINT)
+POINTS = (None, (180.0, -90.0), (-180.0, 90.0))
+
+
+def main():
+    for what, kind, message in messages():
+        expected, found = by_reader(kind, message), by_library(kind, message)
+        if expected != found:
+            print("compare_large: DIFFERENCE in %s: second reader: %s; library: %s" % (what, str(expected)[:200], str(found)[:200]))
+            return 1
+        answer = "refused %d at %d" % expected if isinstance(expected, tuple) else "%d fields" % (len(expected) // 6)
+        print("compare_large: %s, %d bytes: %s" % (what, len(message), answer))
+    return 0
+
+
+def messages():
+    for what, kind, message in (("the longest reply", REPLY, longest_reply(0)), ("the longest row", REPLY, longest_row(0)), ("the most elements", INVOCATION, most_elements())):
+        at = message.rindex(NULL_BYTES)
+        yield what, kind, message
+        yield what + ", its last null point turned", kind, message[:at] + b"\xc0" + message[at + 1:]
+    yield "a longer reply", REPLY, longest_reply(1)
+    yield "a longer row", REPLY, longest_row(1)
+
+
+def longest_reply(more):
+    rows = [[POINTS[k % 3], NULL_DECIMAL, b"x" * 1000] for k in range(4000)]
+    rows[-1][2] += b"x" * (MOST_MESSAGE + 4 + more - len(reply([POINT, DECIMAL, STRING], rows)))
+    return reply([POINT, DECIMAL, STRING], rows)
+
+
+def longest_row(more):
+    """Two counted values and a point have 24 bytes beside those of the bodies."""
+    return reply([STRING, VARBINARY, POINT], [[b"x" * MOST_BODY, b"x" * (MOST_ROW + more - 24 - MOST_BODY), None]])
+
+
+def most_elements():
+    points = [POINTS[k % 3] for k in range(MOST_ITEMS)]
+    return encode(INVOCATION, {"version": 1, "procedure": b"Track", "client_data": bytes(8), "parameters": [(ARRAY, (POINT, points))]})
+
+
+def reply(types, rows):
+    tables = [{"status": 0, "types": types, "names": [b"C"] * len(types), "rows": rows}]
+    return encode(REPLY, {"version": 1, "client_data": bytes(8), "flags": 0, "status": 1, "application": -128, "round_trip": 0, "tables": tables})
+
+
+def by_reader(kind, message):
+    try:
+        fields = read(kind, message)[1]
+    except Refused as no:
+        return no.number, no.place
+    return array.array("I", (number for field in fields for number in field))
+
+
+def by_library(kind, message):
+    out = subprocess.run(RUN, input=bytes([kind]) + message, stdout=subprocess.PIPE, check=True).stdout
+    answer = int.from_bytes(out[:8], "little")
+    return array.array("I", out[8:]) if answer % 256 == 0 else (answer % 256, answer >> 8)
+
+
+if __name__ == "__main__":
+    sys.exit(main())
