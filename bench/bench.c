@@ -11,7 +11,7 @@
 #include <stdlib.h>
 #include <time.h>
 
-enum { MOST_SIZE = MOST_MESSAGE + 4, MOST_RUNS = 31, LEAST_BYTES_A_RUN = 1 << 20 };
+enum { MOST_SIZE = MOST_MESSAGE + 4, MOST_RUNS = 31, LEAST_BYTES_A_RUN = 1 << 20, LEAST_NS_A_RUN = 20000 };
 
 /* The longest list is one of cells of one byte, with a row length for each. */
 enum { MOST_NUMBERS = 6 * 2200000 };
@@ -19,7 +19,7 @@ enum { MOST_NUMBERS = 6 * 2200000 };
 static uint8_t message[MOST_SIZE], plain_message[MOST_SIZE], proved_message[MOST_SIZE];
 static uint64_t plain_list[MOST_NUMBERS], proved_list[MOST_NUMBERS];
 static uint64_t plain_numbers[4], proved_numbers[4];
-static size_t last_row, last_column;
+static size_t last_row, last_column, copied;
 
 static double now_ns(void) {
     struct timespec t;
@@ -27,8 +27,8 @@ static double now_ns(void) {
     return (double)t.tv_sec * 1e9 + (double)t.tv_nsec;
 }
 
-/* One thing to ask of a message, of the plain program and of the proved one. The answers must be equal, and so must what they wrote.
-   `ready` says whether it is to be asked of that message at all. */
+/* One thing to ask of a message or an area, of the plain program and of the proved one. The answers must be equal, and so must what they
+   wrote. `ready` says whether it is to be asked of that one at all. */
 typedef struct {
     const char *name;
     bool (*ready)(size_t size);
@@ -39,6 +39,8 @@ typedef struct {
 
 static uint64_t packed(plain_refusal no) { return no.number + ((uint64_t)no.place << 8); }
 
+static uint64_t found_or(plain_refusal no, size_t found) { return no.number != 0 ? packed(no) : (uint64_t)found << 8; }
+
 static uint64_t accept_plain(const uint8_t *m, size_t size) { return packed(plain_accept(m, size)); }
 
 static uint64_t accept_proved(const uint8_t *m, size_t size) { return chaloenpik_accept(CHALOENPIK_RESPONSE, m, size); }
@@ -47,7 +49,7 @@ static uint64_t accept_proved(const uint8_t *m, size_t size) { return chaloenpik
 static uint64_t list_plain(const uint8_t *m, size_t size) {
     size_t taken = 0;
     plain_refusal no = plain_fields(m, size, 0, plain_list, MOST_NUMBERS, &taken);
-    return no.number != 0 ? packed(no) : (uint64_t)taken << 8;
+    return found_or(no, taken);
 }
 
 static uint64_t list_proved(const uint8_t *m, size_t size) {
@@ -80,8 +82,48 @@ static uint64_t write_plain(const uint8_t *m, size_t size) { return rewrite_plai
 
 static uint64_t write_proved(const uint8_t *m, size_t size) { return rewrite_proved(m, size, proved_message, MOST_SIZE); }
 
+static uint64_t area_plain(const uint8_t *m, size_t size) {
+    size_t rings = 0;
+    plain_refusal no = plain_area(m, size, &rings);
+    return found_or(no, rings);
+}
+
+static uint64_t area_proved(const uint8_t *m, size_t size) { return chaloenpik_area_rings(m, size); }
+
+static uint64_t area_list_plain(const uint8_t *m, size_t size) {
+    size_t taken = 0;
+    plain_refusal no = plain_area_fields(m, size, 0, plain_list, MOST_NUMBERS, &taken);
+    return found_or(no, taken);
+}
+
+static uint64_t area_list_proved(const uint8_t *m, size_t size) { return chaloenpik_area_fields(m, size, 0, proved_list, MOST_NUMBERS); }
+
+/* Each turns a copy of its own, to and fro. */
+static uint64_t turn_plain(const uint8_t *m, size_t size) {
+    (void)m;
+    size_t rings = 0;
+    plain_refusal no = plain_turn_holes(plain_message, size, &rings);
+    return found_or(no, rings);
+}
+
+static uint64_t turn_proved(const uint8_t *m, size_t size) {
+    (void)m;
+    return chaloenpik_area_turn_holes(proved_message, size);
+}
+
+static uint64_t area_write_plain(const uint8_t *m, size_t size) { return rewrite_area_plain(m, size, plain_message, MOST_SIZE); }
+
+static uint64_t area_write_proved(const uint8_t *m, size_t size) { return rewrite_area_proved(m, size, proved_message, MOST_SIZE); }
+
 static bool always(size_t size) {
     (void)size;
+    return true;
+}
+
+static bool copies_made(size_t size) {
+    memcpy(plain_message, message, size);
+    memcpy(proved_message, message, size);
+    copied = size;
     return true;
 }
 
@@ -108,6 +150,11 @@ static bool cells_alike(uint64_t answer) {
     return chaloenpik_refusal(answer) != 0 || memcmp(plain_numbers, proved_numbers, sizeof plain_numbers) == 0;
 }
 
+static bool copies_alike(uint64_t answer) {
+    (void)answer;
+    return memcmp(plain_message, proved_message, copied) == 0;
+}
+
 /* Both wrote the message that they were given. */
 static bool messages_alike(uint64_t answer) {
     size_t size = chaloenpik_value(answer);
@@ -119,6 +166,13 @@ static const question questions[] = {
     {"list", always, list_plain, list_proved, lists_alike},
     {"cell", last_cell_known, cell_plain, cell_proved, cells_alike},
     {"write", accepted, write_plain, write_proved, messages_alike},
+};
+
+static const question area_questions[] = {
+    {"accept", always, area_plain, area_proved, nothing_written},
+    {"list", always, area_list_plain, area_list_proved, lists_alike},
+    {"turn", copies_made, turn_plain, turn_proved, copies_alike},
+    {"write", always, area_write_plain, area_write_proved, messages_alike},
 };
 
 static int by_size(const void *a, const void *b) {
@@ -145,10 +199,20 @@ typedef struct {
     double plain, proved, ratio;
 } times;
 
+/* How many calls make a run: the clock can't tell one that passes over most bytes. Both are asked as often, as turning undoes itself. */
+static size_t calls_a_run(const question *q, size_t size) {
+    size_t calls = 1 + LEAST_BYTES_A_RUN / (size + 1);
+    for (;; calls *= 2) {
+        uint64_t answer;
+        double plain = timed(q->plain, size, calls, &answer), proved = timed(q->proved, size, calls, &answer);
+        if ((plain + proved) * (double)calls >= 2 * LEAST_NS_A_RUN) return calls;
+    }
+}
+
 /* Medians of runs that take turns, and of the ratios of neighbouring runs. Ends the program if the answers differ. */
 static times measured(const question *q, const shape *s, size_t size, size_t runs) {
     double plain[MOST_RUNS], proved[MOST_RUNS], ratio[MOST_RUNS];
-    size_t calls = 1 + LEAST_BYTES_A_RUN / (size + 1);
+    size_t calls = calls_a_run(q, size);
     for (size_t n = 0; n < runs; n++) {
         uint64_t a, b;
         plain[n] = timed(q->plain, size, calls, &a);
@@ -167,14 +231,23 @@ static times measured(const question *q, const shape *s, size_t size, size_t run
     return both;
 }
 
-/* A line for each question, shape and size. */
-static void each(size_t least, size_t most, size_t runs, void (*print)(const char *question, const char *shape, size_t size, times t)) {
-    for (size_t k = 0; k < sizeof questions / sizeof *questions; k++)
-        for (size_t n = 0; n < shape_count; n++)
-            for (size_t room = least; room <= most; room *= 4) {
-                size_t size = shapes[n].make(message, room);
-                if (questions[k].ready(size)) print(questions[k].name, shapes[n].name, size, measured(&questions[k], &shapes[n], size, runs));
-            }
+typedef void print_line(const char *question, const char *shape, size_t size, times t);
+
+/* A line for each shape and size. */
+static void each_shape(const question *q, const shape *s, size_t count, size_t least, size_t most, size_t runs, print_line *print) {
+    for (size_t n = 0; n < count; n++)
+        for (size_t room = least; room <= most; room *= 4) {
+            size_t size = s[n].make(message, room);
+            if (q->ready(size)) print(q->name, s[n].name, size, measured(q, &s[n], size, runs));
+        }
+}
+
+/* Every question about replies, and then about areas, which have at most MOST_BODY bytes in a message. */
+static void each(size_t least, size_t most, size_t runs, print_line *print) {
+    size_t least_area = least < MOST_BODY ? least : MOST_BODY, most_area = most < MOST_BODY ? most : MOST_BODY;
+    for (size_t k = 0; k < sizeof questions / sizeof *questions; k++) each_shape(&questions[k], shapes, shape_count, least, most, runs, print);
+    for (size_t k = 0; k < sizeof area_questions / sizeof *area_questions; k++)
+        each_shape(&area_questions[k], area_shapes, area_shape_count, least_area, most_area, runs, print);
 }
 
 static void print_ratio(const char *question, const char *shape, size_t size, times t) { printf("%-8s %-12s %9zu %7.2f\n", question, shape, size, t.ratio); }

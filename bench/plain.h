@@ -1,5 +1,5 @@
-/* A plain reader and writer of invocation responses (kind 4), by paper 01, as one would write them in C without proofs.
-   They are what the proved library is held against: same answers, same order of refusals. */
+/* A plain reader and writer of invocation responses (kind 4), by paper 01, and of areas, the bodies of geographies, as one would write them
+   in C without proofs. They are what the proved library is held against: same answers, same order of refusals. */
 #pragma once
 #include <stdbool.h>
 #include <stddef.h>
@@ -70,3 +70,30 @@ plain_refusal plain_put_body(plain_writer *w, uint8_t type, bool null, const uin
 plain_refusal plain_close_row(plain_writer *w);
 plain_refusal plain_close_table(plain_writer *w);
 plain_refusal plain_finish(plain_writer *w);
+
+/* Whether a body is an area, and how many rings it has. */
+plain_refusal plain_area(const uint8_t *body, size_t length, size_t *rings);
+
+/* Writes entries of an area's field list, as of a response's. */
+plain_refusal plain_area_fields(const uint8_t *body, size_t length, size_t first, uint64_t *out, size_t room, size_t *taken);
+
+/* Each ring after the first in the other sense, in the body itself: its first vertex stays, the others are reversed. */
+plain_refusal plain_turn_holes(uint8_t *body, size_t length, size_t *rings);
+
+/* The writer of an area: it is begun, rings are opened and closed, vertices are put, and it is finished. */
+typedef enum { PLAIN_NO_AREA, PLAIN_AREA, PLAIN_RING } plain_area_stage;
+
+typedef struct {
+    uint8_t *buffer;
+    size_t size;
+    size_t at;
+    plain_area_stage stage;
+    size_t ring_at;
+    uint32_t rings, vertices;
+} plain_area_writer;
+
+plain_refusal plain_begin_area(plain_area_writer *w, uint8_t *buffer, size_t size, uint8_t edition, uint8_t internal);
+plain_refusal plain_open_ring(plain_area_writer *w, uint8_t mark);
+plain_refusal plain_put_vertex(plain_area_writer *w, uint64_t x, uint64_t y, uint64_t z);
+plain_refusal plain_close_ring(plain_area_writer *w, const uint8_t *kept);
+plain_refusal plain_finish_area(plain_area_writer *w, const uint8_t *kept);

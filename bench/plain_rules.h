@@ -9,6 +9,9 @@ enum { MOST_MESSAGE = 4194304, MOST_BODY = 1048576, MOST_ROW = 2097152, MOST_COL
 
 enum { FLAG_STATUS = 32, FLAG_EXCEPTION = 64, FLAG_APPLICATION = 128, OTHER_FLAGS = 31 };
 
+/* An area: where its parts stand and how many bytes they have. */
+enum { HOLES_AT = 2, RINGS_AT = 3, AREA_HEAD = 7, RING_HEAD = 5, VERTEX = 24, RING_KEPT = 38, AREA_KEPT = 33, LEAST_VERTICES = 3 };
+
 static inline uint32_t load16(const uint8_t *p) { return (uint32_t)p[0] << 8 | p[1]; }
 
 static inline uint32_t load32(const uint8_t *p) {

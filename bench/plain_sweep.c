@@ -1,6 +1,7 @@
 /* The plain reader and writer over frames, to be held against the second reader: standard input is a row of frames (4 bytes
    of size, big-endian, then one byte of kind, 4, and a message). For each it prints the field list, or `refused NUMBER PLACE`,
-   and a line with a dot. It also asks for each cell, and writes each accepted message anew, and says where either differs. */
+   and a line with a dot. It also asks for each cell, and writes each accepted message anew, and says where either differs.
+   With kind 27, the wire type of a geography, it is an area: behind its field list stands what it is with its holes turned. */
 #include "plain_rules.h"
 #include <stdio.h>
 #include <stdlib.h>
@@ -90,20 +91,46 @@ static bool written_alike(size_t size, size_t count) {
     return plain_finish(&w).number == 0 && w.at == size && memcmp(message, again, size) == 0;
 }
 
-static void one(size_t size) {
-    size_t count = 0;
-    plain_refusal no = plain_fields(message, size, 0, entries, MOST_NUMBERS, &count);
-    if (no.number != 0) {
-        printf("refused %u %zu\n.\n", no.number, no.place);
-        return;
+static bool area_written_alike(size_t size) {
+    plain_area_writer w;
+    const uint8_t *at = message + AREA_HEAD;
+    bool fine = plain_begin_area(&w, again, size, message[0], message[1]).number == 0;
+    for (size_t i = 0, rings = load32(message + RINGS_AT); fine && i < rings; i++, at += RING_KEPT) {
+        size_t vertices = load32(at + 1);
+        fine = plain_open_ring(&w, *at).number == 0;
+        at += RING_HEAD;
+        for (size_t v = 0; v < vertices; v++, at += VERTEX) fine &= plain_put_vertex(&w, load64(at), load64(at + 8), load64(at + 16)).number == 0;
+        fine &= plain_close_ring(&w, at).number == 0;
     }
+    return fine && plain_finish_area(&w, at).number == 0 && w.at == size && memcmp(message, again, size) == 0;
+}
+
+/* The field list, or the refusal; whether it was a list. */
+static bool print_list(plain_refusal no, size_t count) {
+    if (no.number != 0) printf("refused %u %zu\n", no.number, no.place);
     for (size_t n = 0; n < count; n++) {
         const uint64_t *e = entries + 6 * n;
         printf("%lu %lu %lu %lu %lu %lu\n", e[0], e[1], e[2], e[3], e[4], e[5]);
     }
+    return no.number == 0;
+}
+
+static void one(size_t size) {
+    size_t count = 0;
+    plain_refusal no = plain_fields(message, size, 0, entries, MOST_NUMBERS, &count);
+    if (!print_list(no, count)) return;
     if (!cells_agree(size, count)) printf("a cell differs from the list\n");
     if (!written_alike(size, count)) printf("written anew, the message differs\n");
-    printf(".\n");
+}
+
+static void one_area(size_t size) {
+    size_t count = 0, rings;
+    plain_refusal no = plain_area_fields(message, size, 0, entries, MOST_NUMBERS, &count);
+    if (!print_list(no, count)) return;
+    if (!area_written_alike(size)) printf("written anew, the area differs\n");
+    plain_turn_holes(message, size, &rings);
+    for (size_t n = 0; n < size; n++) printf("%02x", message[n]);
+    printf("\n");
 }
 
 int main(void) {
@@ -111,7 +138,9 @@ int main(void) {
     while (fread(head, 1, 5, stdin) == 5) {
         size_t size = load32(head) - 1;
         if (size > MOST_FRAME || fread(message, 1, size, stdin) != size) return 1;
-        one(size);
+        if (head[4] == PLAIN_GEOGRAPHY) one_area(size);
+        else one(size);
+        printf(".\n");
     }
     return 0;
 }

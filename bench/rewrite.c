@@ -1,14 +1,6 @@
 /* One walk over the message, inlined for each of two hands that write. */
 #include "rewrite.h"
-#include "plain_rules.h"
-#include <chaloenpik.h>
-
-#define INLINE static inline __attribute__((always_inline))
-#define TRY(step) \
-    do { \
-        uint64_t answer = (step); \
-        if (chaloenpik_refusal(answer) != 0) return answer; \
-    } while (0)
+#include "steps.h"
 
 /* Where the fields of a response without flags stand. */
 enum { VERSION = 4, CLIENT = 5, STATUS = 14, APP_STATUS = 15, ROUND_TRIP = 16, TABLES = 20, FIRST_TABLE = 22 };
@@ -80,8 +72,6 @@ INLINE uint64_t put_response(const hand *h, const uint8_t *m, size_t size, uint8
 }
 
 /* ---- The plain hand. */
-
-static uint64_t packed(plain_refusal no) { return no.number + ((uint64_t)no.place << 8); }
 
 static uint64_t plain_hand_begin(pen *p, const uint8_t *m) {
     plain_opening o = {.status = m[STATUS], .app_status = m[APP_STATUS], .round_trip = (int32_t)load32(m + ROUND_TRIP)};

@@ -7,3 +7,7 @@
 /* The size of what was written, above the low 8 bits; or the first refusal, as the C interface answers one. */
 uint64_t rewrite_plain(const uint8_t *message, size_t size, uint8_t *out, size_t room);
 uint64_t rewrite_proved(const uint8_t *message, size_t size, uint8_t *out, size_t room);
+
+/* An area, vertex by vertex. */
+uint64_t rewrite_area_plain(const uint8_t *body, size_t size, uint8_t *out, size_t room);
+uint64_t rewrite_area_proved(const uint8_t *body, size_t size, uint8_t *out, size_t room);

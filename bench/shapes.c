@@ -1,4 +1,4 @@
-/* Replies of many shapes, made with the plain writer; the damaged ones are made from sound ones by hand. */
+/* Replies and areas of many shapes, made with the plain writers; the damaged ones are made from sound ones by hand. */
 #include "shapes.h"
 #include "plain_rules.h"
 
@@ -197,3 +197,39 @@ const shape shapes[] = {
 };
 
 const size_t shape_count = sizeof shapes / sizeof *shapes;
+
+static void put_ring(plain_area_writer *w, size_t vertices, uint64_t *state) {
+    plain_open_ring(w, (uint8_t)made_up(state));
+    for (size_t n = 0; n < vertices; n++) {
+        uint64_t x = made_up(state), y = made_up(state), z = made_up(state);
+        plain_put_vertex(w, x, y, z);
+    }
+    plain_close_ring(w, letters + made_up(state) % 27);
+}
+
+/* As many rings as there is room for, each with so many vertices: how many, by chance. */
+static size_t rings_of(size_t least, size_t most, uint8_t *buffer, size_t size) {
+    plain_area_writer w;
+    uint64_t state = 1;
+    plain_begin_area(&w, buffer, size, 0, 1);
+    while (size - w.at >= RING_HEAD + VERTEX * most + RING_KEPT + AREA_KEPT) put_ring(&w, least + made_up(&state) % (most - least + 1), &state);
+    plain_finish_area(&w, letters);
+    return w.at;
+}
+
+static size_t small_rings(uint8_t *buffer, size_t size) { return rings_of(LEAST_VERTICES, LEAST_VERTICES, buffer, size); }
+
+static size_t uneven_rings(uint8_t *buffer, size_t size) { return rings_of(LEAST_VERTICES, 10, buffer, size); }
+
+static size_t large_rings(uint8_t *buffer, size_t size) {
+    size_t each = (size - AREA_HEAD - AREA_KEPT) / 4, vertices = (each - RING_HEAD - RING_KEPT) / VERTEX;
+    return rings_of(vertices, vertices, buffer, size);
+}
+
+const shape area_shapes[] = {
+    {"area", "a body of rings of three vertices, the least there may be", small_rings},
+    {"uneven area", "a body of rings of three to ten vertices", uneven_rings},
+    {"wide area", "a body of four long rings", large_rings},
+};
+
+const size_t area_shape_count = sizeof area_shapes / sizeof *area_shapes;

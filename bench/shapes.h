@@ -1,4 +1,4 @@
-/* The messages that are measured: one maker for each shape, for any size. */
+/* The messages that are measured, and the bodies of geographies: one maker for each shape, for any size. */
 #pragma once
 #include <stddef.h>
 #include <stdint.h>
@@ -9,5 +9,5 @@ typedef struct {
     size_t (*make)(uint8_t *buffer, size_t size); /* at most `size` bytes; gives how many */
 } shape;
 
-extern const shape shapes[];
-extern const size_t shape_count;
+extern const shape shapes[], area_shapes[];
+extern const size_t shape_count, area_shape_count;

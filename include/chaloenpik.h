@@ -44,11 +44,12 @@ enum {
     CHALOENPIK_BAD_VERSION = 5,   /* the version or the hash version is not 0 or 1: that byte */
     CHALOENPIK_BAD_TYPE = 6,      /* the wire type is unknown or not permitted there: that byte; or no such kind: 0 */
     CHALOENPIK_BAD_VALUE = 7,     /* a decimal, point, flag byte, column name or empty geography breaks its rule: the value; a name's first
-                                     byte above 127; an empty geography's length field */
+                                     byte above 127; an empty geography's length field. In an area: the third byte, or a count of too few
+                                     rings or vertices */
     CHALOENPIK_OUTPUT_SHORT = 8,  /* the output is too short: bytes needed; in the writer, the position the step would reach */
     CHALOENPIK_NO_COLUMN = 9,     /* no column has that name: 0 */
     CHALOENPIK_CARD_STALE = 10,   /* a well-formed card doesn't fit the table: 0 */
-    CHALOENPIK_PAST_END = 11,     /* a table, row, column, list entry or byte past the end, or a column's name past its buffer: 0 */
+    CHALOENPIK_PAST_END = 11,     /* a table, row, column, ring, vertex, entry or byte past the end, or a column's name past its buffer: 0 */
     CHALOENPIK_CARD_BROKEN = 12,  /* a card breaks its form: the first wrong byte; for a wrong size, the smaller of the sizes */
     CHALOENPIK_BAD_STAGE = 13     /* a step of writing comes at a stage, or with a state, that doesn't permit it: the position */
 };
@@ -85,7 +86,11 @@ enum {
     CHALOENPIK_FIELD_TABLE_LENGTH = 41, CHALOENPIK_FIELD_METADATA_LENGTH = 42, CHALOENPIK_FIELD_TABLE_STATUS = 43,
     CHALOENPIK_FIELD_COLUMN_COUNT = 44, CHALOENPIK_FIELD_COLUMN_TYPE = 45, CHALOENPIK_FIELD_COLUMN_NAME_LENGTH = 46,
     CHALOENPIK_FIELD_COLUMN_NAME = 47, CHALOENPIK_FIELD_ROW_COUNT = 48, CHALOENPIK_FIELD_ROW_LENGTH = 49,
-    CHALOENPIK_FIELD_CELL_LENGTH = 50, CHALOENPIK_FIELD_CELL = 51
+    CHALOENPIK_FIELD_CELL_LENGTH = 50, CHALOENPIK_FIELD_CELL = 51,
+    /* of an area, which has a list of its own. Indices: ring, vertex, axis, 0 where there is none */
+    CHALOENPIK_FIELD_AREA_EDITION = 60, CHALOENPIK_FIELD_AREA_INTERNAL = 61, CHALOENPIK_FIELD_AREA_HOLES = 62,
+    CHALOENPIK_FIELD_RING_COUNT = 63, CHALOENPIK_FIELD_RING_MARK = 64, CHALOENPIK_FIELD_VERTEX_COUNT = 65,
+    CHALOENPIK_FIELD_COORDINATE = 66, CHALOENPIK_FIELD_RING_KEPT = 67, CHALOENPIK_FIELD_AREA_KEPT = 68
 };
 
 /* Sizes. */
@@ -94,7 +99,10 @@ enum {
     CHALOENPIK_ENTRY = 6,            /* numbers of an entry of the field list */
     CHALOENPIK_CARD = 36,            /* bytes of a shortcut card */
     CHALOENPIK_STATE = 11,           /* numbers of a writer's state */
-    CHALOENPIK_TYPES = 64            /* bytes for the types of an open table's columns: the most columns that a table has */
+    CHALOENPIK_TYPES = 64,           /* bytes for the types of an open table's columns: the most columns that a table has */
+    CHALOENPIK_RING_KEPT = 38,       /* bytes that are kept behind the vertices of a ring */
+    CHALOENPIK_AREA_KEPT = 33,       /* bytes that are kept behind the rings of an area */
+    CHALOENPIK_AREA_STATE = 5        /* numbers of the state of writing an area */
 };
 
 /* ---- Any message. */
@@ -313,6 +321,64 @@ uint64_t chaloenpik_close_table(uint8_t *out, size_t size, uint64_t state[CHALOE
 
 /* Finishes the response. */
 uint64_t chaloenpik_finish_reply(uint8_t *out, size_t size, uint64_t state[CHALOENPIK_STATE]);
+
+/* ---- Areas: the body of a geography, as the protocol lays it out. A message keeps that body as it is, whatever it says; these functions take
+   it by itself, as bytes of any number, and count all places from its first byte. `chaloenpik_cell`, `chaloenpik_parameter` and
+   `chaloenpik_element` tell where the body of a geography stands in a message.
+
+   An area has three bytes in front: an edition and an internal byte, which may be any, and 1 if it has holes, else 0. Then come its rings,
+   one or more, the first around it and each other one around a hole, and CHALOENPIK_AREA_KEPT bytes. A ring has a mark, which may be any byte,
+   three or more vertices, and CHALOENPIK_RING_KEPT bytes. A vertex is a point on the unit sphere, x, y and z: any floats, by their bits. The
+   server fills in the edition, the internal byte, the marks and the kept bytes: who reads an area keeps them as they came; in a new one they
+   are all 0 but the internal byte, which is 1.
+
+   Rings and vertices are counted from 0; 11 at 0, after the body's own refusal: there is no such one. Each call walks over the body, ring by
+   ring. So to go over all vertices don't ask for each: take the field list, or read on from a ring's place (examples/c/area.c). */
+
+/* Whether a body is an area; if so the value is how many rings it has. */
+uint64_t chaloenpik_area_rings(const uint8_t *body, size_t length);
+
+/* A ring: where it begins, its mark, and how many vertices it has. The first one's x stands 5 bytes behind that place, and each number has 8
+   bytes, the highest first. */
+uint64_t chaloenpik_area_ring(const uint8_t *body, size_t length, size_t ring, uint64_t told[3]);
+
+/* A vertex: the bits of its x, y and z. */
+uint64_t chaloenpik_area_vertex(const uint8_t *body, size_t length, size_t ring, size_t vertex, uint64_t axes[3]);
+
+/* Where the bytes that are kept of a ring stand: their start, and CHALOENPIK_RING_KEPT. */
+uint64_t chaloenpik_area_ring_kept(const uint8_t *body, size_t length, size_t ring, uint64_t part[2]);
+
+/* Where the bytes that are kept of the area stand: their start, and CHALOENPIK_AREA_KEPT. */
+uint64_t chaloenpik_area_kept(const uint8_t *body, size_t length, uint64_t part[2]);
+
+/* The field list of an area, by the same three functions as that of a message: how many fields it has; entries from number `first` on; the
+   number of the field that owns a byte. */
+uint64_t chaloenpik_area_field_count(const uint8_t *body, size_t length);
+uint64_t chaloenpik_area_fields(const uint8_t *body, size_t length, size_t first, uint64_t *out, size_t size);
+uint64_t chaloenpik_area_owner(const uint8_t *body, size_t length, size_t offset);
+
+/* Gives each ring after the first the other sense, in the lent body itself: its first vertex stays, and those behind it come in the opposite
+   order. Every other byte stays, and doing it twice restores the body. The value is how many rings there are. */
+uint64_t chaloenpik_area_turn_holes(uint8_t *body, size_t length);
+
+/* An area is written by steps, as a message is, and they refuse alike: 13, 8, and 3 at the position for a count above 2^31 - 1. The state is the
+   stage (0 nothing is open, 1 an area, 2 a ring of it), the position, how many rings there are, where the open ring begins, and how many
+   vertices that has. */
+
+/* Begins an area with its edition and its internal byte. Whether it has holes follows from its rings. */
+uint64_t chaloenpik_area_begin(uint8_t *out, size_t size, uint64_t state[CHALOENPIK_AREA_STATE], uint8_t edition, uint8_t internal);
+
+/* Opens a ring. */
+uint64_t chaloenpik_area_open_ring(uint8_t *out, size_t size, uint64_t state[CHALOENPIK_AREA_STATE], uint8_t mark);
+
+/* The next vertex of the open ring, by the bits of its x, y and z. */
+uint64_t chaloenpik_area_add_vertex(uint8_t *out, size_t size, uint64_t state[CHALOENPIK_AREA_STATE], uint64_t x, uint64_t y, uint64_t z);
+
+/* Closes the ring. 7 at the position: it has fewer than three vertices. */
+uint64_t chaloenpik_area_close_ring(uint8_t *out, size_t size, uint64_t state[CHALOENPIK_AREA_STATE], const uint8_t kept[CHALOENPIK_RING_KEPT]);
+
+/* Finishes the area. 7 at the position: it has no ring. */
+uint64_t chaloenpik_area_finish(uint8_t *out, size_t size, uint64_t state[CHALOENPIK_AREA_STATE], const uint8_t kept[CHALOENPIK_AREA_KEPT]);
 
 #ifdef __cplusplus
 }

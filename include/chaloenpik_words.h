@@ -18,11 +18,17 @@ static inline const char *chaloenpik_refusal_text(unsigned refusal) {
     case CHALOENPIK_OUTPUT_SHORT: return "the output is too short";
     case CHALOENPIK_NO_COLUMN: return "no column has that name";
     case CHALOENPIK_CARD_STALE: return "a well-formed card doesn't fit the table";
-    case CHALOENPIK_PAST_END: return "a table, row, column, list entry or byte offset is past the end, or a column entry past its name buffer";
+    case CHALOENPIK_PAST_END: return "a table, row, column, ring, vertex, list entry or byte offset is past the end, or a column entry past its name buffer";
     case CHALOENPIK_CARD_BROKEN: return "a card breaks its form";
     case CHALOENPIK_BAD_STAGE: return "a writer step comes at a stage, or with a saved state, that doesn't permit it";
     default: return "unknown";
     }
+}
+
+/* When a refusal of an area is given, which has a 7 of its own. */
+static inline const char *chaloenpik_area_refusal_text(unsigned refusal) {
+    if (refusal == CHALOENPIK_BAD_VALUE) return "the third byte doesn't fit the ring count, or there are too few rings or vertices";
+    return chaloenpik_refusal_text(refusal);
 }
 
 /* A kind of message. */
@@ -105,6 +111,15 @@ static inline const char *chaloenpik_field_text(uint64_t field) {
     case CHALOENPIK_FIELD_ROW_LENGTH: return "row length";
     case CHALOENPIK_FIELD_CELL_LENGTH: return "cell length";
     case CHALOENPIK_FIELD_CELL: return "cell";
+    case CHALOENPIK_FIELD_AREA_EDITION: return "encoding version";
+    case CHALOENPIK_FIELD_AREA_INTERNAL: return "internal";
+    case CHALOENPIK_FIELD_AREA_HOLES: return "holes";
+    case CHALOENPIK_FIELD_RING_COUNT: return "ring count";
+    case CHALOENPIK_FIELD_RING_MARK: return "ring mark";
+    case CHALOENPIK_FIELD_VERTEX_COUNT: return "vertex count";
+    case CHALOENPIK_FIELD_COORDINATE: return "coordinate";
+    case CHALOENPIK_FIELD_RING_KEPT: return "ring's kept bytes";
+    case CHALOENPIK_FIELD_AREA_KEPT: return "kept bytes";
     default: return "unknown";
     }
 }

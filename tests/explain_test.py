@@ -4,7 +4,9 @@ built and asked too. Run: python3 tests/explain_test.py"""
 import array
 import contextlib
 import io
+import itertools
 import json
+import math
 import os
 import pathlib
 import re
@@ -22,12 +24,15 @@ sys.dont_write_bytecode = True
 ROOT = pathlib.Path(__file__).resolve().parents[1]
 sys.path[:0] = [str(ROOT / "tools"), str(ROOT / "tests" / "second")]
 
+import areas as second_areas
 import encoder
 import generate
+import generate_areas
 import harbour
 import reader
 import wire
-from explain import building, cells, command, lines, listing, main, paper, records, refusals, values
+import wire_poly
+from explain import areas, building, cells, command, geojson, lines, listing, main, paper, records, refusals, values
 from explain.fields import Explained
 
 STORED = ROOT / "tests" / "explain"
@@ -36,6 +41,7 @@ MESSAGE = SAMPLE.read_bytes()
 LISTED = (STORED / "engines.list").read_text()
 ENGINES = ROOT / "samples" / "4-engines.bin"
 POSITIONS = ROOT / "samples" / "4-positions.bin"
+AREAS = ROOT / "samples" / "4-areas.bin"
 
 
 def sample():
@@ -202,7 +208,251 @@ class InsurersQuestion(unittest.TestCase):
         self.assertEqual(sum(record.get("name") == "row length" for record in rows), 91)
 
 
+def asked_of_second(bodies, turned=False):
+    """What the second reader says of bodies, in the library's stead, which tests/compare holds it against."""
+    told = []
+    for body in bodies:
+        try:
+            area, fields = second_areas.read(body)
+        except reader.Refused as no:
+            told.append(((no.number, no.place), array.array("I"), b""))
+            continue
+        told.append((None, array.array("I", [n for field in fields for n in field]), second_areas.encode(second_areas.turned(area)) if turned else body))
+    return told
+
+
+class AsOfSecond(unittest.TestCase):
+    def setUp(self):
+        patch = mock.patch.object(areas, "asked", asked_of_second)
+        patch.start()
+        self.addCleanup(patch.stop)
+
+
+def area_reply(*bodies):
+    return reply([wire.GEOGRAPHY], [b"AREA"], [[body] for body in bodies])
+
+
+class InsideAreas(AsOfSecond):
+    """No-wake areas: which bytes of a reply are which corner?"""
+
+    def setUp(self):
+        super().setUp()
+        self.message = AREAS.read_bytes()
+        self.explained = read_by_second(self.message)
+        self.inside = areas.Inside(self.explained)
+
+    def test_the_fields_inside_stand_side_by_side_below_their_body(self):
+        told = list(self.inside.among(self.explained))
+        self.assertEqual([field.offset for field in told if field.inside is None], [entry[0] for entry in self.explained.entries()])
+        bodies = [field for field in told if field.number == paper.CELL and "geography" in field.where]
+        self.assertEqual([field.value.split(":")[0] for field in bodies], ["318 bytes, an area of 2 rings", "179 bytes, an area of 1 ring", "58 bytes, no area by document 000"])
+        for body in bodies[:2]:
+            inner = [field for field in told if field.inside == body.offset]
+            self.assertEqual(b"".join(field.raw for field in inner), body.raw)
+            self.assertEqual((inner[0].offset, inner[-1].end), (body.offset, body.end))
+            at = told.index(body)
+            self.assertEqual(told[at + 1:at + 1 + len(inner)], inner)
+        self.assertFalse([field for field in told if field.inside == bodies[2].offset])
+        self.assertEqual(self.inside.counts(), {"areas": 2, "others": 1, "fields": 55})
+
+    def test_document_000s_polygon(self):
+        """At the places of its table, with its values as far as they are printed."""
+        area = self.inside.areas[124]
+        self.assertEqual([(field.offset - 124, field.size) for field in area], [row[:2] for row in wire_poly.TABLE])
+        for field, (_, size, printed) in zip(area, wire_poly.TABLE):
+            if size == 8:
+                self.assertEqual("%.6f" % float(field.value.split(";")[0]), "%.6f" % printed)
+        told = {field.offset - 124: (field.name, field.where, field.value) for field in area}
+        self.assertEqual(told[2], ("holes", "", "1: there are some"))
+        self.assertEqual(told[147], ("vertex count", "ring 1 (hole)", "4"))
+        self.assertEqual(told[215][:2], ("coordinate", "ring 1 (hole), vertex 2, z"))
+        self.assertTrue(told[215][2].endswith("; the vertex is at longitude 0.9° E, latitude 0.9° N"))
+        self.assertEqual(told[108], ("ring's kept bytes", "ring 0 (exterior)", "38 bytes, not looked into"))
+
+    def test_lines(self):
+        told = list(lines.field_lines(self.inside.among(self.explained)))
+        self.assertIn("126    1  01                         holes                                                           1: there are some", told)
+        self.assertIn("283    8  3f 5c 98 6d 35 71 a6 34    coordinate          ring 1 (hole), vertex 0, y                  0.001745325707612", told)
+        self.assertEqual(self.inside.line(), "inside 2 areas: 55 fields, indented below the bodies that they stand in; bodies that are no area: 1")
+
+    def test_a_byte(self):
+        self.assertEqual(lines.byte_lines(self.explained, 155, self.inside), [
+            "byte 155 (hex 00, decimal 0) is number 32 of the 318 bytes of:",
+            "124  318  00 01 01 00 .. 00 00 00  cell  table 0, row 0, column 3 AREA (geography)  318 bytes, an area of 2 rings",
+            "and in this area it is number 4 of the 8 bytes of:",
+            "152  8  00 00 00 00 00 00 00 00    coordinate  ring 0 (exterior), vertex 0, z  0.0; the vertex is at longitude 0.0° E, latitude 0.0° N"])
+        self.assertEqual(len(lines.byte_lines(self.explained, 155)), 2)
+        self.assertEqual(len(lines.byte_lines(self.explained, 730, self.inside)), 2)
+        for offset in range(len(self.message)):
+            owners = self.inside.owners(self.explained.owner(offset), offset)
+            self.assertTrue(all(field.offset <= offset < field.end for field in owners))
+
+    def test_a_cell(self):
+        told = lines.cell_lines(chosen(self.message, "--cell", "0", "--where", "AREA_ID=2", "--column", "AREA"), self.inside)
+        self.assertEqual(told[0], "table 0, row 1, column 3 AREA (geography) is 179 bytes, an area of 1 ring")
+        self.assertTrue(any(line.endswith("the vertex is at longitude 12.59° E, latitude 55.72° N") for line in told))
+        for row, value in ((2, "null"), (3, "58 bytes, no area by document 000: refused 7 at 2 of the body, byte 725 of the message: the third byte is 0 for one ring and 1 for more")):
+            told = lines.cell_lines(chosen(self.message, "--cell", "0", str(row), "AREA"), self.inside)
+            self.assertEqual(told[0], "table 0, row %d, column 3 AREA (geography) is %s" % (row, value))
+        first, *rest = map(json.loads, records.cell_records(chosen(self.message, "--cell", "0", "0", "AREA"), self.inside))
+        self.assertEqual(first["cell"]["value"], "318 bytes, an area of 2 rings")
+        self.assertEqual(sum(record.get("inside") == 124 and record["group"] == "value" for record in rest), 35)
+
+    def test_json(self):
+        told = [json.loads(line) for line in records.field_records(self.inside.among(self.explained))]
+        self.assertEqual(b"".join(bytes.fromhex(record["bytes"]) for record in told if "inside" not in record), self.message)
+        self.assertEqual(next(record for record in told if record.get("inside") == 477 and record["offset"] == 485), {
+            "offset": 485, "size": 4, "field": 65, "indices": [0, 0, 0], "name": "vertex count", "where": "ring 0 (exterior)", "value": "4", "bytes": "00000004", "inside": 477})
+
+    def test_parameters_and_elements(self):
+        body, no_body = wire_poly.body(), b"no area"
+        parameters = [(wire.STRING, body), (wire.GEOGRAPHY, body), (wire.GEOGRAPHY, None), (wire.ARRAY, (wire.GEOGRAPHY, [no_body, None, body])), (wire.ARRAY, (wire.VARBINARY, [body]))]
+        message = encoder.encode(wire.INVOCATION, {"version": 0, "procedure": b"", "client_data": bytes(8), "parameters": parameters})
+        explained_call = read_by_second(message, wire.INVOCATION)
+        inside = areas.Inside(explained_call)
+        self.assertEqual([explained_call.owner(offset).where for offset in sorted({**inside.areas, **inside.others})], ["parameter 1", "parameter 3, element 0", "parameter 3, element 2"])
+        self.assertEqual(inside.counts(), {"areas": 2, "others": 1, "fields": 70})
+        self.assertTrue(all(message[start:start + 318] == body for start in inside.areas))
+
+    def test_a_message_without_geographies_asks_nothing(self):
+        with mock.patch.object(areas, "run", side_effect=AssertionError):
+            self.assertEqual(areas.Inside(read_by_second(ENGINES.read_bytes())).counts(), {"areas": 0, "others": 0, "fields": 0})
+
+    def test_every_refused_body_has_words(self):
+        bodies = [body for body in (*generate_areas.edges(), *generate_areas.bodies(300, 5)) if body]
+        numbers = set()
+        for start in range(0, len(bodies), 500):
+            some = bodies[start:start + 500]
+            inside = areas.Inside(read_by_second(area_reply(*some)))
+            self.assertEqual(len(inside.areas) + len(inside.others), len(some))
+            numbers |= {other.number for other in inside.others.values()}
+            self.assertTrue(all(other.why() and other.summary() for other in inside.others.values()))
+            self.assertTrue(all(field.value for area in list(inside.areas.values())[:20] for field in area))
+        self.assertEqual(numbers, {1, 2, 4, 7})
+
+    def test_what_is_wrong_with_a_body(self):
+        body = wire_poly.body()
+        for changed, why in ((body[:-1], "refused 1 at 285 of the body, byte 345 of the message: a field doesn't fit"),
+                             (damaged(body, 3, 255), "refused 2 at 3 of the body, byte 63 of the message: a count is negative"),
+                             (body + b"!", "refused 4 at 318 of the body, byte 378 of the message: bytes are left after the last field"),
+                             (damaged(body, 2, 0), "refused 7 at 2 of the body, byte 62 of the message: the third byte is 0 for one ring and 1 for more"),
+                             (damaged(body, 3, 0, 0, 0, 0), "refused 7 at 3 of the body, byte 63 of the message: an area has at least 1 ring"),
+                             (damaged(body, 8, 0, 0, 0, 2), "refused 7 at 8 of the body, byte 68 of the message: a ring has at least 3 vertices")):
+            (other,) = areas.Inside(read_by_second(area_reply(changed))).others.values()
+            self.assertEqual(other.why(), "no area by document 000: " + why)
+
+
+class Vertices(unittest.TestCase):
+    def place(self, *numbers):
+        return areas.place_of(struct.pack(">3d", *numbers))
+
+    def test_the_documents_points(self):
+        """The formula and its way back; from the printed coordinates, as far as their six digits go."""
+        for longitude, latitude, *printed in wire_poly.POINTS:
+            self.assertEqual(self.place(*wire_poly.vertex(longitude, latitude)), (longitude, latitude))
+            for there, printed_there in zip(self.place(*printed), (longitude, latitude)):
+                self.assertAlmostEqual(there, printed_there, places=3)
+
+    def test_all_round(self):
+        for longitude, latitude in ((-122.0264, 36.90719), (180.0, 0.0), (-179.5, -89.5), (12.5683, 55.6761), (0.0, 90.0), (0.0, -90.0), (90.0, 0.0)):
+            self.assertEqual(self.place(*wire_poly.vertex(longitude, latitude)), (0.0 if abs(latitude) == 90 else longitude, latitude))
+
+    def test_odd_ones(self):
+        self.assertEqual(str(self.place(1.0, -0.0, -0.0)), "(0.0, 0.0)")
+        for odd in (math.nan, math.inf, -math.inf):
+            self.assertIsNone(self.place(1.0, odd, 0.0))
+            self.assertEqual(areas.vertex_text(struct.pack(">3d", odd, 0.0, 0.0)), "the vertex is nowhere")
+        self.assertEqual(self.place(1e300, 1e300, 0.0), (45.0, 0.0))
+
+
+class AreasProgram(unittest.TestCase):
+    """What areas.c says, taken apart."""
+
+    def asked(self, said, *bodies, **more):
+        with mock.patch.object(areas, "run", return_value=said) as run, mock.patch.object(building, "areas_program"):
+            told = areas.asked(list(bodies), **more)
+        self.given = run.call_args[0][1]
+        return told
+
+    def said(self, body):
+        numbers = [n for field in second_areas.read(body)[1] for n in field]
+        return (len(numbers) // 6 << 8).to_bytes(8, "little") + struct.pack("<%dI" % len(numbers), *numbers) + body
+
+    def test_answers(self):
+        body = wire_poly.body()
+        told = self.asked(bytes([7, 2, 0, 0, 0, 0, 0, 0]) + self.said(body) + bytes([1, 0, 1, 0, 0, 0, 0, 0]), b"XYZ", body, b"more", turned=True)
+        self.assertEqual([refusal for refusal, _, _ in told], [(7, 2), None, (1, 256)])
+        self.assertEqual(told[1], asked_of_second([body])[0])
+        self.assertEqual(self.given[:8] + self.given[8:13], bytes([0, 0, 0, 4, 1]) + b"XYZ" + bytes([0, 0, 1, 63, 1]))
+
+    def test_a_broken_answer_is_told(self):
+        body = wire_poly.body()
+        with self.assertRaisesRegex(building.Missing, "something else"):
+            self.asked(self.said(body) + b"!", body)
+        with self.assertRaises(listing.Untiled):
+            self.asked(self.said(body)[:-40], body + b"!")
+
+
+class GeoJson(AsOfSecond):
+    def features(self, message):
+        sources = mock.Mock(**{"record.return_value": {"sha256": "its"}})
+        told = json.loads(geojson.Collection(read_by_second(message)).text(sources))
+        self.assertEqual((told["type"], told["made_from"]), ("FeatureCollection", {"sha256": "its"}))
+        self.assertIn("outside the proof", told["note"])
+        return told["features"]
+
+    def test_the_sample(self):
+        first, second, third, fourth = self.features(AREAS.read_bytes())
+        self.assertEqual(first["geometry"], {"type": "Polygon", "coordinates": [
+            [[0.0, 0.0], [1.0, 0.0], [1.0, 1.0], [0.0, 1.0], [0.0, 0.0]], [[0.1, 0.1], [0.1, 0.9], [0.9, 0.9], [0.9, 0.1], [0.1, 0.1]]]})
+        self.assertEqual(first["properties"], {"table": 0, "row": 0, "column": "AREA", "bytes": [124, 441], "AREA_ID": 1, "NAME": "Training water", "LIMIT_KN": 5.0})
+        self.assertEqual(second["geometry"]["coordinates"], [[[12.57, 55.715], [12.59, 55.712], [12.59, 55.72], [12.58, 55.723], [12.57, 55.715]]])
+        self.assertEqual(second["properties"]["NAME"], "Svanemølle")
+        self.assertEqual((third["geometry"], third["properties"]["bytes"], third["properties"]["no_geometry"]), (None, None, "null"))
+        self.assertEqual((fourth["geometry"], fourth["properties"]["bytes"]), (None, [723, 780]))
+        self.assertIn("refused 7 at 2 of the body, byte 725 of the message", fourth["properties"]["no_geometry"])
+
+    def test_rings_are_closed_and_turn_as_rfc_7946_wants(self):
+        """The exterior counterclockwise, holes clockwise: twice the area that is enclosed, with its sign."""
+        for feature in self.features(AREAS.read_bytes())[:2]:
+            for n, ring in enumerate(feature["geometry"]["coordinates"]):
+                self.assertEqual(ring[0], ring[-1])
+                self.assertEqual(sum(x * v - u * y for (x, y), (u, v) in zip(ring, ring[1:])) > 0, n == 0)
+
+    def test_cells_as_json(self):
+        types = [wire.TINYINT, wire.BIGINT, wire.FLOAT, wire.FLOAT, wire.STRING, wire.STRING, wire.TIMESTAMP, wire.DECIMAL, wire.DECIMAL, wire.VARBINARY, wire.POINT, wire.POINT]
+        values_told = [-5, 2**63 - 1, 0x3FE0000000000000, 0x7FF8000000000001, b"\xc3\x86r\xff", None, 0, 1, wire.NULL_DECIMAL, b"\0\xff", (12.5, -1.5), None]
+        message = reply([*types, wire.GEOGRAPHY], [b"C%d" % n for n in range(len(types))] + [b"AREA"], [[*values_told, None]])
+        (feature,) = self.features(message)
+        self.assertEqual([feature["properties"]["C%d" % n] for n in range(len(types))], [
+            -5, 2**63 - 1, 0.5, "NaN (bits 7ff8000000000001)", "Ær\\xff", None, "1970-01-01 00:00:00.000000 UTC", "0.000000000001", None, "0x00ff", [12.5, -1.5], None])
+
+    def test_columns_of_the_same_name(self):
+        message = reply([wire.INTEGER] * 4 + [wire.GEOGRAPHY] * 2, [b"table", b"A", b"A", b"A (column 2)", b"A", b"B"], [[1, 2, 3, 4, None, wire_poly.body()]])
+        first, second = (feature["properties"] for feature in self.features(message))
+        self.assertEqual(first, {"table": 0, "row": 0, "column": "A", "bytes": None, "table (column 0)": 1, "A": 2, "A (column 2)": 3, "A (column 2) (column 3)": 4, "no_geometry": "null"})
+        self.assertEqual((second["column"], second["bytes"][1] - second["bytes"][0]), ("B", 317))
+
+    def test_several_tables(self):
+        tables = [harbour.ENGINES, harbour.NO_WAKE, harbour.NO_WAKE]
+        message = encoder.encode(wire.REPLY, dict(harbour.reply(None), tables=tables))
+        told = [(feature["properties"]["table"], feature["properties"]["row"]) for feature in self.features(message)]
+        self.assertEqual(told, [(table, row) for table in (1, 2) for row in range(4)])
+        self.assertEqual(self.features(ENGINES.read_bytes()), [])
+
+    def test_a_vertex_that_is_nowhere(self):
+        body = damaged(wire_poly.body(), 60, *struct.pack(">d", math.nan))
+        (feature,) = self.features(area_reply(body))
+        self.assertEqual((feature["geometry"], feature["properties"]["no_geometry"]), (None, "a coordinate of a vertex isn't finite"))
+
+
 class Command(unittest.TestCase):
+    def test_inside(self):
+        options = command.Options(["4", "x", "--inside", "--byte", "7", "--geojson=out"])
+        self.assertEqual((options.inside, options.byte, options.geojson, options.html), (True, 7, "out", None))
+        self.assertFalse(command.Options(["x"]).inside)
+        self.assertEqual(command.Options(["x", "--cell", "0", "0", "A", "--inside"]).column, b"A")
+
     def test_words(self):
         options = command.Options(["--byte", "7", "4", "--", "-file"])
         self.assertEqual((options.kind, options.file, options.byte), (4, "-file", 7))
@@ -213,7 +463,7 @@ class Command(unittest.TestCase):
     def test_bad_words(self):
         bad = ("5 x", "4", "x y z", "04 x", "4 x --byte -1", "4 x --byte 1_0", "4 x --byte", "4 x --cell", "4 x --cell 0", "4 x --cell 0 a b", "4 x --cell 0 --row 1",
                "4 x --cell 0 --row 1 --where A=1 --column B", "4 x --column B", "4 x --cell 0 --where A --column B", "4 x --byte 1 --cell 0 0 A", "4 x --json --html y",
-               "--kind 4 4 x", "4 x --what", "")
+               "--kind 4 4 x", "4 x --what", "4 x --inside --html y", "4 x --geojson", "")
         for words in bad:
             with self.assertRaises(command.Usage, msg=words):
                 options = command.Options(words.split())
@@ -389,12 +639,12 @@ class OtherKinds(unittest.TestCase):
 
     def test_every_field_can_be_shown(self):
         """Each field number of the paper has a name, and a way to be shown."""
-        numbers = [*range(1, 9), *range(10, 17), *range(20, 29), *range(30, 52)]
+        numbers = [*range(1, 9), *range(10, 17), *range(20, 29), *range(30, 52), *range(60, 69)]
         self.assertEqual(sorted(paper.FIELDS), numbers)
         raw = "16" + "00" * 15
         for number in numbers:
             declared = [(0, 1, paper.PARAMETER_TYPE, 0, 0, 0), (0, 1, paper.ELEMENT_TYPE, 0, 0, 0), (0, 1, paper.COLUMN_TYPE, 0, 0, 0)]
-            size = 1 if paper.FIELDS[number][1] == "type" else 16
+            size = {"type": 1, "float": 8}.get(paper.FIELDS[number][1], 16)
             self.assertTrue(list(explained(raw, *declared, (0, size, number, 0, 0, 0)))[-1].value)
 
     def test_each_number_of_reading_has_words(self):
@@ -511,6 +761,38 @@ class WithTheProvedLibrary(unittest.TestCase):
         self.assertEqual(done.returncode, 1)
         self.assertIn("refused 7 at %d: " % at, done.stdout)
         self.assertIn("longitude 360.0° W, latitude 360.0° N", done.stdout)
+
+    def test_areas_are_listed_and_turned_as_the_second_reader_does(self):
+        large = [body for _, body in itertools.islice(generate_areas.large(3), 4)]
+        bodies = [body for body in (b"", *generate_areas.bodies(200, 9), *generate_areas.edges(), *large) if len(body) <= wire.MOST_BODY]
+        for turned in (False, True):
+            self.assertEqual(areas.asked(bodies, turned), asked_of_second(bodies, turned))
+
+    def test_inside(self):
+        done = self.run_it("4", str(AREAS), "--inside")
+        with mock.patch.object(areas, "asked", asked_of_second):
+            inside, explained_sample = areas.Inside(read_by_second(AREAS.read_bytes())), read_by_second(AREAS.read_bytes())
+        self.assertEqual((done.returncode, done.stdout.partition("\n\n")[0].splitlines()), (0, list(lines.field_lines(inside.among(explained_sample)))))
+        self.assertIn("every byte has one owner\n%s\n\n%s\n\nmessage: 781 bytes, SHA-256 " % (inside.line(), areas.NOTE), done.stdout)
+        done = self.run_it(str(AREAS), "--byte", "155", "--inside")
+        self.assertEqual((done.returncode, done.stdout.splitlines()[1:5]), (0, lines.byte_lines(explained_sample, 155, inside)))
+        *told, last = map(json.loads, self.run_it("4", str(AREAS), "--cell", "0", "0", "AREA", "--inside", "--json").stdout.splitlines())
+        self.assertEqual((told[0]["cell"]["value"], last["inside"]["fields"], len([record for record in told if "inside" in record])), ("318 bytes, an area of 2 rings", 55, 35))
+
+    def test_geojson(self):
+        out = self.path("areas.geojson")
+        done = self.run_it("4", str(AREAS), "--geojson", out)
+        self.assertEqual((done.returncode, done.stdout.splitlines()[0]), (0, "%s has 4 features, 2 of them with a polygon" % out))
+        told = json.loads(pathlib.Path(out).read_text(encoding="ascii"))
+        with mock.patch.object(areas, "asked", asked_of_second):
+            self.assertEqual(told["features"], geojson.Collection(read_by_second(AREAS.read_bytes())).features)
+        self.assertEqual((told["made_from"]["size"], len(told["made_from"]["sha256"])), (781, 64))
+        self.failed("this is kind 3", str(ROOT / "samples" / "3-engine-limits.bin"), "--geojson", out)
+        self.failed("is the message itself", "4", self.path("copy", AREAS.read_bytes()), "--geojson", self.path("copy"))
+        self.failed("No space left on device", "4", str(AREAS), "--geojson", "/dev/full")
+        done = self.run_it("4", self.path("cut", AREAS.read_bytes()[:-1]), "--geojson", self.path("unwritten"))
+        self.assertEqual((done.returncode, os.path.exists(self.path("unwritten"))), (1, False))
+        self.assertIn("isn't written: the message is refused", done.stderr)
 
     def test_a_refused_message(self):
         done = self.run_it("2", str(ENGINES))

@@ -1,4 +1,4 @@
-/* The field list of a message, and the numbers at its entries. */
+/* The field list of a message or an area, and the numbers at its entries. */
 #pragma once
 #include "input.h"
 
@@ -11,17 +11,30 @@ struct fields {
     struct field *first, *end;
 };
 
-/* All fields of a message, in one pass: one call says how many there are, and one writes them. */
-static inline struct fields list_fields(uint8_t kind, const uint8_t *message, size_t length) {
-    size_t count = found("message", chaloenpik_field_count(kind, message, length));
-    uint64_t *numbers = calloc(count, sizeof(struct field));
-    if (numbers == NULL) {
+/* Room for so many entries. */
+static inline struct fields new_fields(size_t count) {
+    struct field *first = (struct field *)calloc(count, sizeof *first);
+    if (first == NULL) {
         perror("field list");
         exit(2);
     }
-    found("message", chaloenpik_fields(kind, message, length, 0, numbers, count * CHALOENPIK_ENTRY));
-    struct field *first = (struct field *)numbers;
     return (struct fields){first, first + count};
+}
+
+/* All fields of a message, in one pass: one call says how many there are, and one writes them. */
+static inline struct fields list_fields(uint8_t kind, const uint8_t *message, size_t length) {
+    size_t count = found("message", chaloenpik_field_count(kind, message, length));
+    struct fields list = new_fields(count);
+    found("message", chaloenpik_fields(kind, message, length, 0, (uint64_t *)list.first, count * CHALOENPIK_ENTRY));
+    return list;
+}
+
+/* All fields of an area; their places are in its body. */
+static inline struct fields list_area(const uint8_t *body, size_t length) {
+    size_t count = found("area", chaloenpik_area_field_count(body, length));
+    struct fields list = new_fields(count);
+    found("area", chaloenpik_area_fields(body, length, 0, (uint64_t *)list.first, count * CHALOENPIK_ENTRY));
+    return list;
 }
 
 /* The bits of a number of at most 8 bytes. */

@@ -1,13 +1,16 @@
 #!/usr/bin/env python3
 """Makes samples/: messages of a made-up harbour whose engine control asks a database for the limits of its engines, a reply that lacks
-a column, and one with the positions of boats; and, for the program `limit`, its input and what it prints: the sample reply, the same with
-a row more, three in which the limit's column is no longer what it was, and one that lacks a later column."""
+a column, one with the positions of boats, and one with no-wake areas; and, for the program `limit`, its input and what it prints: the
+sample reply, the same with a row more, three in which the limit's column is no longer what it was, and one that lacks a later column."""
 
 import pathlib
+import struct
 
+import areas
 from encoder import encode
 from reader import read
 from wire import *
+from wire_poly import vertex
 
 SAMPLES = pathlib.Path(__file__).resolve().parent.parent.parent / "samples"
 REQUEST = bytes.fromhex("00000000000000 2a".replace(" ", ""))
@@ -35,6 +38,33 @@ BOATS = {
         # A boat whose plotter is off.
         [5, b"Clam", None, 1_761_900_000_000_000],
         [9, b"Tug 9", (-0.0, 51.5), 1_762_000_030_000_000],
+    ],
+}
+
+
+def area(*rings):
+    """The body of a new area, by the places of its rings, all counterclockwise. What the server fills in is 0, and the internal byte 1."""
+    return areas.encode({"edition": 0, "internal": 1, "kept": bytes(AREA_KEPT), "rings": [
+        {"mark": 0, "vertices": [rounded_bits(vertex(*place)) for place in ring], "kept": bytes(RING_KEPT)} for ring in rings]})
+
+
+def rounded_bits(numbers):
+    """Rounded, so that the last bit of a machine's cosine doesn't make another sample."""
+    return struct.unpack(">3Q", struct.pack(">3d", *(round(number, 15) for number in numbers)))
+
+
+NO_WAKE = {
+    "status": 0,
+    "types": [INTEGER, STRING, FLOAT, GEOGRAPHY],
+    "names": [b"AREA_ID", b"NAME", b"LIMIT_KN", b"AREA"],
+    "rows": [
+        # Document 000's polygon, which has a hole.
+        [1, b"Training water", 0x4014000000000000,
+         area([(0.0, 0.0), (1.0, 0.0), (1.0, 1.0), (0.0, 1.0)], [(0.1, 0.1), (0.9, 0.1), (0.9, 0.9), (0.1, 0.9)])],
+        [2, "Svanemølle".encode(), 0x4008000000000000, area([(12.57, 55.715), (12.59, 55.712), (12.59, 55.72), (12.58, 55.723)])],
+        # An area that nobody has drawn yet, and one that was stored as text.
+        [3, b"North mole", 0x4012000000000000, None],
+        [4, b"Old basin", 0x4004000000000000, b"POLYGON((12.6 55.69, 12.61 55.69, 12.61 55.7, 12.6 55.69))"],
     ],
 }
 
@@ -68,6 +98,7 @@ MESSAGES = {
     "4-engines": (REPLY, reply(ENGINES)),
     "4-engines-without-vessel": (REPLY, reply(without(ENGINES, b"VESSEL"))),
     "4-positions": (REPLY, reply(BOATS)),
+    "4-areas": (REPLY, reply(NO_WAKE)),
 }
 
 

@@ -3,12 +3,17 @@
 
 What is accepted encodes to the same bytes and its fields tile it; every fault that reading can find is found in every field
 where the paper lets it be; null points, and all that is nearly one, are met wherever a point can be; the limits hold to the byte.
+The same of geographies' bodies; turning their holes twice restores them, and document 000's own is read at the places that it prints.
 """
 
+import itertools
 import struct
 import sys
 from collections import Counter
 
+import areas
+import generate_areas
+import wire_poly
 from encoder import encode
 from frames import frame, swept
 from generate import IN_RANGE, NEARLY_NULL, messages
@@ -29,6 +34,7 @@ POSSIBLE = {
     BAD_TYPE: {0, 24, 25, 45},
     BAD_VALUE: {27, 28, 30, 47, 50, 51},
 }
+POSSIBLE_INSIDE = {NO_ROOM: {*range(60, 69)}, BAD_SIGN: {63, 65}, LEFT_OVER: {68}, BAD_VALUE: {62, 63, 65}}
 
 
 def main():
@@ -53,6 +59,9 @@ def main():
     report_points(count, points)
     check_limits()
     check_frames()
+    check_areas(count // 4, seed)
+    check_order_inside()
+    check_wire_poly()
     print("selftest passed")
 
 
@@ -141,6 +150,82 @@ def check_frames():
     for cut in range(1, 11):
         assert swept(frame(2, paper) + frame(2, paper)[:cut]) == lines + ".\nbroken\n"
     assert swept(bytes.fromhex("00010002") + bytes(65538)) == "broken\n"
+
+
+def check_areas(count, seed):
+    accepted, at_fields, listed = 0, Counter(), Counter()
+    for body in itertools.chain(generate_areas.edges(), generate_areas.bodies(count, seed)):
+        try:
+            area, fields = areas.read(body)
+        except Refused as refusal:
+            at_fields[refusal.number, refusal.field] += 1
+            continue
+        accepted += 1
+        assert areas.encode(area) == body, body.hex()
+        check_tiling(fields, body)
+        check_turning(area, fields, body)
+        listed.update(field[2] for field in fields)
+    print("  bodies of geographies: %d accepted with %d fields, %d refused; each of %d faults at least %d times" % (
+        accepted, sum(listed.values()), sum(at_fields.values()), len(at_fields), min(at_fields.values())))
+    assert set(at_fields) == {(number, field) for number, fields in POSSIBLE_INSIDE.items() for field in fields}, at_fields
+    assert set(listed) == {*range(60, 69)}
+
+
+def check_turning(area, fields, body):
+    """Only the vertices of the holes move, but not the first of a ring; and twice is the same body."""
+    other = areas.encode(areas.turned(area))
+    again, other_fields = areas.read(other)
+    assert other_fields == fields and areas.encode(areas.turned(again)) == body, body.hex()
+    for at, size, number, ring, vertex, axis in fields:
+        if number != F_COORDINATE or ring == 0 or vertex == 0:
+            assert other[at:at + size] == body[at:at + size], body.hex()
+        else:
+            count = len(area["rings"][ring]["vertices"])
+            assert again["rings"][ring]["vertices"][vertex] == area["rings"][ring]["vertices"][count - vertex], body.hex()
+
+
+def check_order_inside():
+    """The third byte by itself, then the count by itself, then the byte against the count, then the rings."""
+    body = areas.encode(generate_areas.plain(3))
+    for holes, count, answer in (
+            (2, -1, (BAD_VALUE, 2)), (255, 1, (BAD_VALUE, 2)), (1, -1, (BAD_SIGN, 3)), (0, 0, (BAD_VALUE, 3)), (1, 0, (BAD_VALUE, 3)),
+            (1, 1, (BAD_VALUE, 2)), (0, 2, (BAD_VALUE, 2)), (0, MOST_COUNT, (BAD_VALUE, 2)), (0, 1, "accepted"),
+            (1, 2, (NO_ROOM, 151)), (1, MOST_COUNT, (NO_ROOM, 151))):
+        changed = generate_areas.replaced(body, 2, bytes([holes]) + generate_areas.count_bytes(count))
+        assert verdict_inside(changed) == answer, (holes, count, verdict_inside(changed))
+    assert verdict_inside(b"") == (NO_ROOM, 0)
+    assert verdict_inside(bytes.fromhex("000102")) == (BAD_VALUE, 2)  # before it is seen that no count follows
+    assert verdict_inside(bytes.fromhex("000101")) == (NO_ROOM, 3)
+
+
+def verdict_inside(body):
+    try:
+        areas.read(body)
+        return "accepted"
+    except Refused as refusal:
+        return refusal.number, refusal.place
+
+
+def check_wire_poly():
+    body = wire_poly.body()
+    area, fields = areas.read(body)
+    assert [field[:2] for field in fields] == [row[:2] for row in wire_poly.TABLE] and len(body) == 318
+    assert [field[2:] for field in fields[:6]] == [(number, 0, 0, 0) for number in range(60, 66)]
+    assert (191, 8, 66, 1, 1, 2) in fields and fields[-2:] == [(247, 38, 67, 1, 0, 0), (285, 33, 68, 0, 0, 0)]
+    places = [[place_of(vertex) for vertex in ring["vertices"]] for ring in area["rings"]]
+    outer, hole = [row[:2] for row in wire_poly.POINTS[:4]], [row[:2] for row in wire_poly.POINTS[4:]]
+    assert places == [outer, hole[:1] + hole[:0:-1]]  # the table says so: "Note that the second ring has been reversed"
+    back = [[place_of(vertex) for vertex in ring["vertices"]] for ring in areas.turned(area)["rings"]]
+    assert back == [outer, hole]
+    check_turning(area, fields, body)
+    for longitude, latitude, *printed in wire_poly.POINTS:
+        assert [round(number, 6) for number in wire_poly.vertex(longitude, latitude)] == printed
+
+
+def place_of(vertex):
+    """The longitude and latitude of the printed point that has these coordinates."""
+    numbers = list(struct.unpack(">3d", struct.pack(">3Q", *vertex)))
+    return next((longitude, latitude) for longitude, latitude, *printed in wire_poly.POINTS if printed == numbers)
 
 
 if __name__ == "__main__":

@@ -45,7 +45,7 @@ NO_STATE = State(writer.CLOSED, 0)
 
 
 def fresh(size):
-    return bytes(i % 251 for i in range(size))
+    return (bytes(range(251)) * (size // 251 + 1))[:size]
 
 
 def walked(script):

@@ -1,4 +1,4 @@
-"""The constants of paper 01: wire types, field numbers, limits, refusal numbers.
+"""The constants of paper 01, and of a geography's body: wire types, field numbers, limits, refusal numbers.
 
 Both directions (reader.py and encoder.py) and the generator take them from here; nothing else is shared.
 """
@@ -37,6 +37,9 @@ MOST_ROWS = 2_147_483_647
 MOST_ITEMS = 32_767          # parameters, tables and array elements
 MOST_LISTED = 65_536         # the longest message that the listing program takes
 MOST_FRAME = MOST_LISTED + 1
+MOST_COUNT = 2_147_483_647   # rings of an area, and vertices of a ring: what their counts can say
+FEWEST_RINGS, FEWEST_VERTICES = 1, 3
+RING_KEPT, AREA_KEPT = 38, 33
 
 MOST_DECIMAL = 10**38 - 1
 NULL_DECIMAL = -(2**127)
@@ -55,3 +58,7 @@ F_FLAGS, F_STATUS, F_STATUS_STRING, F_APPLICATION, F_APPLICATION_STRING = 30, 31
 F_ROUND_TRIP, F_EXCEPTION, F_TABLES = 37, 38, 40
 F_TABLE, F_METADATA, F_TABLE_STATUS, F_COLUMNS = 41, 42, 43, 44
 F_COLUMN_TYPE, F_COLUMN_NAME, F_ROWS, F_ROW, F_CELL = 45, 46, 48, 49, 50
+
+# Field numbers of the list inside a geography's body. Their indices are ring, vertex and axis.
+F_EDITION, F_INTERNAL, F_HOLES, F_RING_COUNT = 60, 61, 62, 63
+F_MARK, F_VERTEX_COUNT, F_COORDINATE, F_RING_KEPT, F_AREA_KEPT = 64, 65, 66, 67, 68

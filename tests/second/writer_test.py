@@ -3,17 +3,21 @@
 
 The steps that a record spells write its encoding and nothing past it; in a buffer that is too short by k bytes some step answers 8
 at the place that it would reach, and changes nothing; a run of wild steps that reaches its end has written an accepted message. A null
-point is written from its numbers and from its bits, and what is nearly one is refused.
+point is written from its numbers and from its bits, and what is nearly one is refused. The same of the steps that write a geography's body.
 """
 
 import random
 import sys
 from collections import Counter
 
+import area_calls
+import area_scripts
+import areas
 import steps
 import writer
 from encoder import encode
 from generate import IN_RANGE, NEARLY_NULL, Maker
+from generate_areas import AreaMaker
 from reader import read
 from wire import *
 
@@ -30,8 +34,17 @@ def main():
         spelled_once(maker)
         wild_once(maker, answers)
     check_points()
-    print("writer_test passed: seed %d, %d records; wild answers: %s" % (
-        seed, count, ", ".join("%s %d" % pair for pair in sorted(answers.items()))))
+    print("writer_test: seed %d, %d records; wild answers: %s" % (seed, count, listed(answers)))
+    maker, answers = AreaMaker(random.Random(seed)), Counter()
+    for _ in range(count):
+        area_once(maker)
+        wild_area_once(maker, answers)
+    check_area_limits(maker)
+    print("writer_test passed: %d areas; wild answers: %s" % (count, listed(answers)))
+
+
+def listed(answers):
+    return ", ".join("%s %d" % pair for pair in sorted(answers.items()))
 
 
 def spelled_once(maker):
@@ -75,6 +88,54 @@ def check_points():
     for nearly in NEARLY_NULL:
         point = tuple(0.0 if number is IN_RANGE else number for number in nearly)
         assert added(point)[0] == "refused 7 19", point
+
+
+# -- Bodies of geographies.
+
+def area_once(maker):
+    area = maker.area()
+    body, script = areas.encode(area), area_calls.spelled(area)
+    spare = maker.rng.choice((0, 1, 50))
+    second = area_calls.Second()
+    lines = second.lines([("buffer", (len(body) + spare,)), *script])
+    assert all(line.startswith("fine") for line in lines), lines
+    assert second.out == body + steps.fresh(len(body) + spare)[len(body):] and second.state == (0, len(body), 0, 0, 0)
+    second.take()
+    assert second.area == area
+    short = maker.rng.randrange(len(body))
+    answers = [line.split() for line in second.lines([("buffer", (short,)), *script])]
+    refused = next(words for words in answers if words[0] == "refused")
+    assert refused[1] == "8" and int(refused[2]) > short, (answers, short)
+
+
+def wild_area_once(maker, counts):
+    """A refusal changes nothing; and a run that is finished on no forged state has written an area."""
+    script = area_scripts.wild(maker)
+    second = area_calls.Second()
+    for name, arguments in script:
+        before = second.state, bytes(second.out)
+        line = second.line(name, arguments)
+        if name in area_calls.STEPS:
+            counts[line.split()[1] if line.startswith("refused") else "fine"] += 1
+            assert line.startswith("fine") or (second.state, bytes(second.out)) == before
+        if name == "finish" and line.startswith("fine") and not any(other == "forge" for other, _ in script):
+            areas.read(bytes(second.out[:second.state.position]))
+
+
+def check_area_limits(maker):
+    """A count stops at 2^31 - 1, and is filled in whole; too few are refused where the writer stands."""
+    def answers(state, *names):
+        second = area_calls.Second()
+        lines = second.lines([("buffer", (200,)), ("forge", state), *(area_scripts.step_of(maker, name) for name in names)])
+        return [" ".join(line.split()[:3]) if line.startswith("refused") else "fine" for line in lines], bytes(second.out)
+
+    assert answers((1, 7, MOST_COUNT - 1, 0, 0), "open_ring", "close_ring")[0] == ["fine", "refused 7 12"]
+    assert answers((1, 7, MOST_COUNT, 0, 0), "open_ring")[0] == ["refused 3 7"]
+    assert answers((1, 7, MOST_COUNT + 1, 0, 0), "open_ring")[0] == ["refused 13 7"]
+    told, out = answers((2, 100, MOST_COUNT, 20, MOST_COUNT - 1), "add_vertex", "add_vertex", "close_ring", "finish")
+    assert told == ["fine", "refused 3 124", "fine", "fine"]
+    assert out[21:25] == out[3:7] == MOST_COUNT.to_bytes(4, "big") and out[2] == 1
+    assert answers((0, 0, 0, 0, 0), "begin", "finish", "add_vertex")[0] == ["fine", "refused 7 7", "refused 13 7"]
 
 
 def wild(maker, forging=0.5):

@@ -9,6 +9,8 @@ Where each field stands comes from the proved library (listing.py); nothing here
     values.py    the bytes of one value, as plain text
     fields.py    a listed field with its name, its place (table, row, column) and its value
     cells.py     one cell: which one is meant, and the bytes that are it, name it and fix its place
+    areas.py     geographies looked into: the fields inside a body that is an area, and where its vertices are
+    geojson.py   the areas of a response as GeoJSON
     refusals.py  why a message is refused, in words; the fields before the place are the second reader's (tests/second)
     sources.py   what an answer was made from: the file, the project's commit, the kit
     lines.py     the answers as lines of text

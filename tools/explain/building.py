@@ -11,10 +11,9 @@ import sys
 import threading
 
 ROOT = pathlib.Path(__file__).resolve().parents[2]
-LOGS = ROOT / "target" / "explain"
-SOURCE = pathlib.Path(__file__).with_name("fields.c")
+LOGS = PROGRAMS = ROOT / "target" / "explain"
+SOURCES = pathlib.Path(__file__).parent
 ARCHIVE = ROOT / "target" / "staticlib" / "libexports.a"
-FIELDS = ROOT / "target" / "explain" / "fields"
 LIST = ROOT / "target" / "bin" / "list"
 SILENT = 2  # seconds before a run that proves something says so
 PROVED = re.compile(r"rt: (\S+) proved \((.*)\)")
@@ -32,13 +31,24 @@ def list_program():
 
 def fields_program():
     """The C interface's field list, for messages of any size."""
+    return c_program("fields")
+
+
+def areas_program():
+    """The C interface's field list of areas, and the turning of their holes."""
+    return c_program("areas")
+
+
+def c_program(name):
+    """A program of this folder over the C interface."""
+    made, source = PROGRAMS / name, SOURCES / (name + ".c")
     proved("exports")
     if not fresh(ARCHIVE, ROOT / "crates", ROOT / "crates.txt"):
         say("making the archive of the C interface, about a minute")
         logged("archive", ["tools/c/archive"])
-    if not fresh(FIELDS, ARCHIVE, SOURCE, ROOT / "include"):
-        logged("fields", ["tools/c/kit", "build", str(FIELDS), str(SOURCE), str(ARCHIVE)])
-    return FIELDS
+    if not fresh(made, ARCHIVE, source, ROOT / "include"):
+        logged(name, ["tools/c/kit", "build", str(made), str(source), str(ARCHIVE)])
+    return made
 
 
 def fresh(made, *sources):

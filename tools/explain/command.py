@@ -5,7 +5,7 @@ import os
 from . import paper
 
 USAGE = """\
-usage: explain [KIND] FILE [--byte N | --cell TABLE ..] [--json | --html OUT]
+usage: explain [KIND] FILE [--byte N | --cell TABLE ..] [--inside] [--json | --html OUT] [--geojson OUT]
 
 Says what each byte of a message means.
 
@@ -18,18 +18,23 @@ Says what each byte of a message means.
   --cell TABLE --where NAME=VALUE --column COLUMN
                   the value of a cell, and the bytes that are it, that name it and that fix its place. COLUMN is a name, or if no
                   column has that name a number. With --where, the cell is of the first row whose column NAME is VALUE
-  --json          the fields as lines of JSON: offset, size, field (its number), indices, name, where, value, bytes (in hex), and with --cell and
-                  of a refused message their group; the last line says the kind and what the answer was made from
+  --inside        looks into geographies too: below the body of one that is an area its own fields, indented, with their places in the message:
+                  the leading bytes, the rings, each vertex and its longitude and latitude, the kept bytes. A body that is no area is told so
+  --json          the fields as lines of JSON: offset, size, field (its number), indices, name, where, value, bytes (in hex), with --cell and
+                  of a refused message their group, and of a field in an area the offset of the body that it stands inside; the last line says the
+                  kind and what the answer was made from
   --html OUT      writes a page that shows the bytes, for a browser
+  --geojson OUT   writes the geographies of a response's tables as GeoJSON: a feature for each cell, with the other cells of its row, the place of
+                  its bytes, and if it is an area a polygon, its holes turned clockwise by the proved library. Of a refused message nothing is written
   --              what follows is KIND and FILE, even if it begins with -
 
 Each line: offset, size, bytes in hex, the field's name, where it belongs, and what it says. Tables, rows, columns, parameters
-and elements are counted from 0. Where fields stand is told by the proved library; words, decimals and moments are put to their bytes
-outside the proof. Exit status: 0 answered, 1 refused or not there, 2 the command can't be carried out.""" % (
+and elements are counted from 0. Where fields stand is told by the proved library; words, decimals and moments are put to their bytes,
+and degrees computed from the vertices of areas, outside the proof. Exit status: 0 answered, 1 refused or not there, 2 the command can't be carried out.""" % (
     ", ".join("%d %s" % kind for kind in paper.KINDS.items()), paper.MOST_BYTES)
 
-TAKES_WORD = ("--kind", "--byte", "--row", "--column", "--where", "--html")
-OPTIONS = TAKES_WORD + ("--cell", "--json", "--help", "-h", "--")
+TAKES_WORD = ("--kind", "--byte", "--row", "--column", "--where", "--html", "--geojson")
+OPTIONS = TAKES_WORD + ("--cell", "--inside", "--json", "--help", "-h", "--")
 
 
 class Usage(Exception):
@@ -38,8 +43,8 @@ class Usage(Exception):
 
 class Options:
     def __init__(self, words):
-        self.kind = self.file = self.byte = self.table = self.row = self.column = self.where = self.html = None
-        self.json = self.help = False
+        self.kind = self.file = self.byte = self.table = self.row = self.column = self.where = self.html = self.geojson = None
+        self.json = self.inside = self.help = False
         self.take(list(words))
         if not self.help:
             self.check()
@@ -52,8 +57,8 @@ class Options:
                 places, words = places + words, []
             elif word in ("--help", "-h"):
                 self.help = True
-            elif word == "--json":
-                self.json = True
+            elif word in ("--json", "--inside"):
+                setattr(self, word[2:], True)
             elif word == "--cell":
                 self.take_cell(words)
             elif word.split("=")[0] in TAKES_WORD:
@@ -99,6 +104,8 @@ class Options:
             raise Usage("--cell needs a row, by its number or by --where NAME=VALUE, and a column")
         if [self.byte, self.table].count(None) == 0 or (self.json and self.html is not None):
             raise Usage("--byte and --cell, or --json and --html, don't go together")
+        if self.inside and self.html is not None:
+            raise Usage("--inside and --html don't go together: the page shows the message's own fields")
         if self.where is not None and "=" not in self.where:
             raise Usage("--where takes NAME=VALUE")
         self.column, self.where = as_bytes(self.column), as_bytes(self.where)

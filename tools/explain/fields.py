@@ -13,7 +13,10 @@ LOOKED_UP = {paper.PARAMETER_TYPE, paper.ELEMENT_TYPE, paper.COLUMN_TYPE, paper.
 
 
 class Field:
-    """One field: where it stands, what it is called, which table, row and column it belongs to, what it says."""
+    """One field: where it stands, what it is called, which table, row and column it belongs to, what it says; and if it is one of an area, where the body starts
+    that it stands in."""
+
+    inside = None
 
     def __init__(self, entry, raw, name, where, value):
         self.offset, self.size, self.number = entry[:3]
@@ -79,6 +82,8 @@ class Explained:
         if number in paper.PARAMETER_FIELDS:
             element = ", element %d" % j if number in (paper.VALUE_LENGTH, paper.VALUE) and self.in_array(i) else ""
             return "parameter %d%s" % (i, element)
+        if number in paper.AREA_FIELDS:
+            return area_place(number, i, j, k)
         if number not in paper.TABLE_FIELDS:
             return ""
         row = ", row %d" % j if number >= paper.ROW_LENGTH else ""
@@ -143,7 +148,18 @@ SHAPES = {
     "address": values.address,
     "milliseconds": lambda raw: values.utc(1000 * values.signed(raw)),
     "duration": lambda raw: "%d ms" % values.signed(raw),
+    "byte": lambda raw: str(raw[0]),
+    "holes": lambda raw: values.named(raw[0], paper.HOLES),
+    "float": values.float_text,
 }
+
+
+def area_place(number, ring, vertex, axis):
+    """Where in an area a field of it belongs."""
+    if number not in paper.RING_FIELDS:
+        return ""
+    which = "ring %d (%s)" % (ring, "hole" if ring else "exterior")
+    return "%s, vertex %d, %s" % (which, vertex, paper.AXES[axis]) if number == paper.COORDINATE else which
 
 
 def shown_name(name):

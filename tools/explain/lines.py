@@ -2,13 +2,14 @@
 
 import itertools
 
-from . import cells, values
+from . import areas, cells, values
 
 BYTES_SHOWN = 8     # bytes of a field shown in hex before they are cut
 BYTES_IN_LINE = 16  # of a field shown whole, and of the bytes around a place
 LINES_AROUND = 2    # before and after the place's own line
 BLOCK = 4096        # fields put into words at once, so that the first lines of a long list come at once
 RUN_SHOWN = 3       # fields shown at each end of a long run of one number
+INDENT = "  "       # before the name of a field inside an area
 
 PROMISE = """\
 No byte but those of the value and the one of its column's type has a part in what is read: two accepted replies in which these are equal show the same
@@ -27,13 +28,17 @@ class Columns:
         self.offset = max(self.offset, *(len(str(field.offset)) for field in fields))
         self.size = max(self.size, *(len(str(field.size)) for field in fields))
         self.bytes = max(self.bytes, *(len(self.hexed(field.raw)) for field in fields))
-        self.name = max(self.name, *(len(field.name) for field in fields))
+        self.name = max(self.name, *(len(indented_name(field)) for field in fields))
         self.where = max(self.where, *(len(field.where) for field in fields))
 
     def line(self, field):
         return "%*d  %*d  %-*s  %-*s  %-*s  %s" % (
             self.offset, field.offset, self.size, field.size, self.bytes, self.hexed(field.raw),
-            self.name, field.name, self.where, field.where, field.value)
+            self.name, indented_name(field), self.where, field.where, field.value)
+
+
+def indented_name(field):
+    return field.name if field.inside is None else INDENT + field.name
 
 
 def field_lines(fields):
@@ -66,24 +71,27 @@ def span(offset, size):
 
 # -- One byte
 
-def byte_lines(explained, offset):
-    field = explained.owner(offset)
+def byte_lines(explained, offset, inside=areas.Opaque()):
     byte = explained.message[offset]
-    place = "byte %d (hex %02x, decimal %d)" % (offset, byte, byte)
-    return ["%s is number %d of the %s of:" % (place, offset - field.offset + 1, values.count_of(field.size, "byte")), *field_lines([field])]
+    which, lines = "byte %d (hex %02x, decimal %d) is" % (offset, byte, byte), []
+    for field in inside.owners(explained.owner(offset), offset):
+        lines += ["%s number %d of the %s of:" % (which, offset - field.offset + 1, values.count_of(field.size, "byte")), *field_lines([field])]
+        which = "and in this area it is"
+    return lines
 
 
 # -- One cell
 
-def cell_lines(chosen):
+def cell_lines(chosen, inside=areas.Opaque()):
     cell = chosen.cell
     groups = cell.groups()
+    groups[cells.VALUE] = list(inside.among(groups[cells.VALUE]))
     columns = Columns(first_hex)
     for fields in groups.values():
         columns.widen(fields)
     where = "table %d, row %d, %s" % (cell.table, cell.row, cell.explained.column_text(cell.table, cell.column))
     return [
-        "%s is %s" % (where, cell.value()), "the number or bytes behind it: %s" % cell.raw_number(), *chosen.notes, "",
+        "%s is %s" % (where, inside.value(cell)), "the number or bytes behind it: %s" % cell.raw_number(), *chosen.notes, "",
         "The bytes that are the value, %s:" % span(cell.start, cell.end - cell.start), *whole_lines(columns, groups[cells.VALUE]), "",
         "The bytes that name it, its column's type and name%s:" % (", and the column and the cell that chose its row" if cell.key is not None else ""),
         *whole_lines(columns, groups[cells.NAMES]), "",

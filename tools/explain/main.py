@@ -4,7 +4,7 @@ import os
 import sys
 import traceback
 
-from . import cells, lines, page, paper, records, values
+from . import areas, cells, geojson, lines, page, paper, records, values
 from .building import Missing, say
 from .command import USAGE, Options, Usage
 from .fields import Explained
@@ -49,6 +49,8 @@ def answer(words):
     question = Question(options, message)
     if options.html is not None:
         question.write_page()
+    if options.geojson is not None:
+        question.write_geojson()
     put(question.answer())
     return question.status
 
@@ -60,7 +62,7 @@ class Question:
         self.options, self.message = options, message
         self.kind, self.guessed = options.kind, options.kind is None
         self.refused = self.explained = None
-        self.status = ANSWERED
+        self.status, self.written = ANSWERED, []
         found = {kind: listing(kind, message) for kind in ([self.kind] if self.kind else paper.KINDS)}
         accepting = [kind for kind, (refusal, _) in found.items() if refusal is None]
         if self.guessed:
@@ -71,17 +73,22 @@ class Question:
             self.refused = Refusal(self.kind, message, refusal, others_accepting(self.kind, message))
         else:
             self.explained = Explained(message, numbers)
+        self.inside = areas.Inside(self.explained) if options.inside and self.explained else areas.Opaque()
 
     def answer(self):
         """The lines of the answer, and at the end what it was made from."""
         sources = Sources(self.message)
+        looked_into = self.options.inside and not self.refused
         if self.options.json:
             yield from self.json_lines()
-            yield records.last_record(kind=self.kind, guessed=self.guessed, fields=len(self.explained or ()), **sources.record())
+            inside = {"inside": {**self.inside.counts(), "note": " ".join(areas.NOTE.split())}} if looked_into else {}
+            yield records.last_record(kind=self.kind, guessed=self.guessed, fields=len(self.explained or ()), **inside, **sources.record())
             return
         if self.guessed:
             yield "kind %d, %s: no other kind accepts these bytes" % (self.kind, paper.KINDS[self.kind])
         yield from self.text_lines()
+        if looked_into:
+            yield from ["", *areas.NOTE.splitlines()]
         yield ""
         yield from sources.lines()
 
@@ -89,26 +96,26 @@ class Question:
         if self.refused:
             return lines.refusal_lines(self.refused)
         if self.options.byte is not None:
-            return self.one_byte(lambda: lines.byte_lines(self.explained, self.options.byte))
+            return self.one_byte(lambda: lines.byte_lines(self.explained, self.options.byte, self.inside))
         if self.options.table is not None:
             return self.one_cell(lines.cell_lines)
-        if self.options.html is not None:
-            return ["%s shows %s" % (shown_file(self.options.html), values.count_of(len(self.explained), "field"))]
-        return self.all_fields()
+        return self.written if self.written and not self.options.inside else self.all_fields()
 
     def all_fields(self):
-        yield from lines.field_lines(self.explained)
+        yield from lines.field_lines(self.inside.among(self.explained))
         yield ""
         yield lines.tiling_line(self.explained)
+        if self.options.inside:
+            yield self.inside.line()
 
     def json_lines(self):
         if self.refused:
             return records.refusal_records(self.refused)
         if self.options.byte is not None:
-            return self.one_byte(lambda: records.field_records([self.explained.owner(self.options.byte)]))
+            return self.one_byte(lambda: records.field_records(self.inside.owners(self.explained.owner(self.options.byte), self.options.byte)))
         if self.options.table is not None:
             return self.one_cell(records.cell_records)
-        return records.field_records(self.explained)
+        return records.field_records(self.inside.among(self.explained))
 
     def one_byte(self, told):
         if self.options.byte < len(self.message):
@@ -117,7 +124,7 @@ class Question:
 
     def one_cell(self, told):
         try:
-            return told(cells.Chosen(self.explained, self.options))
+            return told(cells.Chosen(self.explained, self.options), self.inside)
         except cells.NotThere as problem:
             return self.not_there(str(problem))
 
@@ -134,6 +141,21 @@ class Question:
         name = "standard input" if self.options.file == "-" else shown_file(os.path.basename(self.options.file))
         text = page.page(self.kind, name, self.message, known.numbers, refusal, words, Sources(self.message).lines())
         write_file(out, text.encode("utf-8", errors="backslashreplace"))
+        self.written.append("%s shows %s" % (shown_file(out), values.count_of(len(known), "field")))
+
+    def write_geojson(self):
+        """The areas of a response. One that is refused has none that could be trusted."""
+        out = self.options.geojson
+        check_other_file(self.options.file, out)
+        if self.refused:
+            say("%s isn't written: the message is refused" % shown_file(out))
+            return
+        if self.kind != paper.RESPONSE:
+            raise Failed("--geojson takes the tables of an invocation response, kind %d, and this is kind %d" % (paper.RESPONSE, self.kind))
+        collection = geojson.Collection(self.explained)
+        write_file(out, collection.text(Sources(self.message)).encode("ascii"))
+        counts = values.count_of(len(collection.features), "feature"), collection.drawn()
+        self.written += ["%s has %s, %d of them with a polygon" % (shown_file(out), *counts), *geojson.NOTE.splitlines()]
 
 
 def guess(found, accepting):
@@ -165,11 +187,11 @@ def read_message(name):
 
 
 def check_other_file(name, out):
-    """A page never takes the place of the message that it shows."""
+    """What is written never takes the place of the message that it shows."""
     try:
         given = os.fstat(0) if name == "-" else os.stat(name)
         if os.path.samestat(given, os.stat(out)):
-            raise Failed("%s is the message itself: the page needs another name" % shown_file(out))
+            raise Failed("%s is the message itself: what is written needs another name" % shown_file(out))
     except FileNotFoundError:
         pass
 

@@ -1,6 +1,7 @@
 """The words of the paper: what its numbers are called and what they mean."""
 
 KINDS = {1: "login request", 2: "login response", 3: "invocation", 4: "invocation response"}
+RESPONSE = 4
 
 # Field number: its name, and how its bytes are to be shown (a function of fields.py goes by this word).
 FIELDS = {
@@ -50,15 +51,28 @@ FIELDS = {
     49: ("row length", "length"),
     50: ("cell length", "length"),
     51: ("cell", "value"),
+    # Inside the body of a geography, which has a list of its own.
+    60: ("encoding version", "byte"),
+    61: ("internal", "byte"),
+    62: ("holes", "holes"),
+    63: ("ring count", "number"),
+    64: ("ring mark", "byte"),
+    65: ("vertex count", "number"),
+    66: ("coordinate", "float"),
+    67: ("ring's kept bytes", "opaque"),
+    68: ("kept bytes", "opaque"),
 }
 
 # The fields that the indices are told for, and those that this tool looks up or looks at.
 PARAMETER_FIELDS = range(24, 29)
 TABLE_FIELDS = range(41, 52)
+AREA_FIELDS, RING_FIELDS = range(60, 69), range(64, 68)
 MESSAGE_LENGTH, FLAG_BYTE, STATUS_LENGTH, APPLICATION_LENGTH, EXCEPTION_LENGTH = 1, 30, 32, 35, 38
 PARAMETER_COUNT, PARAMETER_TYPE, ELEMENT_TYPE, ELEMENT_COUNT, VALUE_LENGTH, VALUE = 23, 24, 25, 26, 27, 28
 TABLE_COUNT, TABLE_LENGTH, METADATA_LENGTH, TABLE_STATUS, COLUMN_COUNT = 40, 41, 42, 43, 44
 COLUMN_TYPE, COLUMN_NAME_LENGTH, COLUMN_NAME, ROW_COUNT, ROW_LENGTH, CELL_LENGTH, CELL = 45, 46, 47, 48, 49, 50, 51
+RING_COUNT, RING_MARK, COORDINATE = 63, 64, 66
+AXES = "xyz"
 
 ARRAY, NULL, TINYINT, STRING, DECIMAL, FLOAT, TIMESTAMP, VARBINARY, POINT, GEOGRAPHY = -99, 1, 3, 9, 22, 8, 11, 25, 26, 27
 TYPES = {
@@ -70,6 +84,7 @@ FLAGS = {32: "status string", 64: "exception", 128: "application string"}
 RESULTS = {0: "accepted", 1: "too many connections", 2: "the client took too long", 3: "corrupt or invalid login"}
 STATUSES = {1: "success", -1: "user abort", -2: "graceful failure", -3: "unexpected failure", -4: "connection lost"}
 HASHES = {0: "SHA-1", 1: "SHA-256"}
+HOLES = {0: "none", 1: "there are some"}
 
 # Refusal number: when it is given, and what its place is.
 REFUSALS = {
@@ -81,6 +96,16 @@ REFUSALS = {
     6: ("the wire type is unknown or not permitted there, or there is no such kind", "that byte; 0 for a kind"),
     7: ("a decimal, point, flag byte, column name or empty geography breaks its rule",
         "the value; a name's first byte above 127; an empty geography's length field"),
+}
+
+# Why the body of a geography is no area, by the refusal's number, or by that and its place in the body.
+NO_AREA = {
+    1: "a field doesn't fit",
+    2: "a count is negative",
+    4: "bytes are left after the last field",
+    7: "a ring has at least 3 vertices",
+    (7, 2): "the third byte is 0 for one ring and 1 for more",
+    (7, 3): "an area has at least 1 ring",
 }
 
 # The longest message, its length field included, and the longest that the listing program takes.

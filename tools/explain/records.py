@@ -2,20 +2,23 @@
 
 import json
 
+from . import areas, cells
+
 
 def field_records(fields, **more):
+    """A field inside an area says so by the offset of the body that it stands in."""
     for field in fields:
         record = {"offset": field.offset, "size": field.size, "field": field.number, "indices": list(field.indices), "name": field.name,
-                  "where": field.where, "value": field.value, "bytes": field.raw.hex(), **more}
+                  "where": field.where, "value": field.value, "bytes": field.raw.hex(), **({} if field.inside is None else {"inside": field.inside}), **more}
         yield json.dumps(record)
 
 
-def cell_records(chosen):
+def cell_records(chosen, inside=areas.Opaque()):
     cell = chosen.cell
-    told = {"table": cell.table, "row": cell.row, "column": cell.column, "value": cell.value(), "raw": cell.raw_number(), "notes": chosen.notes}
+    told = {"table": cell.table, "row": cell.row, "column": cell.column, "value": inside.value(cell), "raw": cell.raw_number(), "notes": chosen.notes}
     yield json.dumps({"cell": told})
     for group, fields in cell.groups().items():
-        yield from field_records(fields, group=group)
+        yield from field_records(inside.among(fields) if group == cells.VALUE else fields, group=group)
 
 
 def refusal_records(refused):

@@ -1,20 +1,21 @@
-//! The field list: which bytes of a message say what.
+//! The field list: which bytes of a message, or of an area, say what.
 
 use crate::foreign;
 use crate::refusal::{found, Refusal};
 use crate::Kind;
 use std::ops::Range;
 
-/// A field of a message: where it stands, how long it is, its number in the paper and its three indices.
+/// A field of a message or an area: where it stands, how long it is, its number in the paper and its three indices.
 #[derive(Clone, Copy, Debug, PartialEq, Eq, Hash)]
 pub struct Field {
-    /// Its first byte in the message.
+    /// Its first byte in the message, or in the area's body.
     pub offset: usize,
     /// How many bytes it has.
     pub size: usize,
     /// What it is, by the paper's number: 48 is a row count, 51 a cell.
     pub number: u8,
-    /// Table, row and column of 41 to 51, parameter and element of 24 to 28; those that don't apply are 0.
+    /// Table, row and column of 41 to 51, parameter and element of 24 to 28, ring, vertex and axis of 60 to 68; those that don't apply
+    /// are 0.
     pub indices: [usize; 3],
 }
 
@@ -22,12 +23,12 @@ pub struct Field {
 const ENTRY: usize = 6;
 
 impl Field {
-    /// Its bytes in the message.
+    /// Its bytes in the message or the body.
     pub fn place(&self) -> Range<usize> {
         self.offset..self.offset + self.size
     }
 
-    fn from_entry(entry: [u64; ENTRY]) -> Field {
+    pub(crate) fn from_entry(entry: [u64; ENTRY]) -> Field {
         let [offset, size, number, first, second, third] = entry;
         Field { offset: offset as usize, size: size as usize, number: number as u8, indices: [first, second, third].map(|n| n as usize) }
     }
@@ -65,12 +66,17 @@ pub fn owner(kind: Kind, message: &[u8], offset: usize) -> Result<usize, Refusal
 /// All fields of a message, one after the other.
 pub(crate) fn each_field(kind: Kind, message: &[u8]) -> Result<impl Iterator<Item = Field>, Refusal> {
     // SAFETY: as above.
-    let count = found(unsafe { foreign::chaloenpik_field_count(kind as u8, message.as_ptr(), message.len()) })?;
-    let mut entries = vec![[0; ENTRY]; count];
-    // SAFETY: as above; the entries are lent for writing and are nobody else's, and their numbers stand one behind the other.
-    let taken = found(unsafe {
-        foreign::chaloenpik_fields(kind as u8, message.as_ptr(), message.len(), 0, entries.as_mut_ptr().cast(), ENTRY * count)
-    })?;
+    let count = unsafe { foreign::chaloenpik_field_count(kind as u8, message.as_ptr(), message.len()) };
+    // SAFETY: as above; `out` has room for `size` numbers, which are lent for writing and are nobody else's.
+    let list = entries(count, |out, size| unsafe { foreign::chaloenpik_fields(kind as u8, message.as_ptr(), message.len(), 0, out, size) });
+    Ok(list?.into_iter().map(Field::from_entry))
+}
+
+/// A whole list, by the answer that says how many entries it has, and a call that writes them to a place with room for so many numbers.
+pub(crate) fn entries(count: u64, write: impl FnOnce(*mut u64, usize) -> u64) -> Result<Vec<[u64; ENTRY]>, Refusal> {
+    let count = found(count)?;
+    let mut entries = vec![[0; ENTRY]; count]; // whose numbers stand one behind the other
+    let taken = found(write(entries.as_mut_ptr().cast(), ENTRY * count))?;
     entries.truncate(taken);
-    Ok(entries.into_iter().map(Field::from_entry))
+    Ok(entries)
 }

@@ -7,6 +7,15 @@ pub const COLUMNS: usize = 64;
 pub type State = [u64; 11];
 pub type Types = [u8; COLUMNS];
 
+/// How many bytes of a ring are kept as they came.
+pub const RING_KEPT: usize = 38;
+
+/// How many bytes of an area are kept as they came, besides those of its rings.
+pub const AREA_KEPT: usize = 33;
+
+/// The state of writing an area in numbers.
+pub type AreaState = [u64; 5];
+
 extern "C" {
     pub fn chaloenpik_accept(kind: u8, message: *const u8, length: usize) -> u64;
     pub fn chaloenpik_field_count(kind: u8, message: *const u8, length: usize) -> u64;
@@ -80,4 +89,20 @@ extern "C" {
     pub fn chaloenpik_close_row(out: *mut u8, size: usize, state: *mut State, types: *const Types) -> u64;
     pub fn chaloenpik_close_table(out: *mut u8, size: usize, state: *mut State, types: *const Types) -> u64;
     pub fn chaloenpik_finish_reply(out: *mut u8, size: usize, state: *mut State) -> u64;
+
+    pub fn chaloenpik_area_rings(body: *const u8, length: usize) -> u64;
+    pub fn chaloenpik_area_ring(body: *const u8, length: usize, ring: usize, told: *mut [u64; 3]) -> u64;
+    pub fn chaloenpik_area_vertex(body: *const u8, length: usize, ring: usize, vertex: usize, axes: *mut [u64; 3]) -> u64;
+    pub fn chaloenpik_area_ring_kept(body: *const u8, length: usize, ring: usize, part: *mut [u64; 2]) -> u64;
+    pub fn chaloenpik_area_kept(body: *const u8, length: usize, part: *mut [u64; 2]) -> u64;
+    pub fn chaloenpik_area_field_count(body: *const u8, length: usize) -> u64;
+    pub fn chaloenpik_area_fields(body: *const u8, length: usize, first: usize, out: *mut u64, size: usize) -> u64;
+    pub fn chaloenpik_area_owner(body: *const u8, length: usize, offset: usize) -> u64;
+    pub fn chaloenpik_area_turn_holes(body: *mut u8, length: usize) -> u64;
+
+    pub fn chaloenpik_area_begin(out: *mut u8, size: usize, state: *mut AreaState, edition: u8, internal: u8) -> u64;
+    pub fn chaloenpik_area_open_ring(out: *mut u8, size: usize, state: *mut AreaState, mark: u8) -> u64;
+    pub fn chaloenpik_area_add_vertex(out: *mut u8, size: usize, state: *mut AreaState, x: u64, y: u64, z: u64) -> u64;
+    pub fn chaloenpik_area_close_ring(out: *mut u8, size: usize, state: *mut AreaState, kept: *const [u8; RING_KEPT]) -> u64;
+    pub fn chaloenpik_area_finish(out: *mut u8, size: usize, state: *mut AreaState, kept: *const [u8; AREA_KEPT]) -> u64;
 }

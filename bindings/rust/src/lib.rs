@@ -74,6 +74,25 @@
 //! # Ok::<(), chaloenpik::Refusal>(())
 //! ```
 //!
+//! # Inside a geography
+//!
+//! A message keeps the body of a geography as it is. By itself it is an [`Area`]: rings of vertices on the unit sphere.
+//!
+//! ```
+//! use chaloenpik::{turn_holes, Area, Table, Value};
+//!
+//! let reply = include_bytes!("../../../samples/4-areas.bin");
+//! if let Value::Geography(Some(body)) = Table::new(reply, 0)?.row(0)?.get("AREA")?.value {
+//!     let area = Area::new(body)?;
+//!     assert_eq!((area.rings(), area.ring(1)?.vertices), (2, 4));
+//!
+//!     let mut turned = body.to_vec();
+//!     turn_holes(&mut turned)?;
+//!     assert_eq!(Area::new(&turned)?.vertex(1, 1)?, area.vertex(1, 3)?);
+//! }
+//! # Ok::<(), chaloenpik::Refusal>(())
+//! ```
+//!
 //! # The rest
 //!
 //! | To | Take |
@@ -83,11 +102,13 @@
 //! | read tables; parameters | [`Table`], or [`cell`] and [`cell_place`] for one cell; [`parameter`] and [`element`] |
 //! | keep a column on a card | [`make_card`], [`open_card`] |
 //! | write a message | [`write_login_request`], [`write_login_response`], [`CallWriter`], [`ReplyWriter`] |
+//! | read and write the body of a geography; turn its holes | [`Area`], [`AreaWriter`]; [`turn_holes`] |
 //!
 //! # What is proved
 //!
 //! The functions of the archive are, and each call here is one or a few of them. Outside the proof are this crate's own lines, which are
-//! tested: numbers become Rust's types, and a [`Table`] takes its values from the bytes that the proved field list gives them.
+//! tested: numbers become Rust's types, and a [`Table`] takes its values from the bytes that the proved field list gives them, as
+//! [`Area::vertices`] does from those behind a ring's place.
 //!
 //! # What is unsafe
 //!
@@ -97,6 +118,7 @@
 
 #![warn(missing_docs)]
 
+mod area;
 mod call;
 mod card;
 mod field;
@@ -108,9 +130,11 @@ mod reply;
 mod table;
 mod value;
 
+pub use area::{turn_holes, Area, AreaWriter, Ring, Vertex};
 pub use call::{element, invocation, parameter, CallWriter, Invocation, Parameter};
 pub use card::{make_card, open_card, Card, CARD_SIZE};
 pub use field::{field, fields, owner, Field};
+pub use foreign::{AREA_KEPT, RING_KEPT};
 pub use login::{login_request, login_response, write_login_request, write_login_response, LoginRequest, LoginResponse, Welcome};
 pub use query::{cell, cell_place, column_name, column_type, columns, find_column, rows, tables};
 pub use refusal::{Cause, Refusal};
@@ -138,7 +162,7 @@ pub fn accept(kind: Kind, message: &[u8]) -> Result<(), Refusal> {
     refusal::found(unsafe { foreign::chaloenpik_accept(kind as u8, message.as_ptr(), message.len()) }).map(|_| ())
 }
 
-/// The message that was written in front of a buffer.
+/// The message, or the body of an area, that was written in front of a buffer.
 fn written(out: &[u8], size: usize) -> Result<&[u8], Refusal> {
     out.get(..size).ok_or(Refusal::UNKNOWN_ANSWER)
 }

@@ -18,7 +18,7 @@ use std::fmt;
 pub struct Refusal {
     /// What is wrong.
     pub cause: Cause,
-    /// Where. In a message that is read, the byte that [`Cause`] names; in one that is written, the writer's position before the
+    /// Where. In a message or an area that is read, the byte that [`Cause`] names; in one that is written, the writer's position before the
     /// step. Of [`Cause::ShortOutput`] the bytes that are needed; of [`Cause::BadCard`] a byte of the card. Of [`Cause::NoColumn`],
     /// [`Cause::CardMisfit`] and [`Cause::PastEnd`] it is 0 and means nothing.
     pub place: usize,
@@ -41,7 +41,7 @@ pub enum Cause {
     /// A wire type is unknown, or not permitted there, or not that of the column or array that a value is written to: at that byte.
     WireType = 6,
     /// A decimal, point, flag byte, column name or empty geography breaks its rule: at the value, at a name's first byte above 127, at
-    /// an empty geography's length field.
+    /// an empty geography's length field. In an area the third byte does, or there are too few rings or vertices: at that byte or count.
     BadValue = 7,
     /// The output is too short: the place is how many bytes are needed, by a writer to carry out this step.
     ShortOutput = 8,
@@ -49,7 +49,7 @@ pub enum Cause {
     NoColumn = 9,
     /// A well-formed card doesn't fit the table: another column stands at its position, or none.
     CardMisfit = 10,
-    /// There is no such table, row, column, parameter, element, field or byte, or a column's name isn't inside the lent names.
+    /// There is no such table, row, column, parameter, element, ring, vertex, field or byte, or a column's name isn't inside the lent names.
     PastEnd = 11,
     /// A card breaks its form: at its first wrong byte; for a wrong size, the smaller of the sizes.
     BadCard = 12,

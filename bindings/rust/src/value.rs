@@ -118,7 +118,7 @@ pub enum Value<'m> {
     },
     /// The null of a point.
     NullPoint,
-    /// A geography, which the library doesn't look into, or its null.
+    /// A geography, which a message keeps as it is, or its null; [`crate::Area`] looks into one.
     Geography(Option<&'m [u8]>),
 }
 

@@ -19,8 +19,8 @@ use Rattle.format.specs.Message.{Message, readMessage, messageFields}
 use Rattle.format.proofs.Decides.{once, answer}
 use Rattle.format.proofs.Results.{ok-same, no-ok}
 use Rattle.format.proofs.Took.{Tiles}
-use Rattle.format.proofs.Owner.{Owns, Owner}
-use Rattle.format.proofs.Demands.{accepted→encodes, fields-tile, field-owner}
+use Rattle.format.proofs.Owner.{Owns, Owner, owner}
+use Rattle.format.proofs.Demands.{accepted→encodes, fields-tile}
 use Rattle.tour.specs.Task.{six}
 use Rattle.fields.specs.declared.Entry as fields
 use Rattle.fields.specs.declared.Listed.{Listed}
@@ -137,6 +137,22 @@ owner-none n (e ∷ es) o end k t high =
     tiles-end [] o end t = omega arith
     tiles-end (e ∷ es) o end t = let more = tiles-end es (o + e .size) end (t .2) in omega arith
 
+-- each byte of a room that is tiled has exactly one owner, and that is the one answered
+module _ (es : List Entry) (size : ℕ) (tile : Tiles 0 es size) where
+  pub tile-answers : (k : ℕ) → k < size → (x : Entry) × (i : ℕ) × (ownerOf es k ≡ ok (x, i)) × Owns es k i × ((j : ℕ) → Owns es k j → j ≡ i)
+  tile-answers k low =
+      let w = owner-found 0 es 0 size k tile (omega arith) low in
+      let x = w .0 .0 in
+      let i = w .0 .1 in
+      let stands : getElem? es i ≡ some x = nth-element es i x (owner-field es k x i (w .1)) in
+      let mine : Owns es k i = record { entry = x; stands = stands; starts = w .2; ends = w .3 } in
+      let one : Owner es k = owner es 0 size k tile (omega arith) low in
+      (x, i, w .1, mine, (λ j h. one .2 j h ∙ sym (one .2 i mine)))
+
+  pub tile-ends : (k : ℕ) → size ≤ k → ownerOf es k ≡ refused PastEnd 0
+  tile-ends k high = owner-none 0 es 0 size k tile high
+
+-- so it is in an accepted message
 module _ (kind : ℕ) (m : List ℕ) (by : Bytes m) (r : Message) (accepted : readMessage kind m ≡ ok r) where
   abbrev pub all : List Entry
   all = messageFields kind r
@@ -144,20 +160,11 @@ module _ (kind : ℕ) (m : List ℕ) (by : Bytes m) (r : Message) (accepted : re
   pub tiled : Tiles 0 all (length m)
   tiled = let w = accepted→encodes kind m by r accepted in rw (w .1) at (fields-tile kind r (w .0))
 
-  -- each byte of an accepted message has exactly one owner, and that is the one answered
   pub owner-answers : (k : ℕ) → k < length m → (x : Entry) × (i : ℕ) × (ownerOf all k ≡ ok (x, i)) × Owns all k i × ((j : ℕ) → Owns all k j → j ≡ i)
-  owner-answers k low =
-      let w = owner-found 0 all 0 (length m) k tiled (omega arith) low in
-      let x = w .0 .0 in
-      let i = w .0 .1 in
-      let stands : getElem? all i ≡ some x = nth-element all i x (owner-field all k x i (w .1)) in
-      let mine : Owns all k i = record { entry = x; stands = stands; starts = w .2; ends = w .3 } in
-      let e = accepted→encodes kind m by r accepted in
-      let one : Owner all k = field-owner kind r (e .0) k (rw (e .1) low) in
-      (x, i, w .1, mine, (λ j h. one .2 j h ∙ sym (one .2 i mine)))
+  owner-answers = tile-answers all (length m) tiled
 
   pub owner-ends : (k : ℕ) → length m ≤ k → ownerOf all k ≡ refused PastEnd 0
-  owner-ends k high = owner-none 0 all 0 (length m) k tiled high
+  owner-ends = tile-ends all (length m) tiled
 
 -- no two answers tell the same, so each contract decides its answer
 abbrev entry : format.Entry → fields.Entry

@@ -9,7 +9,9 @@ ghost use Rattle.format.specs.declared.Fault.the-variants.{PastEnd};
 ghost use Rattle.format.specs.Result.{ok, bind, toldAnswer};
 ghost use Rattle.format.specs.Message.{kindLayout};
 ghost use Rattle.tour.specs.Tour.{fieldsOf};
+ghost use Rattle.tour.specs.Told.{toldToured};
 ghost use Rattle.fields.specs.Questions.{nth, ownerOf, windowCount, windowOut, entryAt};
+ghost use Rattle.fields.specs.Met.{countMet, fieldMet, ownerMet, windowMet};
 ghost use Rattle.fields.specs.Told.{toldEntry, toldListed, toldOwned};
 
 // A field: where it stands, how long it is, its number and its three indices.
@@ -42,10 +44,7 @@ pub fn count(kind: u8, m: &[u8]) -> Answer
     let mut six: [u64; 6] = [0; 6];
     let asked = tour::list_task(0, 0);
     let toured = tour::visit_all(layout, m, &mut six, asked);
-    let Toured::Done(task) = toured else {
-        return Answer::No(tour::toured_refusal(toured));
-    };
-    Answer::Is(task.seen)
+    count_met(toured)
 }
 
 // The entry of a number in the list, from 0 on.
@@ -56,13 +55,7 @@ pub fn field(kind: u8, m: &[u8], n: usize) -> Listed
     let mut six: [u64; 6] = [0; 6];
     let asked = tour::list_task(n, 0);
     let toured = tour::visit_all(layout, m, &mut six, asked);
-    let Toured::Done(task) = toured else {
-        return Listed::No(tour::toured_refusal(toured));
-    };
-    if task.seen <= n {
-        return Listed::No(past_end());
-    }
-    Listed::Is(entry_of(&six))
+    field_met(toured, n, &six)
 }
 
 // The entry that owns a byte, and its number in the list.
@@ -73,14 +66,7 @@ pub fn owner(kind: u8, m: &[u8], offset: usize) -> Owned
     let mut six: [u64; 6] = [0; 6];
     let asked = tour::list_task(0, offset);
     let toured = tour::visit_all(layout, m, &mut six, asked);
-    let Toured::Done(task) = toured else {
-        return Owned::No(tour::toured_refusal(toured));
-    };
-    if task.taken == 0 {
-        return Owned::No(past_end());
-    }
-    let number = task.last;
-    Owned::By(entry_of(&six), number)
+    owner_met(toured, &six)
 }
 
 // The entries from a number on, six numbers for each, as many whole entries as fit a lent list; how many were written.
@@ -90,6 +76,50 @@ pub fn window(kind: u8, m: &[u8], first: usize, out: &mut [u64]) -> Answer
     let layout = format::kind_layout(kind);
     let asked = tour::list_task(first, 0);
     let toured = tour::visit_all(layout, m, out, asked);
+    window_met(toured, first)
+}
+
+// How many fields a tour met. Here and below, the tour may have gone over any list of fields.
+pub fn count_met(toured: Toured) -> Answer
+    ensures { λ r. ⌜ toldAnswer r ≡ countMet (toldToured toured) ⌝ }
+{
+    let Toured::Done(task) = toured else {
+        return Answer::No(tour::toured_refusal(toured));
+    };
+    Answer::Is(task.seen)
+}
+
+// The n-th field that a tour met, where it listed that one in six numbers.
+pub fn field_met(toured: Toured, n: usize, six: &[u64; 6]) -> Listed
+    ensures { λ r. ⌜ toldListed r ≡ fieldMet (toldToured toured) n (now (six .entry)) ⌝ }
+{
+    let Toured::Done(task) = toured else {
+        return Listed::No(tour::toured_refusal(toured));
+    };
+    if task.seen <= n {
+        return Listed::No(past_end());
+    }
+    Listed::Is(entry_of(six))
+}
+
+// The first field that ended past a byte, where a tour listed that one in six numbers.
+pub fn owner_met(toured: Toured, six: &[u64; 6]) -> Owned
+    ensures { λ r. ⌜ toldOwned r ≡ ownerMet (toldToured toured) (now (six .entry)) ⌝ }
+{
+    let Toured::Done(task) = toured else {
+        return Owned::No(tour::toured_refusal(toured));
+    };
+    if task.taken == 0 {
+        return Owned::No(past_end());
+    }
+    let number = task.last;
+    Owned::By(entry_of(six), number)
+}
+
+// How many fields a tour listed, from the first-th on.
+pub fn window_met(toured: Toured, first: usize) -> Answer
+    ensures { λ r. ⌜ toldAnswer r ≡ windowMet (toldToured toured) first ⌝ }
+{
     let Toured::Done(task) = toured else {
         return Answer::No(tour::toured_refusal(toured));
     };

@@ -23,7 +23,7 @@ fn wide(b: u8) -> u64
 }
 
 // The number of 4 bytes at a place.
-fn four(s: &[u8], at: usize) -> u64
+pub fn four(s: &[u8], at: usize) -> u64
     requires { ⌜ at + 4 ≤ length (now s) ⌝ }
     ensures { λ r. ⌜ (r ≡ numAt 4 (now (s .entry)) at) × (r < 4294967296) ⌝ }
 {
@@ -81,7 +81,7 @@ fn two(s: &[u8], at: usize) -> u64
 }
 
 // The number of 8 bytes at a place. They are added in pairs, so that the compiler sees that the terms don't overlap, and reads all bytes at once.
-fn eight(s: &[u8], at: usize) -> u64
+pub fn eight(s: &[u8], at: usize) -> u64
     requires { ⌜ at + 8 ≤ length (now s) ⌝ }
     ensures { λ r. ⌜ r ≡ numAt 8 (now (s .entry)) at ⌝ }
 {

@@ -46,7 +46,7 @@ pub enum Shown {
 }
 
 // A float by its bits.
-fn float_cell(bits: u64) -> Cell
+pub fn float_cell(bits: u64) -> Cell
     ensures { λ r. ⌜ r ≡ floatCell bits ⌝ }
 {
     if bits % 0x8000_0000_0000_0000 <= 0x7ff0_0000_0000_0000 {

@@ -65,6 +65,10 @@ module _ (layout : ℕ) (m : List ℕ) (by : Bytes m) {start : Tour} {out : List
       let second : stateOf after more ≡ visited (stateOf mid written) (message layout .fields noIndex 4 r) = rw four at (y .1) in
       (y .0, rw (visited-both, ← first) second)
 
+-- the answer of a tour that met the fields es, where those are what there is
+pub tour-met : {x : Res (List Entry)} {es : List Entry} (st : State) {after : State} → x ≡ ok es → after ≡ visited st es → (ok (after .task) ≡ taskAfter x st) × (after .out ≡ outAfter x st)
+tour-met st are state = (rw are (ap (λ (z : State). ok (z .task)) state), rw are (ap (λ (z : State). z .out) state))
+
 -- the answer of a tour over a message that is refused, and over one that is accepted
 pub tour-refused : (layout : ℕ) (m : List ℕ) (st : State) {v : Verdict} {given x : Refusal} → toldVerdict v ≡ verdictOf (readMessage layout m) → v ≡ Verdict.No given → x ≡ verdictNo v
     → (no (x .fault) (x .place) ≡ taskAfter (fieldsOf layout m) st) × (st .out ≡ outAfter (fieldsOf layout m) st)
@@ -76,8 +80,4 @@ tour-accepted layout m task out {after} {written} told fine w =
     let go = verdict-go (readMessage layout m) told fine in
     let es = messageFields layout (go .0) in
     let are : fieldsOf layout m ≡ ok es = ap (λ (x : Res Message). bind x (λ q. ok (messageFields layout q))) (go .1) in
-    answers (fieldsOf layout m) es are (w .goes (go .0) (go .1) .1)
-  where
-    answers : (x : Res (List Entry)) (es : List Entry) → x ≡ ok es → stateOf after written ≡ visited (doing task out) es
-        → (ok (after .task) ≡ taskAfter x (doing task out)) × (written ≡ outAfter x (doing task out))
-    answers x es are state = (rw are (ap (λ (st : State). ok (st .task)) state), rw are (ap (λ (st : State). st .out) state))
+    tour-met (doing task out) are (w .goes (go .0) (go .1) .1)

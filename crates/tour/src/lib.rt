@@ -169,7 +169,14 @@ fn bytes_on(s: &[u8], at: usize, n: usize) -> usize
 }
 
 // A field of so many bytes.
-fn walk_fixed(s: &[u8], out: &mut [u64], tour: Tour, width: usize, field: u64, ix: Indices) -> Tour
+pub fn walk_fixed(
+    s: &[u8],
+    out: &mut [u64],
+    tour: Tour,
+    width: usize,
+    field: u64,
+    ix: Indices,
+) -> Tour
     ensures { λ r. ⌜ Walked (number width field) (now (s .entry)) (indexOf ix) tour (now (out .entry)) r (now (out .exit)) ⌝ }
 {
     let end = bytes_on(s, tour.at, width);

@@ -1,13 +1,9 @@
 -- `fields::count` meets its contract: the tour has seen each field once. Assumes nothing.
-use mathlib.Core.Path.{ap}
+use mathlib.Core.Path.{_∙_}
 use native.Mathlib.Omega.{arith}
-use Prim.Native.Nat.{_^_, _<_}
-use lib.ListN.{length, replicate}
-use Rattle.format.specs.Result.{ok}
-use Rattle.tour.specs.Task.{doing}
-use Rattle.tour.specs.Tour.{fieldsOf}
+use lib.ListN.{replicate}
 use Rattle.tour.proofs.Tours.{bytes-all}
-use Rattle.fields.proofs.Calls.{refuses, seen, seen-window}
+use Rattle.fields.proofs.Calls.{message-tiled, count-told}
 use borrow.Author.Needs.{needs}
 use Rattle.fields.proofs.count.Statement.{statement}
 use Rattle.fields.proofs.count.Tie as tie
@@ -24,30 +20,15 @@ slice-aggregate-visit-all c = search needs
 visit-all-requires : tie.Need-visit-all-requires
 visit-all-requires c κs = search needs
 
-enum-known-toured : tie.Need-enum-known-toured
-enum-known-toured c = search needs
-
-enum-told : tie.Need-enum-told
-enum-told c = search needs
-
-toured-refusal-requires : tie.Need-toured-refusal-requires
-toured-refusal-requires c κs = search needs
+count-met-requires : tie.Need-count-met-requires
+count-met-requires c κs = search needs
 
 returns : tie.Need-returns
 returns c =
-    let a = c .before .before .before .before .before .before .before .before .before .args in
-    let layout = c .before .before .before .before .before .before .before .kind-layout in
-    let s = doing (c .before .before .before .before .before .before .list-task .result) (replicate 6 0) in
-    rw (← layout .ensures, refuses (fieldsOf (layout .result) (a .m .now)) s (c .before .before .before .before .visit-all .ensures .0) (c .before .enum-told .given .1) (c .toured-refusal .ensures))
-
-returns-2 : tie.Need-returns-2
-returns-2 c =
-    let a = c .before .before .before .before .before .before .before .before .before .args in
-    let layout = c .before .before .before .before .before .before .before .kind-layout in
-    let small : length (a .m .now) < 2 ^ 64 = omega arith in
-    let f = seen (layout .result) (a .m .now) (bytes-all (a .m .now) (c .before .before .before .before .before .before .before .before .shared-slice-known .given)) small 0 0 (replicate 6 0) (c .before .before .before .before .before .before .list-task .ensures) (c .before .before .before .before .visit-all .ensures) (c .before .toured .given .1) in
-    let w = seen-window 0 (replicate 6 0) f in
-    rw (← layout .ensures, f .are) (ap ok (w .seen))
+    let a = c .before .before .before .before .before .before .before .args in
+    let layout = c .before .before .before .before .before .kind-layout in
+    let tile = message-tiled (layout .result) (a .m .now) (bytes-all (a .m .now) (c .before .before .before .before .before .before .shared-slice-known .given)) (omega arith) in
+    rw (← layout .ensures) (c .count-met .ensures ∙ count-told (replicate 6 0) tile (c .before .before .before .before .list-task .ensures) (c .before .before .visit-all .ensures))
 
 pub count-spec : {M : Type 1} → statement M
 count-spec =
@@ -57,8 +38,5 @@ count-spec =
     list-task-requires
     slice-aggregate-visit-all
     visit-all-requires
-    enum-known-toured
-    enum-told
-    toured-refusal-requires
-    returns
-    returns-2)
+    count-met-requires
+    returns)

@@ -1,13 +1,9 @@
 -- `fields::field` meets its contract: a window of one entry. Assumes nothing.
-use mathlib.Core.Path.{refl, sym, _∙_, ap}
+use mathlib.Core.Path.{refl, _∙_}
 use native.Mathlib.Omega.{arith}
-use Prim.Native.Nat.{_^_, _<_}
-use lib.ListN.{length, replicate}
-use Rattle.format.specs.Result.{ok}
-use Rattle.tour.specs.Task.{doing}
-use Rattle.tour.specs.Tour.{fieldsOf}
+use lib.ListN.{replicate}
 use Rattle.tour.proofs.Tours.{bytes-all}
-use Rattle.fields.proofs.Calls.{refuses, past-told, seen, seen-window, nth-past, nth-read}
+use Rattle.fields.proofs.Calls.{message-tiled, field-told}
 use borrow.Author.Needs.{needs}
 use Rattle.fields.proofs.field.Statement.{statement}
 use Rattle.fields.proofs.field.Tie as tie
@@ -24,49 +20,15 @@ slice-aggregate-visit-all c = search needs
 visit-all-requires : tie.Need-visit-all-requires
 visit-all-requires c κs = search needs
 
-enum-known-toured : tie.Need-enum-known-toured
-enum-known-toured c = search needs
-
-enum-told : tie.Need-enum-told
-enum-told c = search needs
-
-toured-refusal-requires : tie.Need-toured-refusal-requires
-toured-refusal-requires c κs = search needs
+field-met-requires : tie.Need-field-met-requires
+field-met-requires c κs = search needs
 
 returns : tie.Need-returns
 returns c =
-    let a = c .before .before .before .before .before .before .before .before .before .args in
-    let layout = c .before .before .before .before .before .before .before .kind-layout in
-    let s = doing (c .before .before .before .before .before .before .list-task .result) (replicate 6 0) in
-    rw (← layout .ensures, refuses (fieldsOf (layout .result) (a .m .now)) s (c .before .before .before .before .visit-all .ensures .0) (c .before .enum-told .given .1) (c .toured-refusal .ensures))
-
-past-end-requires : tie.Need-past-end-requires
-past-end-requires c κs = search needs
-
-returns-2 : tie.Need-returns-2
-returns-2 c =
-    let a = c .before .before .before .before .before .before .before .before .before .before .before .before .args in
-    let layout = c .before .before .before .before .before .before .before .before .before .before .kind-layout in
-    let small : length (a .m .now) < 2 ^ 64 = omega arith in
-    let f = seen (layout .result) (a .m .now) (bytes-all (a .m .now) (c .before .before .before .before .before .before .before .before .before .before .before .shared-slice-known .given)) small (a .n) 0 (replicate 6 0) (c .before .before .before .before .before .before .before .before .before .list-task .ensures) (c .before .before .before .before .before .before .before .visit-all .ensures) (c .before .before .before .before .toured .given .1) in
-    let w = seen-window (a .n) (replicate 6 0) f in
-    let all = w .seen in
-    let past = c .before .if1 .taken in
-    rw (← layout .ensures, f .are) (past-told (c .past-end .ensures) ∙ sym (nth-past (f .es) (a .n) (omega arith)))
-
-entry-of-requires : tie.Need-entry-of-requires
-entry-of-requires c κs = search needs
-
-returns-3 : tie.Need-returns-3
-returns-3 c =
-    let a = c .before .before .before .before .before .before .before .before .before .before .before .before .before .args in
-    let layout = c .before .before .before .before .before .before .before .before .before .before .before .kind-layout in
-    let small : length (a .m .now) < 2 ^ 64 = omega arith in
-    let f = seen (layout .result) (a .m .now) (bytes-all (a .m .now) (c .before .before .before .before .before .before .before .before .before .before .before .before .shared-slice-known .given)) small (a .n) 0 (replicate 6 0) (c .before .before .before .before .before .before .before .before .before .before .list-task .ensures) (c .before .before .before .before .before .before .before .before .visit-all .ensures) (c .before .before .before .before .before .toured .given .1) in
-    let w = seen-window (a .n) (replicate 6 0) f in
-    let all = w .seen in
-    let there = c .before .before .if1 .left in
-    rw (← layout .ensures, f .are) (ap ok (c .entry-of .ensures) ∙ sym (nth-read (f .es) (a .n) (replicate 6 0) refl (omega arith) (w .numbers)))
+    let a = c .before .before .before .before .before .before .before .before .args in
+    let layout = c .before .before .before .before .before .before .kind-layout in
+    let tile = message-tiled (layout .result) (a .m .now) (bytes-all (a .m .now) (c .before .before .before .before .before .before .before .shared-slice-known .given)) (omega arith) in
+    rw (← layout .ensures) (c .field-met .ensures ∙ field-told (replicate 6 0) refl tile (c .before .before .before .before .before .list-task .ensures) (c .before .before .before .visit-all .ensures))
 
 pub field-spec : {M : Type 1} → statement M
 field-spec =
@@ -76,11 +38,5 @@ field-spec =
     list-task-requires
     slice-aggregate-visit-all
     visit-all-requires
-    enum-known-toured
-    enum-told
-    toured-refusal-requires
-    returns
-    past-end-requires
-    returns-2
-    entry-of-requires
-    returns-3)
+    field-met-requires
+    returns)

@@ -1,0 +1,60 @@
+-- `inside::walk_rings` meets its contract: what is left, after what was met, is the whole. Assumes nothing.
+use Prim.Native.Nat.{_-_}
+use native.Mathlib.Omega.{arith}
+use Rattle.format.specs.Message.{first}
+use Rattle.format.specs.Geography.{ring}
+use Rattle.format.proofs.Geography.{lawful-ring}
+use Rattle.tour.specs.Walks.{indexOf}
+use Rattle.tour.proofs.Tours.{bytes-all}
+use Rattle.tour.proofs.Rounds.{Round, round-first, round-next, round-last, all-same}
+use borrow.Author.Needs.{needs}
+use Rattle.inside.proofs.walk_rings.Statement.{statement}
+use Rattle.inside.proofs.walk_rings.Tie as tie
+
+abbrev Inv-loop : tie.InvT-loop
+Inv-loop s out₀ n ix tour₀ i₀ out tour i = Round first (λ m. ring) s (indexOf ix) n tour₀ out₀ i tour out
+
+abbrev μ-loop : tie.MeasureT-loop
+μ-loop s out₀ n ix tour₀ i₀ out tour i = n - i
+
+loop-holds : tie.Need-loop-holds Inv-loop μ-loop
+loop-holds c = round-first first (λ m. ring) _ _ _ _ _
+
+walk-ring-requires : tie.Need-walk-ring-requires Inv-loop μ-loop
+walk-ring-requires c κs = search needs
+
+add-i : tie.Need-add-i Inv-loop μ-loop
+add-i c = let few = c .before .before .before .before .loop-test .taken in omega arith
+
+loop-less : tie.Need-loop-less Inv-loop μ-loop
+loop-less c = let few = c .before .before .before .before .loop-test .taken in omega arith
+
+loop-again : tie.Need-loop-again Inv-loop μ-loop
+loop-again c =
+    let a = c .before .before .before .before .before .before .before .before .args in
+    let l = c .before .before .before .before .before .loop in
+    let walk = c .before .before .walk-ring in
+    let by = bytes-all (a .s .now) (c .before .before .before .before .before .before .before .shared-slice-known .given) in
+    round-next first (λ m. ring) (λ m. lawful-ring) (a .s .now) by (indexOf (a .ix)) (a .n) (l .i) (c .before .before .before .before .loop-test .taken) (l .inv) (walk .ensures) (walk .kept .1 .0)
+
+same-length : tie.Need-same-length Inv-loop μ-loop
+same-length c = c .before .loop .inv .long
+
+returns : tie.Need-returns Inv-loop μ-loop
+returns c =
+    let a = c .before .before .before .before .args in
+    all-same first (a .s .now) (ring) (a .n) (round-last first (λ m. ring) _ _ _ _ _ (c .loop-test .left) (c .before .loop .inv))
+
+pub walk-rings-spec : {M : Type 1} → statement M
+walk-rings-spec =
+    tie.close
+    (tie.spec
+    Inv-loop
+    μ-loop
+    loop-holds
+    walk-ring-requires
+    add-i
+    loop-less
+    loop-again
+    same-length
+    returns)

@@ -1,0 +1,99 @@
+#!/usr/bin/env python3
+"""Runs tests/areas.c, which asks the exported functions, and the second reader and writer over the same geographies: compare_areas.py N SEED
+
+N made-up bodies, and those at the edges of each rule: all that can be asked of each, also past its ends, into lists of several sizes; then
+its holes are turned twice. N scripts of writer steps, half of them spelling an area, half wild and on forged states, and each step on states
+at its edges: after each step the whole state and the buffer; what was written is read back. And some of both at the limits of 1 and 4 MB.
+What `areas` prints must be what the second ones say.
+"""
+
+import pathlib
+import random
+import subprocess
+import sys
+from collections import Counter
+
+from area_calls import SILENT, Second, packed, spelled, text
+from area_scripts import asking, at_every_edge, spelling, step_of, wild
+from generate_areas import AreaMaker, bodies, edges, large, of_size
+from wire import *
+
+ROOT = pathlib.Path(__file__).resolve().parents[2]
+RUN = [ROOT / "tools" / "c" / "kit", "run", ROOT / "target" / "tests" / "areas"]
+
+
+def main():
+    count, seed = int(sys.argv[1]), int(sys.argv[2])
+    print("compare_areas: %d bodies and as many scripts, seed %d" % (count, seed), flush=True)
+    counts = Counter()
+    for name, scripts in (("bodies", asked(count, seed)), ("scripts", written(count, seed)), ("large ones", large_ones(seed))):
+        if differs(name, list(scripts), counts):
+            return 1
+    print("compare_areas: no difference. %s" % ", ".join("%s %d" % pair for pair in sorted(counts.items())))
+    return 0
+
+
+def asked(count, seed):
+    rng = random.Random(seed)
+    return (asking(rng, body) for body in (*edges(), *bodies(count, seed)))
+
+
+def written(count, seed):
+    maker = AreaMaker(random.Random(seed))
+    yield at_every_edge(maker)
+    yield from (spelling(maker) if i % 2 else wild(maker) for i in range(count))
+
+
+def large_ones(seed):
+    rng = random.Random(seed)
+    for _, body in large(seed):
+        yield asking(rng, body)
+    area = of_size(MOST_BODY, rng)
+    for room in (MOST_BODY, MOST_BODY - 1):
+        yield [("buffer", (room,)), *spelled(area), ("show", ()), ("take", ()), ("rings", ()), ("turn", ()), ("turn", ())]
+    yield from (at_the_end(AreaMaker(rng), room) for room in (MOST_BODY, MOST_MESSAGE + 4))
+
+
+def at_the_end(maker, room):
+    """The last steps into a large buffer, on forged states: a ring closed with the most vertices, an area finished with the most rings; and
+    each step where a byte is missing."""
+    add, close, finish = (step_of(maker, name) for name in ("add_vertex", "close_ring", "finish"))
+    place = room - AREA_KEPT - RING_KEPT - 24
+    script = [("buffer", (room,))]
+    for rings, vertices in ((1, 2), (2, 5), (MOST_COUNT, MOST_COUNT - 1)):
+        script += [("forge", (2, place, rings, place - 5, vertices)), add, close, finish, ("show", ())]
+    for stage, left, step in ((2, 23, add), (2, 37, close), (1, 32, finish)):
+        script += [("forge", (stage, room - left, 1, room - left - 5, 3)), step, ("show", ())]
+    return script
+
+
+def differs(name, scripts, counts):
+    """Whether the program prints anything else for these scripts; the first difference is shown."""
+    data = b"".join(map(packed, scripts))
+    found = subprocess.run(RUN, input=data, stdout=subprocess.PIPE, check=True).stdout.decode().splitlines()
+    second, at = Second(), 0
+    for script in scripts:
+        expected = second.lines(script)
+        if found[at:at + len(expected)] != expected:
+            report(script, expected, found[at:at + len(expected)])
+            return True
+        counts.update(line.split()[1] if line.startswith("refused") else "fine" for line in expected)
+        at += len(expected)
+    if found[at:]:
+        print("compare_areas: DIFFERENCE: %d lines too many after the %s" % (len(found[at:]), name))
+    return bool(found[at:])
+
+
+def report(script, expected, found):
+    """The call that is answered otherwise, with those before it; a body is kept."""
+    calls = [at for at, (name, _) in enumerate(script) if name not in SILENT]
+    n = next(n for n, line in enumerate(expected) if n >= len(found) or found[n] != line)
+    kept = ROOT / "target" / "difference.bin"
+    kept.write_bytes(next((arguments[0] for name, arguments in script if name == "body"), b""))
+    print("compare_areas: DIFFERENCE in call %d of a script; its body, if it has one, is kept in target/%s:" % (calls[n] + 1, kept.name))
+    print("\n".join(line[:200] for line in text(script[:calls[n] + 1]).splitlines()[-30:]))
+    print("second: %s; areas: %s" % (expected[n][:300], found[n][:300] if n < len(found) else "(end)"))
+
+
+if __name__ == "__main__":
+    sys.exit(main())
