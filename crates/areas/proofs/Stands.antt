@@ -36,7 +36,7 @@ pub number-is : (k field : ℕ) {s : List ℕ} {at n : ℕ} → Stands (number k
 number-is k field {s} {at} {n} d = sym (took k field s at n _ (stands-read (lawful-number k field) d) .value)
 
 -- a vertex has 24 bytes
-vertex-size : (x : Vertex) → vertex .Good x → length (vertex .bytes x) ≡ 24
+pub vertex-size : (x : Vertex) → vertex .Good x → length (vertex .bytes x) ≡ 24
 unfolding vertex each nothing number
 vertex-size [] g = absurd g
 vertex-size (a ∷ []) g = absurd (g .1)
@@ -71,7 +71,7 @@ module _ {s : List ℕ} {at : ℕ} {r : Ring} (d : Stands ring s at r) where
   pub vertices-stand : Stands (each second 0 (replicate (length (r .vertices)) vertex)) s (at + 5) (r .vertices)
   vertices-stand = stands-at (omega arith) (stands-first (each second 0 (replicate (length (r .vertices)) vertex)) (λ vs. block ringKept 67) after-count)
 
-  vertices-good : All (vertex .Good) (r .vertices)
+  pub vertices-good : All (vertex .Good) (r .vertices)
   vertices-good = each→all second vertex 0 (length (r .vertices)) (r .vertices) (vertices-stand .good)
 
   pub vertex-stands : (v : ℕ) {x : Vertex} → v ≤ length (r .vertices) → entry (r .vertices) v ≡ ok x → Stands vertex s (at + 5 + 24 * v) x

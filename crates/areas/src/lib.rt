@@ -12,7 +12,6 @@ ghost use mathlib.Core.Bool.{Bool};
 ghost use lib.ListN.{length, replicate};
 ghost use mathlib.Core.List.{map};
 ghost use Rattle.format.specs.declared.Fault.the-variants.{PastEnd};
-
 ghost use Rattle.format.specs.Result.{ok, bind, pick, toldAnswer};
 ghost use Rattle.format.specs.Format.{each};
 ghost use Rattle.format.specs.Message.{first, second};
@@ -354,7 +353,11 @@ pub fn vertex(b: &[u8], n: usize, v: usize) -> VertexAnswer
     let Bits::Are(x, y, z) = bits else {
         return VertexAnswer::No(bits_refusal(bits));
     };
-    VertexAnswer::Is(show::float_cell(x), show::float_cell(y), show::float_cell(z))
+    VertexAnswer::Is(
+        show::float_cell(x),
+        show::float_cell(y),
+        show::float_cell(z),
+    )
 }
 
 // The bytes that ring n keeps, as a part of the body.
@@ -365,7 +368,10 @@ pub fn ring_kept(b: &[u8], n: usize) -> Part
     let RingAnswer::Is(r) = found else {
         return Part::No(ring_refusal(found));
     };
-    Part::Is(r.at + FIRST_VERTEX + format::VERTEX * r.vertices, format::RING_KEPT)
+    Part::Is(
+        r.at + FIRST_VERTEX + format::VERTEX * r.vertices,
+        format::RING_KEPT,
+    )
 }
 
 // The bytes that the area keeps after its last ring, as a part of the body.

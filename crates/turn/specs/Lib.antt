@@ -1,0 +1,2 @@
+-- What the walks over rings and vertices are held to.
+pub mod Turning
