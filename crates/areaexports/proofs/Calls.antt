@@ -12,6 +12,7 @@ use Rattle.format.specs.declared.Answer.{Answer}
 use Rattle.format.specs.declared.Answer.the-variants.{Is, No}
 use Rattle.format.specs.Result.{Res, ok, no, numberOf, toldAnswer}
 use Rattle.format.specs.Geography.{Polygon, polygon}
+use Rattle.format.proofs.Results.{no-ok}
 use Rattle.steps.specs.Writings.{overlaid}
 use Rattle.write.specs.Shown.{shownAnswer}
 use Rattle.numbers.specs.Packed.{above, packed, packedNo, itself}
@@ -26,8 +27,9 @@ use Rattle.outline.specs.Spells.{polygonRest}
 use Rattle.outline.specs.Shown.{came, Stepped}
 use Rattle.outline.specs.Calls as library
 use Rattle.outline.specs.Calls.{Finished}
-use Rattle.outline.proofs.Frame.{step-no}
-use Rattle.outline.proofs.Calls.{good-calls as library-good, calls-wrote as library-wrote}
+use Rattle.outline.proofs.Taken.{shown-ok}
+use Rattle.outline.proofs.Frame.{step-no, step-keeps}
+use Rattle.outline.proofs.Calls.{spelled-calls, good-calls as library-good, calls-wrote as library-wrote}
 use Rattle.areaexports.specs.Stored.{stageOf, stateOf, numbersOf, kept, WroteFrom, Wrote}
 use Rattle.areaexports.specs.Calls.{Left, Chain, ChainTo, Calls, CallsTo}
 
@@ -129,3 +131,71 @@ unfolding to-library
 chain-here [] l o e c n b′ few to = (ok-packed (o .answer) (l .answer) n (e .answer) (to .0) ∙ above-whole n few, to .1)
 chain-here (s ∷ ss) l o e c n b′ few to =
     (ok-accepted (o .answer) (l .answer) (to .0 .0) (e .answer) (to .0 .1), chain-here ss (c .1) (outcome s l) (same-next s l (c .1) (c .2)) (c .3) n b′ few (to .1))
+
+-- the first of some calls that are all accepted, of the interface and of the library
+first-accepted : (ss : List Step) (l : Left) (c : Chain ss l) (n : ℕ) (b′ : List ℕ) → ChainTo ss l c n b′ → l .answer % 2 ^ 8 ≡ 0
+first-accepted [] l c n b′ to = ap (λ (x : ℕ). x % 2 ^ 8) (to .0) ∙ omega arith
+first-accepted (s ∷ ss) l c n b′ to = to .0
+
+library-first : (ss : List Step) (l : library.Left) (c : library.Chain ss l) (n : ℕ) (b′ : List ℕ) → library.ChainTo ss l c n b′ → (m : ℕ) × (l .came .answer ≡ Is m)
+library-first [] l c n b′ to = (n, to .0)
+library-first (s ∷ ss) l c n b′ to = to .0
+
+-- calls leave a buffer of the same size
+step-size : (s : Step) (st : State) (b : List ℕ) (a : Res ℕ) → step s st b .answer ≡ a → length (step s st b .buffer) ≡ length b
+step-size s st b (ok n) e = step-keeps s st b n e .size
+step-size s st b (no f p) e = ap length (step-no s st b f p e .1)
+
+chain-size : (ss : List Step) (l : Left) (c : Chain ss l) (n : ℕ) (b′ : List ℕ) → ChainTo ss l c n b′ → length b′ ≡ length (l .buffer)
+chain-size [] l c n b′ to = sym (ap length (to .1))
+chain-size (s ∷ ss) l c n b′ to =
+    chain-size ss (c .1) (c .3) n b′ (to .1) ∙ (ap length (c .2 .2) ∙ step-size s (stateOf (l .numbers)) (l .buffer) _ refl)
+
+laid-inside : (b m : List ℕ) {b′ : List ℕ} → b′ ≡ overlaid b m → length m ≤ length b′
+laid-inside b m e = omega (arith, ap length e, length-append m (drop (length m) b))
+
+-- a begin, which reads no state: where it is accepted, the calls from it on are calls of the library
+abbrev begun : ℕ → ℕ → List ℕ → Outcome
+begun i j b = came (step (beginArea i j) (closed 0) b)
+
+module _ (i j : ℕ) (ss : List Step) (ns b : List ℕ) (c : Calls i j ss ns b) where
+  begun-same : (m : ℕ) → begun i j b .answer ≡ Is m → Same (begun i j b) (c .2)
+  begun-same m e =
+      let o = step (beginArea i j) (closed 0) b in
+      same-from (beginArea i j) (closed 0) ns b (c .2) (λ f p x. absurd (no-ok (sym x ∙ shown-ok (o .answer) refl e))) (c .3)
+
+  of-library : Same (begun i j b) (c .2) → library.Calls i j ss b
+  of-library k = (c .0, c .1, inLibrary (begun i j b) (c .2), (refl, c .3 .2), to-library ss (c .2) (begun i j b) k (c .4))
+
+-- No slice has as many as 2^56 bytes, so that an answer tells a position whole; that is a premise here, for a list may be of any length.
+
+-- the calls that a good polygon spells, on a buffer with room for it, are accepted and write it
+pub good-calls : (p : Polygon) → polygon .Good p → (ns b : List ℕ) → length b < 2 ^ 56 → let m = polygon .bytes p in length m ≤ length b → (c : Calls (p .edition) (p .internal) (polygonRest p) ns b)
+    → CallsTo (p .edition) (p .internal) (polygonRest p) ns b c (length m) (overlaid b m)
+unfolding of-library
+good-calls p g ns b few room c =
+    let m = polygon .bytes p in
+    let d = spelled-calls p g b in
+    let first = library-first (polygonRest p) (d .2) (d .4) (length m) (overlaid b m) (library-good p g b room d) in
+    let accepted = sym (ap (λ (o : Outcome). o .answer) (d .3 .0)) ∙ first .1 in
+    let k = begun-same (p .edition) (p .internal) (polygonRest p) ns b c (first .0) accepted in
+    let whole : length m < 2 ^ 56 = omega arith in
+    chain-here (polygonRest p) (c .2) (begun (p .edition) (p .internal) b) k (c .4) (length m) (overlaid b m) whole
+    (library-good p g b room (of-library (p .edition) (p .internal) (polygonRest p) ns b c k))
+
+-- calls that are accepted from a begin to a finish have written a good polygon
+pub calls-wrote : (i j : ℕ) (ss : List Step) (ns b : List ℕ) → length b < 2 ^ 56 → (c : Calls i j ss ns b) (n : ℕ) (b′ : List ℕ) → CallsTo i j ss ns b c n b′ → Finished ss
+    → library.Wrote (beginArea i j ∷ ss) b n b′
+unfolding of-library
+calls-wrote i j ss ns b few c n b′ to f =
+    let o = step (beginArea i j) (closed 0) b in
+    let a = packed-ok (begun i j b .answer) (c .2 .answer) (c .3 .0 ∙ sym (ap (packed itself) (told-shown (o .answer)))) (first-accepted ss (c .2) (c .4) n b′ to) in
+    let k = begun-same i j ss ns b c (a .0) (a .1) in
+    let r = chain-there ss (c .2) (begun i j b) k (c .4) n b′ to in
+    let w = library-wrote i j ss b (of-library i j ss ns b c k) (r .0) b′ (r .2) f in
+    let size : length b′ ≡ length b = chain-size ss (c .2) (c .4) n b′ to ∙ (ap length (c .3 .2) ∙ step-size (beginArea i j) (closed 0) b _ refl) in
+    let inside = laid-inside b (polygon .bytes (w .area)) (w .buffer) in
+    let whole : r .0 < 2 ^ 56 = omega (arith, w .size) in
+    let told : n * 2 ^ 8 ≡ r .0 * 2 ^ 8 = r .1 ∙ above-whole (r .0) whole in
+    let is : r .0 ≡ n = omega arith in
+    subst (λ (z : ℕ). library.Wrote (beginArea i j ∷ ss) b z b′) is w

@@ -86,6 +86,14 @@ pub extern "C" fn chaloenpik_area_owner(b: &[u8], offset: usize) -> u64
     numbers::pack_owned(inside::owner(b, offset))
 }
 
+// Gives each ring after the first the other sense, in the body itself; a body that isn't accepted stays as it is.
+#[no_mangle]
+pub extern "C" fn chaloenpik_area_turn_holes(b: &mut [u8]) -> u64
+    ensures { λ r. ⌜ (r ≡ packed itself (askRings (now (b .entry)))) × (now (b .exit) ≡ turnedBody (now (b .entry))) ⌝ }
+{
+    numbers::pack_answer(turn::turn_holes(b))
+}
+
 // ---- The writer: a step each, over a state in five numbers (specs/Stored.antt) and a buffer.
 
 // Begins an area by its edition and its internal byte.

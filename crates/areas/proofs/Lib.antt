@@ -5,3 +5,5 @@ pub mod Heads
 pub mod Rounds
 pub mod Surveys
 pub mod Stands
+pub mod Listed
+pub mod Once

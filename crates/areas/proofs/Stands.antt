@@ -44,7 +44,7 @@ vertex-size (a ∷ b ∷ []) g = absurd (g .1 .1)
 vertex-size (a ∷ b ∷ c ∷ []) g = simp (length-append, length-numBytes)
 vertex-size (a ∷ b ∷ c ∷ d ∷ l) g = absurd (let z : _≡_ {A = ℕ} 0 1 = cc (g .1 .1 .1) in omega arith)
 
-vertices-size : (v : ℕ) (l : List Vertex) → All (vertex .Good) l → v ≤ length l → total vertex (take v l) ≡ 24 * v
+pub vertices-size : (v : ℕ) (l : List Vertex) → All (vertex .Good) l → v ≤ length l → total vertex (take v l) ≡ 24 * v
 unfolding total
 vertices-size zero l g h = refl
 vertices-size (suc v) [] g h = absurd (omega arith)
@@ -116,10 +116,10 @@ axes {s} {at} (a ∷ b ∷ c ∷ []) d =
 axes (a ∷ b ∷ c ∷ e ∷ l) d = absurd (let z : _≡_ {A = ℕ} 0 1 = cc (d .good .1 .1 .1) in omega arith)
 
 -- what stands behind a body's first byte, and behind its second
-abbrev afterInternal : Format ((ℕ × ℕ) × (List Ring × List ℕ))
+abbrev pub afterInternal : Format ((ℕ × ℕ) × (List Ring × List ℕ))
 afterInternal = both ringed (λ h. afterHead (h .1))
 
-abbrev afterEdition : Format (ℕ × ((ℕ × ℕ) × (List Ring × List ℕ)))
+abbrev pub afterEdition : Format (ℕ × ((ℕ × ℕ) × (List Ring × List ℕ)))
 afterEdition = both (number 1 61) (λ i. afterInternal)
 
 module _ (b : List ℕ) (by : Bytes b) (p : Polygon) (accepted : readPolygon b ≡ ok p) where

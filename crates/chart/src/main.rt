@@ -248,7 +248,7 @@ fn pass_on_turned(copy: &mut [u8], first: &[u8]) {
     }
 }
 
-// Copies what fits, whole or not at all. Answers how much that is.
+// Copies all bytes if they fit, and none if they don't. Answers how many.
 fn copy_into(from: &[u8], to: &mut [u8]) -> usize
     ensures { λ r. ⌜ r ≤ length (now (to .exit)) ⌝ }
 {
@@ -258,9 +258,9 @@ fn copy_into(from: &[u8], to: &mut [u8]) -> usize
     bytes::copy(from, to)
 }
 
-// Says how many rings the body has whose holes were turned, or why none were.
+// Turns the holes, and says how many rings the body has, or why it's refused. Answers whether they were turned.
 fn turn_in_place(body: &mut [u8]) -> bool {
-    let turned = turn_holes(body);
+    let turned = turn::turn_holes(body);
     match turned {
         Answer::Is(n) => {
             word(b"turned, rings ", n as u64);
@@ -272,11 +272,6 @@ fn turn_in_place(body: &mut [u8]) -> bool {
             false
         }
     }
-}
-
-// Stand-in.
-fn turn_holes(body: &mut [u8]) -> Answer {
-    areas::rings(body)
 }
 
 // Writes a turned area into a reply, and reads that back.
@@ -392,8 +387,12 @@ fn write_anew(body: &[u8]) {
 fn write_area(out: &mut [u8], body: &[u8]) -> outline::Outcome {
     let begun = begin_area(out, body);
     let filled = put_rings(out, begun, body);
+    finish_area(out, filled, body)
+}
+
+fn finish_area(out: &mut [u8], step: outline::Outcome, body: &[u8]) -> outline::Outcome {
     let kept = area_block(query::part_at(body, areas::kept(body)));
-    then(filled, outline::finish(out, filled.state, &kept))
+    then(step, outline::finish(out, step.state, &kept))
 }
 
 // The first two bytes are the body's own. The third says whether there are holes, and is the writer's to fill.
