@@ -1,10 +1,10 @@
 -- Calls of the C interface are calls of the library: the state that is read from the numbers is the one that the last call left, and an answer's low 8 bits are 0
 -- exactly if it is accepted. So what is proved of the library's calls (outline/proofs/Calls) holds of them.
-use Prim.Native.Nat.{ℕ, _+_, _*_, _%_, _^_, _<_, _≤_}
+use Prim.Native.Nat.{ℕ, _*_, _%_, _^_, _<_, _≤_}
 use native.Mathlib.Omega.{arith}
 use native.Mathlib.Nat.{mod-eq-of-lt}
 use mathlib.Core.Path.{_≡_, refl, sym, ap, _∙_, subst}
-use mathlib.Core.List.{List, [], _∷_, _++_}
+use mathlib.Core.List.{List, [], _∷_}
 use lib.ListN.{length, drop, length-append}
 use Rattle.format.specs.declared.Fault.{Fault}
 use Rattle.format.specs.declared.Fault.the-variants.{Short, Negative, Limit, Extra, Version, WireType, Decimal, Point, Flags, Name, Geography, Output, NoColumn, Stale, PastEnd, CardForm, Stage}
@@ -14,7 +14,6 @@ use Rattle.format.specs.Result.{Res, ok, no, numberOf, toldAnswer}
 use Rattle.format.specs.Geography.{Polygon, polygon}
 use Rattle.format.proofs.Results.{no-ok}
 use Rattle.steps.specs.Writings.{overlaid}
-use Rattle.write.specs.Shown.{shownAnswer}
 use Rattle.numbers.specs.Packed.{above, packed, packedNo, itself}
 use Rattle.numbers.proofs.Kept.{told-shown}
 use Rattle.outline.specs.declared.Outline.{Outline}

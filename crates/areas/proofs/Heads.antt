@@ -1,11 +1,12 @@
 -- What a count of at least so many gives, by what its four bytes say; and what all before the first ring gives, by what its three bytes and its count say.
-use Prim.Native.Nat.{ℕ, _+_, _^_, _<_, _≤_}
+use Prim.Native.Nat.{ℕ, _+_, _-_, _%_, _^_, _<_, _≤_}
 use mathlib.Core.Path.{_≡_, refl, sym, _∙_, ap}
 use mathlib.Core.Bool.{Bool, true, false}
 use mathlib.Core.List.{List}
 use lib.ListN.{length}
 use lib.Dec.{leb, ltb, eqb}
 use native.Mathlib.Omega.{arith}
+use native.Mathlib.Nat.{mod-eq-of-lt}
 use native.Mathlib.Decide.{decLt}
 use borrow.Author.Tests.{le-leb, lt-leb, lt-ltb, le-ltb, ltb-true}
 use Rattle.format.specs.declared.Fault.{Fault}
@@ -17,6 +18,14 @@ use Rattle.format.specs.Geography.{atLeast, holesOf}
 use Rattle.format.proofs.Results.{ok-same, passed, bound}
 use Rattle.scan.proofs.Answers.{took}
 use Rattle.areas.specs.Passes.{head}
+
+-- one test for both ends: what is left of a number when the fewest are taken from it, round 2 ^ 64
+module _ (n few left : ℕ) (low : few < 2 ^ 31) (word : left < 2 ^ 64) (is : (left + few) % 2 ^ 64 ≡ n) where
+  pub in-range : left < half 4 - few → (few ≤ n) × (n < half 4)
+  in-range h = let same : n ≡ left + few = sym is ∙ mod-eq-of-lt (omega arith) in (omega arith, omega arith)
+
+  pub out-of-range : half 4 - few ≤ left → few ≤ n → half 4 ≤ n
+  out-of-range h enough = omega arith
 
 module _ (few field : ℕ) (s : List ℕ) (at : ℕ) where
   -- reading looks at no field's number

@@ -69,8 +69,10 @@ enum Passed {
 
 const NEGATIVE: u64 = 0x8000_0000;
 
-// The count at a place, of at least so many.
+// The count at a place, of at least so many. One test finds the counts that are fine: a test of the sign alone would look at the first byte by itself, and
+// the compiler would then read the four bytes one by one.
 fn read_count(b: &[u8], at: usize, fewest: u64) -> Number
+    requires { ⌜ fewest < 2 ^ 31 ⌝ }
     ensures { λ r. ⌜ r ≡ shownNumber (atLeast fewest 0 .read (now (b .entry)) at) ⌝ }
 {
     if !scan::fits(b, at, 4) {
@@ -80,11 +82,8 @@ fn read_count(b: &[u8], at: usize, fewest: u64) -> Number
         });
     }
     let n = quick::four(b, at);
-    if NEGATIVE <= n {
-        return Number::No(Refusal {
-            fault: Fault::Negative,
-            place: at,
-        });
+    if std::num::wrapping_sub_u64(n, fewest) < NEGATIVE - fewest {
+        return Number::Is(n, at + 4);
     }
     if n < fewest {
         return Number::No(Refusal {
@@ -92,7 +91,10 @@ fn read_count(b: &[u8], at: usize, fewest: u64) -> Number
             place: at,
         });
     }
-    Number::Is(n, at + 4)
+    Number::No(Refusal {
+        fault: Fault::Negative,
+        place: at,
+    })
 }
 
 // Past n vertices, which have no rule but that they fit. The first float that doesn't fit is found by how many do.

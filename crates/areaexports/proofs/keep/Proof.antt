@@ -1,5 +1,4 @@
 -- `areaexports::keep` meets its contract, case by case.
-use Prim.Native.Nat.{ℕ}
 use mathlib.Core.Path.{sym, ap, _∙_}
 use Rattle.format.specs.declared.Answer.{Answer}
 use Rattle.format.specs.Result.{toldAnswer}
