@@ -1,6 +1,7 @@
 /* Chaloenpik: reads and writes the VoltDB client wire protocol, and says which bytes of a message say what. For C99 and C++11 or later.
 
-   The functions are those of the proved crate `exports`; `make` writes them to target/libchaloenpik.a, for x86-64 Linux.
+   The functions are those of the proved crates `exports` (reading), `writeexports` (writing) and `areaexports` (areas); `make` writes them to
+   target/libchaloenpik.a, for x86-64 Linux.
    They ask nothing of their arguments but that each pointer has so many readable (or, where not const, writable) elements,
    and that memory lent for writing overlaps nothing else lent to the same call. They keep nothing and allocate nothing.
 

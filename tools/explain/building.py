@@ -42,9 +42,10 @@ def areas_program():
 def c_program(name):
     """A program of this folder over the C interface."""
     made, source = PROGRAMS / name, SOURCES / (name + ".c")
-    proved("exports")
+    for crate in ("exports", "writeexports", "areaexports"):
+        proved(crate)
     if not fresh(ARCHIVE, ROOT / "crates", ROOT / "crates.txt"):
-        say("making the archive of the C interface, about a minute")
+        say("making the archive of the C interface, about a minute and a half")
         logged("archive", ["tools/c/archive"])
     if not fresh(made, ARCHIVE, source, ROOT / "include"):
         logged(name, ["tools/c/kit", "build", str(made), str(source), str(ARCHIVE)])

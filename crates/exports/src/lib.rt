@@ -1,3 +1,6 @@
+// The part of the C interface that reads messages: numbers and slices of numbers only. `writeexports` has the part that writes them, `areaexports`
+// the one for areas; include/chaloenpik.h declares all of it.
+// Each function answers one number: what was found, or the refusal's number and place (numbers/specs/Packed.antt).
 use message::Verdict;
 ghost use mathlib.Core.Bool.{true};
 ghost use mathlib.Core.Path.{_≡_};
@@ -8,7 +11,6 @@ ghost use Rattle.tour.specs.Tour.{fieldsOf};
 ghost use Rattle.fields.specs.Questions.{ownerOf, windowCount, windowOut};
 ghost use Rattle.query.specs.Answers.{ofTable, layoutOf, columnOf, firstNamed};
 ghost use Rattle.places.specs.Places.{tablesOf};
-ghost use Rattle.steps.specs.Steps.{cell};
 ghost use Rattle.cards.specs.Answers.{askMade, askOpen, written};
 ghost use Rattle.query.specs.Answers.{askColumnName, askCell, askCellPlace, askParameter, askElement};
 ghost use Rattle.numbers.specs.Listed.{lent, cellNumbers, givenNumbers, partNumbers};

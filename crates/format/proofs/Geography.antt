@@ -16,7 +16,7 @@ use Rattle.format.specs.Geography.{Vertex, vertex, Ring, ring, atLeast, 
 use Rattle.format.proofs.Results.{ok-same, passed, bound}
 use Rattle.format.proofs.Took.{Tiles}
 use Rattle.format.proofs.Owner.{Owner, owner}
-use Rattle.format.proofs.Laws.{Lawful, lawful-number, lawful-block, lawful-nothing, lawful-ruled, lawful-into, lawful-both, lawful-pick, lawful-present, lawful-each, all-replicate}
+use Rattle.format.proofs.Laws.{Lawful, lawful-number, lawful-block, lawful-ruled, lawful-into, lawful-both, lawful-each, all-replicate}
 use Rattle.format.proofs.Lists.{All, all-reverse, all-map, each→all, all→each, each-length}
 
 ruleset laws = (lawful-number, lawful-block, lawful-ruled, lawful-into, lawful-both, lawful-each, all-replicate)
@@ -25,7 +25,7 @@ pub lawful-vertex : Lawful vertex
 unfolding vertex
 lawful-vertex = search laws depth 8
 
-ring-back : (v : ℕ × (ℕ × (List Vertex × List ℕ)))
+pub ring-back : (v : ℕ × (ℕ × (List Vertex × List ℕ)))
     → both (number 1 64) (λ m. both (atLeast fewestVertices 65) (λ n. both (each second 0 (replicate n vertex)) (λ vs. block ringKept 67))) .Good v
     → _≡_ {A = ℕ × (ℕ × (List Vertex × List ℕ))} (v .0, (length (v .1 .1 .0), v .1 .1)) v
 unfolding both
@@ -35,7 +35,7 @@ pub lawful-ring : Lawful ring
 unfolding ring
 lawful-ring = search (laws, lawful-vertex, ring-back) depth 10
 
-polygon-back : (v : ℕ × (ℕ × ((ℕ × ℕ) × (List Ring × List ℕ))))
+pub polygon-back : (v : ℕ × (ℕ × ((ℕ × ℕ) × (List Ring × List ℕ))))
     → both (number 1 60) (λ e. both (number 1 61) (λ i. both ringed (λ h. both (each first 0 (replicate (h .1) ring)) (λ rs. block bodyKept 68)))) .Good v
     → _≡_ {A = ℕ × (ℕ × ((ℕ × ℕ) × (List Ring × List ℕ)))} (v .0, (v .1 .0, ((v .1 .1 .0 .0, length (v .1 .1 .1 .0)), v .1 .1 .1))) v
 unfolding both

@@ -1,4 +1,5 @@
--- The document's polygon (Table WirePoly, with zeros for its floats), the places of its fields as printed there, and the refusals of its neighbours.
+-- The document's polygon (Table WirePoly, with zeros for its floats), the places of its fields as printed there, and the refusals of its neighbours; and which vertices
+-- stay where they are when an area is turned.
 use Prim.Native.Nat.{ℕ}
 use mathlib.Core.Path.{_≡_, refl}
 use mathlib.Core.List.{List, [], _∷_, _++_, map}
@@ -8,7 +9,7 @@ use Rattle.format.specs.declared.Fault.the-variants.{Short, Negative, Ex
 use Rattle.format.specs.Result.{Res, ok, no}
 use Rattle.format.specs.Number.{numAt, numBytes}
 use Rattle.format.specs.Format.{Entry, number, block, nothing, ruled, into, both, each}
-use Rattle.format.specs.Geography.{Polygon, vertex, ring, polygon, readPolygon, polygonFields}
+use Rattle.format.specs.Geography.{Ring, Polygon, vertex, ring, polygon, readPolygon, polygonFields, turned}
 
 -- a ring of so many vertices
 abbrev rounds : ℕ → ℕ → List ℕ
@@ -42,3 +43,15 @@ pub polygons-right : map (λ bs. outcome (readPolygon bs))
     ∷ refused Geography 286 ∷ refused Extra 318 ∷ refused Short 2 ∷ []
 unfolding numAt numBytes number block nothing ruled into both each vertex ring polygon
 polygons-right = refl
+
+-- a ring whose vertices are told apart by one number each, and an area of such rings
+abbrev round : List ℕ → Ring
+round marks = record { mark = 0; vertices = map (λ m. m ∷ m ∷ m ∷ []) marks; kept = [] }
+
+abbrev area : List Ring → Polygon
+area rings = record { edition = 0; internal = 1; holes = 1; rings = rings; kept = [] }
+
+-- the first ring stays as it is; of each other the first vertex stays, and the others come in reverse order
+pub turns-right : turned (area (round (1 ∷ 2 ∷ 3 ∷ []) ∷ round (4 ∷ 5 ∷ 6 ∷ 7 ∷ []) ∷ round (8 ∷ 9 ∷ 10 ∷ []) ∷ []))
+    ≡ area (round (1 ∷ 2 ∷ 3 ∷ []) ∷ round (4 ∷ 7 ∷ 6 ∷ 5 ∷ []) ∷ round (8 ∷ 10 ∷ 9 ∷ []) ∷ [])
+turns-right = refl

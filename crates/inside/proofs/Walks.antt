@@ -12,8 +12,7 @@ use Rattle.format.specs.Message.{first, second}
 use Rattle.format.specs.Geography.{Vertex, vertex, Ring, ring, atLeast, ringed, holesOf, polygon, ringKept, bodyKept, fewestVertices}
 use Rattle.format.proofs.Results.{ok-same, bound}
 use Rattle.format.proofs.Laws.{Lawful, lawful-number, lawful-block, lawful-ruled, lawful-both, lawful-each, all-replicate}
-use Rattle.format.proofs.Lists.{each-length}
-use Rattle.format.proofs.Geography.{lawful-vertex, lawful-ring}
+use Rattle.format.proofs.Geography.{lawful-vertex, lawful-ring, ring-back, polygon-back}
 use Rattle.tour.specs.declared.Tour.{Tour}
 use Rattle.tour.specs.Walks.{Walked}
 use Rattle.tour.proofs.Tours.{walked-ruled, walked-into, walked-both}
@@ -59,16 +58,6 @@ lawful-holesByte = search laws
 lawful-ringed : Lawful ringed
 lawful-ringed = search laws depth 8
 
--- the counts are those of the lists that were read
-marked-back : (v : ℕ × (ℕ × (List Vertex × List ℕ))) → marked .Good v → _≡_ {A = ℕ × (ℕ × (List Vertex × List ℕ))} (v .0, (length (v .1 .1 .0), v .1 .1)) v
-unfolding both
-marked-back v g = ap (λ (n : ℕ). (v .0, (n, v .1 .1))) (each-length second vertex 0 (v .1 .0) (v .1 .1 .0) (g .1 .1 .0))
-
-led-back : (v : ℕ × (ℕ × ((ℕ × ℕ) × (List Ring × List ℕ)))) → led .Good v
-    → _≡_ {A = ℕ × (ℕ × ((ℕ × ℕ) × (List Ring × List ℕ)))} (v .0, (v .1 .0, ((v .1 .1 .0 .0, length (v .1 .1 .1 .0)), v .1 .1 .1))) v
-unfolding both
-led-back v g = ap (λ (n : ℕ). (v .0, (v .1 .0, ((v .1 .1 .0 .0, n), v .1 .1 .1)))) (each-length first ring 0 (v .1 .1 .0 .1) (v .1 .1 .1 .0) (g .1 .1 .1 .0))
-
 -- what was read as a count was read as a number
 least-read : (few field : ℕ) (s : List ℕ) (at n next : ℕ) → atLeast few field .read s at ≡ ok (n, next) → number 4 0 .read s at ≡ ok (n, next)
 unfolding number
@@ -84,11 +73,11 @@ module _ (s : List ℕ) {ix : Index} {tour : Tour} {out : List ℕ} {after : Tou
 module _ (s : List ℕ) (by : Bytes s) {ix : Index} {tour : Tour} {out : List ℕ} {after : Tour} {written : List ℕ} where
   pub walked-ring : Walked marked s ix tour out after written → Walked ring s ix tour out after written
   unfolding ring
-  walked-ring w = walked-into s _ _ by (search laws depth 10) marked-back w
+  walked-ring w = walked-into s _ _ by (search laws depth 10) ring-back w
 
   pub walked-polygon : Walked led s ix tour out after written → Walked polygon s ix tour out after written
   unfolding polygon
-  walked-polygon w = walked-into s _ _ by (search laws depth 12) led-back w
+  walked-polygon w = walked-into s _ _ by (search laws depth 12) polygon-back w
 
 -- the third byte, the ring count n, and what stands behind
 module _ (s : List ℕ) (by : Bytes s) {ix : Index} {tour : Tour} {out : List ℕ} {mid : Tour} {half : List ℕ} {n : ℕ}

@@ -1,10 +1,12 @@
+// The part of the C interface that writes messages: numbers and slices of numbers only. `exports` has the part that reads them, `areaexports` the
+// one for areas; include/chaloenpik.h declares all of it.
+// Each function answers one number: what was found, or the refusal's number and place (numbers/specs/Packed.antt).
 use reply::Head;
 use write::COLUMNS;
 ghost use Prim.Native.Nat.{_+_, _*_, _^_};
 ghost use Rattle.format.specs.Value.{fixed, body};
 ghost use Rattle.put.specs.Put.{optional};
 ghost use mathlib.Core.List.{[]};
-ghost use lib.ListN.{length};
 ghost use Rattle.steps.specs.Steps.{openTable, beginCall, beginReply, cell, nullParam, oneParam, bytesParam, openArray, element, closeArray, finishCall, openRow, closeRow, closeTable, finishReply};
 ghost use Rattle.steps.specs.Logins.{loginRequest, loginResponse};
 ghost use Rattle.write.specs.Shown.{zero};
@@ -279,6 +281,8 @@ pub extern "C" fn chaloenpik_finish_reply(out: &mut [u8], state: &mut [u64; 11])
     let step = reply::finish_reply(out, st);
     numbers::keep(state, step)
 }
+
+// ---- The logins: one call each.
 
 // Writes a login request. In version 0 the hash version, here `hashing`, is ignored.
 #[no_mangle]
