@@ -1,8 +1,7 @@
 /* Carries out calls on the bodies of geographies, and steps of writing them, with the exported functions, to be held against the second
    reader and writer. Standard input is a row of frames, a call each; each answer is a line. tests/second/area_calls.py says which. */
+#include "frame.h"
 #include <chaloenpik.h>
-#include <stdio.h>
-#include <stdlib.h>
 #include <string.h>
 
 /* The calls, by the byte that names them. */
@@ -20,32 +19,6 @@ static uint8_t frame[MOST_BYTES], body[MOST_BYTES + SPARE], out[MOST_BYTES + SPA
 static uint64_t list[CHALOENPIK_ENTRY * MOST_ENTRIES + SPARE], state[CHALOENPIK_AREA_STATE];
 static size_t length, size; /* of the body, and of the buffer */
 
-static void fail(const char *what) {
-    fprintf(stderr, "areas: %s\n", what);
-    exit(1);
-}
-
-/* ---- The arguments, one after the other. */
-
-static const uint8_t *next, *end;
-
-static const uint8_t *take(size_t bytes) {
-    if ((size_t)(end - next) < bytes) fail("a frame ends too early");
-    next += bytes;
-    return next - bytes;
-}
-
-static uint64_t big_endian(size_t bytes) {
-    const uint8_t *from = take(bytes);
-    uint64_t n = 0;
-    for (size_t i = 0; i < bytes; i++) n = n << 8 | from[i];
-    return n;
-}
-
-static uint64_t number(void) { return big_endian(8); }
-
-static uint8_t byte(void) { return (uint8_t)number(); }
-
 /* Bytes that must be so many. */
 static const uint8_t *block(size_t bytes) {
     if (big_endian(4) != bytes) fail("a block has another size");
@@ -53,22 +26,6 @@ static const uint8_t *block(size_t bytes) {
 }
 
 /* ---- Answers. */
-
-static uint32_t sums[256];
-
-static void make_sums(void) {
-    for (uint32_t b = 0; b < 256; b++) {
-        sums[b] = b;
-        for (int i = 0; i < 8; i++) sums[b] = sums[b] >> 1 ^ (sums[b] & 1 ? 0xedb88320 : 0);
-    }
-}
-
-/* The CRC-32 of some bytes, as zip files have it. */
-static uint32_t checksum(const uint8_t *bytes, size_t count) {
-    uint32_t sum = UINT32_MAX;
-    for (size_t i = 0; i < count; i++) sum = sum >> 8 ^ sums[(sum ^ bytes[i]) & 255];
-    return ~sum;
-}
 
 static void print_bytes(const uint8_t *bytes, size_t count) {
     if (count > MOST_SHOWN) printf("%08x", checksum(bytes, count));
@@ -205,15 +162,10 @@ static void call(uint8_t name) {
 }
 
 int main(void) {
-    uint8_t head[4];
-    make_sums();
-    while (fread(head, 1, sizeof head, stdin) == sizeof head) {
-        next = head, end = head + sizeof head;
-        size_t bytes = big_endian(4);
-        if (bytes == 0 || bytes > MOST_BYTES || fread(frame, 1, bytes, stdin) != bytes) return 1;
-        next = frame + 1, end = frame + bytes;
-        if (frame[0] > FINISH) return 1;
-        call(frame[0]);
+    while (next_frame(frame, MOST_BYTES) != 0) {
+        uint8_t name = *take(1);
+        if (name > FINISH) fail("no such call");
+        call(name);
     }
     return 0;
 }

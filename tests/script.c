@@ -1,8 +1,7 @@
 /* Carries out scripts of writer steps with the exported steps, to be held against the second writer. Standard input is a row of
    frames, a step each; each answer is a line. tests/second/steps.py says which. */
+#include "frame.h"
 #include <chaloenpik.h>
-#include <stdio.h>
-#include <stdlib.h>
 #include <string.h>
 
 /* The steps, by the byte that names them. */
@@ -18,28 +17,6 @@ static uint64_t state[CHALOENPIK_STATE];
 static size_t size;
 
 /* ---- The arguments, one after the other. */
-
-static const uint8_t *next, *end;
-
-static const uint8_t *take(size_t bytes) {
-    if ((size_t)(end - next) < bytes) {
-        fprintf(stderr, "script: a frame ends too early\n");
-        exit(1);
-    }
-    next += bytes;
-    return next - bytes;
-}
-
-static uint64_t big_endian(size_t bytes) {
-    const uint8_t *from = take(bytes);
-    uint64_t n = 0;
-    for (size_t i = 0; i < bytes; i++) n = n << 8 | from[i];
-    return n;
-}
-
-static uint64_t number(void) { return big_endian(8); }
-
-static uint8_t byte(void) { return (uint8_t)number(); }
 
 typedef struct {
     bool null;
@@ -172,22 +149,6 @@ static void show(void) {
     printf("%lu %s\n", state[1], size == 0 ? "-" : hex);
 }
 
-static uint32_t table[256];
-
-static void make_table(void) {
-    for (uint32_t b = 0; b < 256; b++) {
-        table[b] = b;
-        for (int i = 0; i < 8; i++) table[b] = table[b] >> 1 ^ (table[b] & 1 ? 0xedb88320 : 0);
-    }
-}
-
-/* The CRC-32 of the buffer, as zip files have it. */
-static uint32_t checksum(void) {
-    uint32_t sum = UINT32_MAX;
-    for (size_t i = 0; i < size; i++) sum = sum >> 8 ^ table[(sum ^ out[i]) & 255];
-    return ~sum;
-}
-
 /* The stage, the position, what is open at that stage, and the buffer's checksum. */
 static void print_left(void) {
     enum { CALL = 1, ARRAY = 2, TABLE = 4, ROW = 5 };
@@ -199,7 +160,7 @@ static void print_left(void) {
     if (stage == ROW) printf(" %lu %lu", state[4], state[6]);
     if (in_table) printf(" %lu %lu %lu ", state[7], state[8], state[9]);
     for (size_t i = 0; in_table && i < columns && i < CHALOENPIK_TYPES; i++) printf("%02x", types[i]);
-    printf(" %08x\n", checksum());
+    printf(" %08x\n", checksum(out, size));
 }
 
 static uint64_t stepped(uint8_t name) {
@@ -248,14 +209,6 @@ static void one(uint8_t name) {
 }
 
 int main(void) {
-    uint8_t head[4];
-    make_table();
-    while (fread(head, 1, sizeof head, stdin) == sizeof head) {
-        next = head, end = head + sizeof head;
-        size_t bytes = big_endian(4);
-        if (bytes == 0 || bytes > MOST_FRAME || fread(frame, 1, bytes, stdin) != bytes) return 1;
-        next = frame + 1, end = frame + bytes;
-        one(frame[0]);
-    }
+    while (next_frame(frame, MOST_FRAME) != 0) one(*take(1));
     return 0;
 }
