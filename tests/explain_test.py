@@ -859,7 +859,9 @@ class WithTheProvedLibrary(unittest.TestCase):
         self.assertEqual(done.stderr, "")
 
     def test_stopped_by_the_keyboard(self):
-        running = subprocess.Popen([str(ROOT / "explain"), "4", "-"], stdin=subprocess.PIPE, stderr=subprocess.PIPE, encoding="utf-8")
+        # A shell lets what it runs in the background ignore the keyboard, and that is inherited.
+        running = subprocess.Popen([str(ROOT / "explain"), "4", "-"], stdin=subprocess.PIPE, stderr=subprocess.PIPE, encoding="utf-8",
+                                   preexec_fn=lambda: signal.signal(signal.SIGINT, signal.SIG_DFL))
         time.sleep(1.5)  # until it reads its input
         running.send_signal(signal.SIGINT)
         self.assertEqual((running.communicate()[1], running.returncode), ("explain: stopped\n", 2))
