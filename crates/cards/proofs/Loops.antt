@@ -5,13 +5,14 @@ use mathlib.Core.Bool.{Bool, true, false}
 use mathlib.Core.List.{List, [], _∷_, _++_}
 use mathlib.Core.Option.{Option, some, none}
 use lib.ListN.{length, getD, set, take, drop, replicate, drop-of-length-le}
-use lib.Seq.{drop-cons, ext-getD, paste, paste-suc, take-all}
+use lib.Seq.{drop-cons, paste, paste-suc, take-all}
 use native.Mathlib.Nat.{zero-add}
 use native.Mathlib.Numerals.{add-one}
 use native.Mathlib.Omega.{arith}
 use Rattle.format.specs.Result.{pick}
 use Rattle.scan.specs.declared.Found.{Found}
 use Rattle.query.specs.Answers.{same}
+use Rattle.query.proofs.Ends.{EqualFrom, equal-from-end}
 use Rattle.query.proofs.Names.{same-yes, same-no}
 use Rattle.cards.specs.Card.{Card, cardBytes, namePlace, mostName, nameByte, wrongFrom}
 use Rattle.cards.specs.Shown.{shownWrong}
@@ -48,7 +49,7 @@ pub one-wrong : (o : Option ℕ) {f : Found} {k : ℕ} → f ≡ shownWrong o �
 one-wrong none e told = absurd (let z : _≡_ {A = ℕ} 0 1 = cc in omega arith)
 one-wrong (some j) {f} {k} e told = let same : j ≡ k = cc in ap some same
 
--- two lists of one length: the bytes before i are equal
+-- two lists, compared from the end
 module _ (xs ys : List ℕ) where
   pub other-length : (length xs ≡ length ys → ⊥) → false ≡ same xs ys
   other-length n = sym (same-no xs ys (λ e. n (ap length e)))
@@ -56,8 +57,8 @@ module _ (xs ys : List ℕ) where
   pub other-byte : (i : ℕ) → (getD xs i 0 ≡ getD ys i 0 → ⊥) → false ≡ same xs ys
   other-byte i n = sym (same-no xs ys (λ e. n (ap (λ (l : List ℕ). getD l i 0) e)))
 
-  pub all-bytes : length xs ≡ length ys → ((k : ℕ) → k < length xs → getD xs k 0 ≡ getD ys k 0) → true ≡ same xs ys
-  all-bytes e h = let equal = ext-getD 0 xs ys e h in sym (rw equal (same-yes ys))
+  pub all-bytes : length xs ≡ length ys → EqualFrom (λ k. getD xs k 0) ys 0 → true ≡ same xs ys
+  all-bytes e h = let equal = equal-from-end xs ys e h in sym (rw equal (same-yes ys))
 
 -- bytes copied to the front, from the first to the last
 module _ (out bs : List ℕ) where

@@ -143,19 +143,20 @@ const STALE: Refusal = Refusal {
     place: 0,
 };
 
-// Whether two parts have the same bytes.
+// Whether two parts have the same bytes: compared as in the search for a name, from the last to the first.
 fn same_bytes(a: &[u8], b: &[u8]) -> bool
     ensures { λ r. ⌜ r ≡ same (now (a .entry)) (now (b .entry)) ⌝ }
 {
     if a.len() != b.len() {
         return false;
     }
-    let mut i = 0;
-    while i < a.len() {
-        if a[i] != b[i] {
+    let mut rest = a.len();
+    while 0 < rest {
+        let last = rest - 1;
+        if a[last] != b[last] {
             return false;
         }
-        i += 1;
+        rest = last;
     }
     true
 }

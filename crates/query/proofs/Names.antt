@@ -5,7 +5,7 @@ use mathlib.Core.Bool.{Bool, true, false, _&&_, false≢true}
 use mathlib.Core.List.{List, [], _∷_}
 use mathlib.Core.Option.{Option, some, none}
 use lib.ListN.{length, getD, drop, replicate, length-append}
-use lib.Seq.{getD-take, getD-drop, ext-getD}
+use lib.Seq.{getD-take, getD-drop}
 use lib.Dec.{T, eqb, eqb→eq, eqb-refl, lit<}
 use lib.Ieee.Bits.{is-true}
 use lib.Ieee.Fits.{and-l, and-r}
@@ -25,6 +25,7 @@ use Rattle.places.proofs.Stands.{stands-read, stands-head, stands-tail, stands-
 use Rattle.places.proofs.Lists.{sized}
 use Rattle.places.proofs.Layouts.{name}
 use Rattle.query.specs.Answers.{same, firstNamed}
+use Rattle.query.proofs.Ends.{EqualFrom, equal-from-end}
 
 -- `same` is equality
 pub same-yes : (xs : List ℕ) → same xs xs ≡ true
@@ -125,10 +126,10 @@ module _ (m : List ℕ) (count : ℕ) (wanted : List ℕ) where
 
   -- what the tests of a turn say of its name
   module _ {i at start end : ℕ} {whole : Res ℕ} (t : Turn i at start end whole) where
-    pub found-it : end - start ≡ length wanted → ((k : ℕ) → k < length wanted → getD m (start + k) 0 ≡ getD wanted k 0) → ok i ≡ whole
-    found-it size bytes =
+    pub found-it : end - start ≡ length wanted → EqualFrom (λ k. getD m (start + k) 0) wanted 0 → ok i ≡ whole
+    found-it size all =
         let long : length (t .bytes) ≡ length wanted = t .size ∙ size in
-        t .found (ext-getD 0 (t .bytes) wanted long (λ k l. sym (t .stand k l) ∙ bytes k (omega arith)))
+        t .found (equal-from-end (t .bytes) wanted long (λ k after below. sym (t .stand k (omega arith)) ∙ all k after below))
 
     pub other-length : (end - start ≡ length wanted → ⊥) → Left (i + 1) end whole
     other-length not = t .goes-on (λ e. not (sym (t .size) ∙ ap length e))

@@ -334,7 +334,8 @@ pub fn column_name(m: &[u8], t: usize, c: usize) -> Part
     }
 }
 
-// The first of some names, from a place on, that is equal to a name.
+// The first of some names, from a place on, that is equal to a name: of its length, and then byte by byte from the last to the first, as names of one
+// family begin alike.
 fn search(m: &[u8], from: usize, count: usize, name: &[u8]) -> Answer
     ensures { λ r. ⌜ ((names : List (Option (List ℕ))) → Stands (each third 0 (replicate count (string false ascii 46 47))) (now (m .entry)) from names
         → toldAnswer r ≡ firstNamed (now (name .entry)) names 0) ⌝ }
@@ -354,15 +355,16 @@ fn search(m: &[u8], from: usize, count: usize, name: &[u8]) -> Answer
             i += 1;
             continue 'columns;
         }
-        let mut j = 0;
+        let mut rest = name.len();
         'bytes: loop {
-            if j == name.len() {
+            if rest == 0 {
                 break 'columns;
             }
-            if m[start + j] != name[j] {
+            let last = rest - 1;
+            if m[start + last] != name[last] {
                 break 'bytes;
             }
-            j += 1;
+            rest = last;
         }
         at = end;
         i += 1;

@@ -1,13 +1,12 @@
--- `query::search` meets its contract: the names that are left decide the search as all of them do. The inner loop has seen that the bytes before j are equal.
-use mathlib.Core.Path.{_≡_, refl}
-use Prim.Native.Nat.{ℕ, _+_, _-_, _≤_, _<_}
+-- `query::search` meets its contract: the names that are left decide the search as all of them do. The inner loop has seen that the last bytes are equal.
+use mathlib.Core.Path.{refl}
+use Prim.Native.Nat.{ℕ, _+_, _-_, _≤_}
 use native.Mathlib.Omega.{arith}
 use mathlib.Core.Bool.{false}
 use mathlib.Core.List.{List}
 use mathlib.Core.Logic.{⊎-elim}
 use mathlib.Core.Option.{Option}
 use lib.ListN.{length, getD, replicate}
-use borrow.Author.Count.{below-more, below-none}
 use borrow.Author.Needs.{needs}
 use Rattle.format.specs.Format.{each}
 use Rattle.format.specs.Message.{third, unlimited}
@@ -15,15 +14,16 @@ use Rattle.scan.proofs.Counted.{here, refuses}
 use Rattle.places.specs.Stands.{Stands}
 use Rattle.places.proofs.Layouts.{name}
 use Rattle.query.specs.Answers.{firstNamed}
+use Rattle.query.proofs.Ends.{EqualFrom, none-seen, one-more}
 use Rattle.query.proofs.Names.{Left, starts, ends, turn, found-it, other-length, other-byte, never-refused}
 use Rattle.query.proofs.search.Statement.{statement}
 use Rattle.query.proofs.search.Tie as tie
 
 abbrev Inv-bytes : tie.InvT-bytes
-Inv-bytes m from count wanted at i start end j₀ j = (j ≤ length wanted) × ((k : ℕ) → k < j → getD m (start + k) 0 ≡ getD wanted k 0)
+Inv-bytes m from count wanted at i start end rest₀ rest = (rest ≤ length wanted) × EqualFrom (λ k. getD m (start + k) 0) wanted rest
 
 abbrev μ-bytes : tie.MeasureT-bytes
-μ-bytes m from count wanted at i start end j₀ j = length wanted - j
+μ-bytes m from count wanted at i start end rest₀ rest = rest
 
 abbrev Inv-columns : tie.InvT-columns
 Inv-columns m from count wanted at₀ i₀ at i = (i ≤ count) × ((names : List (Option (List ℕ))) → Stands (each third 0 (replicate count name)) m from names → Left m count wanted i at (firstNamed wanted names 0))
@@ -67,7 +67,10 @@ columns-again c =
     (omega arith, λ names d. other-length (a .m .now) (a .count) (a .name .now) (turn (a .m .now) (a .count) (a .name .now) (l .i) (l .at) (c .before .before .before .before .before .columns-test .taken) (l .inv .1 names d) h) (c .if1 .taken))
 
 bytes-holds : tie.Need-bytes-holds Inv-bytes μ-bytes Inv-columns μ-columns
-bytes-holds c = (omega arith, below-none _)
+bytes-holds c = (omega arith, none-seen _ (c .before .before .before .before .before .before .before .before .before .args .name .now) _ (omega arith))
+
+sub-last : tie.Need-sub-last Inv-bytes μ-bytes Inv-columns μ-columns
+sub-last c = search needs
 
 add-if2 : tie.Need-add-if2 Inv-bytes μ-bytes Inv-columns μ-columns
 add-if2 c = search needs
@@ -82,14 +85,11 @@ shared-slice-read-if2 c =
 shared-slice-read-if2-2 : tie.Need-shared-slice-read-if2-2 Inv-bytes μ-bytes Inv-columns μ-columns
 shared-slice-read-if2-2 c = search needs
 
-add-j : tie.Need-add-j Inv-bytes μ-bytes Inv-columns μ-columns
-add-j c = search needs
-
 bytes-less : tie.Need-bytes-less Inv-bytes μ-bytes Inv-columns μ-columns
 bytes-less c = search needs
 
 bytes-again : tie.Need-bytes-again Inv-bytes μ-bytes Inv-columns μ-columns
-bytes-again c = (omega arith, below-more _ _ (c .before .before .before .before .bytes .inv .1) (c .if2 .left))
+bytes-again c = (omega arith, one-more _ (c .before .before .before .before .before .before .before .before .before .before .before .before .before .before .args .name .now) (c .before .before .before .before .bytes .rest) (c .before .before .before .before .bytes .inv .1) (c .if2 .left))
 
 add-i-2 : tie.Need-add-i-2 Inv-bytes μ-bytes Inv-columns μ-columns
 add-i-2 c = search needs
@@ -102,7 +102,7 @@ columns-again-2 c =
     let a = c .before .before .before .before .before .before .before .before .before .before .before .before .before .before .args in
     let l = c .before .before .before .before .before .before .before .before .before .before .before .columns in
     let h = here false unlimited (a .m .now) (l .at) (c .before .before .before .before .before .before .before .before .before .read-body .ensures) (c .before .before .before .before .before .before .before .body .given .1) in
-    (omega arith, λ names d. other-byte (a .m .now) (a .count) (a .name .now) (turn (a .m .now) (a .count) (a .name .now) (l .i) (l .at) (c .before .before .before .before .before .before .before .before .before .before .columns-test .taken) (l .inv .1 names d) h) (c .before .before .before .before .before .if1 .left) (c .before .before .before .before .bytes .j) (omega arith) (c .if2 .taken))
+    (omega arith, λ names d. other-byte (a .m .now) (a .count) (a .name .now) (turn (a .m .now) (a .count) (a .name .now) (l .i) (l .at) (c .before .before .before .before .before .before .before .before .before .before .columns-test .taken) (l .inv .1 names d) h) (c .before .before .before .before .before .if1 .left) (c .before .before .before .before .bytes .rest - 1) (omega arith) (c .if2 .taken))
 
 returns-2 : tie.Need-returns-2 Inv-bytes μ-bytes Inv-columns μ-columns
 returns-2 c =
@@ -112,7 +112,7 @@ returns-2 c =
     ⊎-elim (λ w. absurd (omega arith))
     (λ w.
     let h = here false unlimited (a .m .now) (l .at) (w .1 .ensures) (w .3 .given .1) in
-    found-it (a .m .now) (a .count) (a .name .now) (turn (a .m .now) (a .count) (a .name .now) (l .i) (l .at) (w .0 .taken) (l .inv .1 names d) h) (w .5 .left) (λ k s. w .6 .inv .1 k (omega arith)))
+    found-it (a .m .now) (a .count) (a .name .now) (turn (a .m .now) (a .count) (a .name .now) (l .i) (l .at) (w .0 .taken) (l .inv .1 names d) h) (w .5 .left) (rw (w .7 .taken) at (w .6 .inv .1)))
     (c .before .columns-test .came)
 
 returns-3 : tie.Need-returns-3 Inv-bytes μ-bytes Inv-columns μ-columns
@@ -141,10 +141,10 @@ search-spec =
     columns-less
     columns-again
     bytes-holds
+    sub-last
     add-if2
     shared-slice-read-if2
     shared-slice-read-if2-2
-    add-j
     bytes-less
     bytes-again
     add-i-2
