@@ -19,7 +19,8 @@ enum { MOST_NUMBERS = 6 * 2200000 };
 static uint8_t message[MOST_SIZE], plain_message[MOST_SIZE], proved_message[MOST_SIZE];
 static uint64_t plain_list[MOST_NUMBERS], proved_list[MOST_NUMBERS];
 static uint64_t plain_numbers[4], proved_numbers[4];
-static size_t last_row, last_column, copied;
+static uint8_t card[CHALOENPIK_CARD];
+static size_t last_row, last_column, last_name, last_name_size, copied;
 
 static double now_ns(void) {
     struct timespec t;
@@ -78,6 +79,23 @@ static uint64_t cell_plain(const uint8_t *m, size_t size) {
 
 static uint64_t cell_proved(const uint8_t *m, size_t size) { return chaloenpik_cell(m, size, 0, last_row, last_column, proved_numbers); }
 
+/* The last column of the first table, by its name and by its card. */
+static uint64_t find_plain(const uint8_t *m, size_t size) {
+    size_t column = 0;
+    plain_refusal no = plain_find_column(m, size, 0, m + last_name, last_name_size, &column);
+    return found_or(no, column);
+}
+
+static uint64_t find_proved(const uint8_t *m, size_t size) { return chaloenpik_find_column(m, size, 0, m + last_name, last_name_size); }
+
+static uint64_t open_plain(const uint8_t *m, size_t size) {
+    size_t column = 0;
+    plain_refusal no = plain_open_card(m, size, 0, card, sizeof card, &column);
+    return found_or(no, column);
+}
+
+static uint64_t open_proved(const uint8_t *m, size_t size) { return chaloenpik_open_card(m, size, 0, card, sizeof card); }
+
 static uint64_t write_plain(const uint8_t *m, size_t size) { return rewrite_plain(m, size, plain_message, MOST_SIZE); }
 
 static uint64_t write_proved(const uint8_t *m, size_t size) { return rewrite_proved(m, size, proved_message, MOST_SIZE); }
@@ -134,6 +152,13 @@ static bool last_cell_known(size_t size) {
     return chaloenpik_refusal(rows) == 0;
 }
 
+static bool last_name_known(size_t size) {
+    uint64_t part[2];
+    if (!last_cell_known(size) || chaloenpik_refusal(chaloenpik_column_name(message, size, 0, last_column, part)) != 0) return false;
+    last_name = part[0], last_name_size = part[1];
+    return chaloenpik_refusal(chaloenpik_make_card(message, size, 0, message + last_name, last_name_size, card, sizeof card)) == 0;
+}
+
 static bool accepted(size_t size) { return plain_accept(message, size).number == 0; }
 
 static bool nothing_written(uint64_t answer) {
@@ -166,6 +191,12 @@ static const question questions[] = {
     {"list", always, list_plain, list_proved, lists_alike},
     {"cell", last_cell_known, cell_plain, cell_proved, cells_alike},
     {"write", accepted, write_plain, write_proved, messages_alike},
+};
+
+static const question column_questions[] = {
+    {"accept", always, accept_plain, accept_proved, nothing_written},
+    {"find", last_name_known, find_plain, find_proved, nothing_written},
+    {"open", last_name_known, open_plain, open_proved, nothing_written},
 };
 
 static const question area_questions[] = {
@@ -242,10 +273,12 @@ static void each_shape(const question *q, const shape *s, size_t count, size_t l
         }
 }
 
-/* Every question about replies, and then about areas, which have at most MOST_BODY bytes in a message. */
+/* Every question about replies; about columns, in replies of one size; and about areas, which have at most MOST_BODY bytes in a message. */
 static void each(size_t least, size_t most, size_t runs, print_line *print) {
     size_t least_area = least < MOST_BODY ? least : MOST_BODY, most_area = most < MOST_BODY ? most : MOST_BODY;
     for (size_t k = 0; k < sizeof questions / sizeof *questions; k++) each_shape(&questions[k], shapes, shape_count, least, most, runs, print);
+    for (size_t k = 0; k < sizeof column_questions / sizeof *column_questions; k++)
+        each_shape(&column_questions[k], column_shapes, column_shape_count, MOST_SIZE, MOST_SIZE, runs, print);
     for (size_t k = 0; k < sizeof area_questions / sizeof *area_questions; k++)
         each_shape(&area_questions[k], area_shapes, area_shape_count, least_area, most_area, runs, print);
 }

@@ -30,6 +30,12 @@ typedef struct {
 /* Finds a cell of an accepted message; else the message's refusal, or 11 at 0 for an index past the end. */
 plain_refusal plain_find_cell(const uint8_t *message, size_t length, size_t table, size_t row, size_t column, plain_cell *cell);
 
+/* Finds the first column of a name in a table of an accepted message; else the message's refusal, 11 at 0, or 9 at 0 if none has it. */
+plain_refusal plain_find_column(const uint8_t *message, size_t length, size_t table, const uint8_t *name, size_t name_size, size_t *column);
+
+/* Opens a shortcut card; else the message's refusal, 12 where the card breaks its form, 11 at 0, or 10 at 0 if it doesn't fit. */
+plain_refusal plain_open_card(const uint8_t *message, size_t length, size_t table, const uint8_t *card, size_t card_size, size_t *column);
+
 /* Writes entries of the field list, from number `first` on, as many as fit, six numbers each: offset, size, field, three
    indices. `taken` is how many were written. 11 at 0 if there is no entry `first`. */
 plain_refusal plain_fields(const uint8_t *message, size_t length, size_t first, uint64_t *out, size_t room, size_t *taken);

@@ -165,21 +165,31 @@ static bool is_null_cell(const uint8_t *at, uint8_t type) {
     return is_counted(type) && load32(at) == UINT32_MAX;
 }
 
-plain_refusal plain_find_cell(const uint8_t *m, size_t size, size_t table, size_t row, size_t column, plain_cell *found) {
-    const plain_refusal past_end = {PAST_END, 0};
-    plain_refusal no = plain_accept(m, size);
-    if (no.number != 0) return no;
+static plain_refusal refused(uint32_t number, size_t place) {
+    plain_refusal no = {number, place};
+    return no;
+}
+
+/* Where a table of an accepted message stands, if there is one. */
+static bool table_at(const uint8_t *m, size_t size, size_t table, size_t *at) {
     reader r = {m, 4, {0, 0}};
     size_t tables;
     head(&r, size, NULL, &tables);
-    if (table >= tables) return past_end;
-    size_t at = r.at;
-    for (size_t i = 0; i < table; i++) at += 4 + load32(m + at);
+    *at = r.at;
+    for (size_t i = 0; i < table && i < tables; i++) *at += 4 + load32(m + *at);
+    return table < tables;
+}
+
+plain_refusal plain_find_cell(const uint8_t *m, size_t size, size_t table, size_t row, size_t column, plain_cell *found) {
+    plain_refusal no = plain_accept(m, size);
+    size_t at;
+    if (no.number != 0) return no;
+    if (!table_at(m, size, table, &at)) return refused(PAST_END, 0);
     size_t columns = load16(m + at + 9);
     const uint8_t *types = m + at + 11;
     at += 8 + load32(m + at + 4);
     size_t rows = load32(m + at);
-    if (row >= rows || column >= columns) return past_end;
+    if (row >= rows || column >= columns) return refused(PAST_END, 0);
     at += 4;
     for (size_t j = 0; j < row; j++) at += 4 + load32(m + at);
     at += 4;
@@ -189,5 +199,59 @@ plain_refusal plain_find_cell(const uint8_t *m, size_t size, size_t table, size_
     found->null = is_null_cell(m + at, types[column]);
     found->offset = at + prefix;
     found->size = past_cell(m, at, types[column]) - found->offset;
+    return no;
+}
+
+/* Whether the name whose length field is at `at` is this one. */
+static bool is_named(const uint8_t *at, const uint8_t *name, size_t name_size) {
+    return load32(at) == name_size && memcmp(at + 4, name, name_size) == 0;
+}
+
+plain_refusal plain_find_column(const uint8_t *m, size_t size, size_t table, const uint8_t *name, size_t name_size, size_t *column) {
+    plain_refusal no = plain_accept(m, size);
+    size_t at;
+    if (no.number != 0) return no;
+    if (!table_at(m, size, table, &at)) return refused(PAST_END, 0);
+    size_t columns = load16(m + at + 9);
+    at += 11 + columns;
+    for (size_t k = 0; k < columns; k++, at += 4 + load32(m + at))
+        if (is_named(m + at, name, name_size)) {
+            *column = k;
+            return no;
+        }
+    return refused(NO_COLUMN, 0);
+}
+
+/* Whether a card has its form, and where it breaks it. */
+static bool card_fine(const uint8_t *card, size_t size, size_t *wrong) {
+    *wrong = 0;
+    if (size == 0 || card[0] != 1) return false;
+    *wrong = size < CARD ? size : CARD;
+    if (size != CARD) return false;
+    *wrong = 1;
+    if (card[1] >= MOST_COLUMNS) return false;
+    *wrong = 2;
+    if (!is_column_type(card[2])) return false;
+    *wrong = 3;
+    if (card[3] > CARD - CARD_NAME) return false;
+    for (*wrong = CARD_NAME; *wrong < CARD_NAME + (size_t)card[3]; ++*wrong)
+        if (card[*wrong] > 127) return false;
+    for (; *wrong < CARD; ++*wrong)
+        if (card[*wrong] != 0) return false;
+    return true;
+}
+
+plain_refusal plain_open_card(const uint8_t *m, size_t size, size_t table, const uint8_t *card, size_t card_size, size_t *column) {
+    plain_refusal no = plain_accept(m, size);
+    size_t at, wrong;
+    if (no.number != 0) return no;
+    if (!card_fine(card, card_size, &wrong)) return refused(CARD_FORM, wrong);
+    if (!table_at(m, size, table, &at)) return refused(PAST_END, 0);
+    size_t columns = load16(m + at + 9), position = card[1];
+    if (position >= columns || m[at + 11 + position] != card[2]) return refused(STALE, 0);
+    at += 11 + columns;
+    for (size_t k = 0; k < position; k++) at += 4 + load32(m + at);
+    if (!is_named(m + at, card + CARD_NAME, card[3])) return refused(STALE, 0);
+    *column = position;
     return no;
 }

@@ -3,11 +3,14 @@
 #include "plain.h"
 #include <string.h>
 
-enum { NO_ROOM = 1, BAD_SIGN = 2, LIMIT = 3, LEFT_OVER = 4, BAD_VERSION = 5, BAD_TYPE = 6, BAD_VALUE = 7, OUTPUT = 8, PAST_END = 11, STAGE = 13 };
+enum { NO_ROOM = 1, BAD_SIGN = 2, LIMIT = 3, LEFT_OVER = 4, BAD_VERSION = 5, BAD_TYPE = 6, BAD_VALUE = 7, OUTPUT = 8, NO_COLUMN = 9, STALE = 10, PAST_END = 11, CARD_FORM = 12, STAGE = 13 };
 
 enum { MOST_MESSAGE = 4194304, MOST_BODY = 1048576, MOST_ROW = 2097152, MOST_COLUMNS = 64, MOST_ITEMS = 32767 };
 
 enum { FLAG_STATUS = 32, FLAG_EXCEPTION = 64, FLAG_APPLICATION = 128, OTHER_FLAGS = 31 };
+
+/* A shortcut card: how many bytes it has, and where its name stands in it. */
+enum { CARD = 36, CARD_NAME = 4 };
 
 /* An area: where its parts stand and how many bytes they have. */
 enum { HOLES_AT = 2, RINGS_AT = 3, AREA_HEAD = 7, RING_HEAD = 5, VERTEX = 24, RING_KEPT = 38, AREA_KEPT = 33, LEAST_VERTICES = 3 };

@@ -1,6 +1,6 @@
 /* The plain reader and writer over frames, to be held against the second reader: standard input is a row of frames (4 bytes
    of size, big-endian, then one byte of kind, 4, and a message). For each it prints the field list, or `refused NUMBER PLACE`,
-   and a line with a dot. It also asks for each cell, and writes each accepted message anew, and says where either differs.
+   and a line with a dot. It also asks for each cell and column, and writes each accepted message anew, and says where either differs.
    With kind 27, the wire type of a geography, it is an area: behind its field list stands what it is with its holes turned. */
 #include "plain_rules.h"
 #include <stdio.h>
@@ -20,6 +20,45 @@ static bool cells_agree(size_t size, size_t count) {
         if (plain_find_cell(message, size, e[3], e[4], e[5], &c).number != 0) return false;
         bool is_prefix = e[2] == 50;
         if (is_prefix ? c.offset != e[0] + 4 || c.null != (load32(message + e[0]) == UINT32_MAX) : c.offset != e[0] || c.size != e[1]) return false;
+    }
+    return true;
+}
+
+/* The first column of a table whose name is that of an entry, by the list. */
+static size_t first_named(const uint64_t *name, size_t count) {
+    size_t size = load32(message + name[0]);
+    for (const uint64_t *e = entries; e < entries + 6 * count; e += 6)
+        if (e[2] == 46 && e[3] == name[3] && load32(message + e[0]) == size && memcmp(message + e[0], message + name[0], 4 + size) == 0) return e[5];
+    return MOST_COLUMNS;
+}
+
+/* The card of a column, if its name is short enough, opens that column alone: not with another type, name or position. */
+static bool card_agrees(size_t size, const uint64_t *name, uint8_t type) {
+    uint8_t card[CARD] = {1, (uint8_t)name[5], type, (uint8_t)load32(message + name[0])};
+    size_t column = MOST_COLUMNS;
+    if (load32(message + name[0]) > CARD - CARD_NAME) return true;
+    memcpy(card + CARD_NAME, message + name[0] + 4, card[3]);
+    if (plain_open_card(message, size, name[3], card, CARD, &column).number != 0 || column != name[5]) return false;
+    if (plain_open_card(message, size, name[3], card, CARD - 1, &column).number != CARD_FORM) return false;
+    for (size_t k = 2; k < CARD_NAME + (size_t)card[3]; k++) {
+        if (k == 3) continue;
+        uint8_t is = card[k];
+        card[k] = k == 2 ? (is == PLAIN_FLOAT ? PLAIN_POINT : PLAIN_FLOAT) : is ^ 1;
+        if (plain_open_card(message, size, name[3], card, CARD, &column).number != STALE) return false;
+        card[k] = is;
+    }
+    card[1] = MOST_COLUMNS - 1;
+    return name[5] == MOST_COLUMNS - 1 || plain_open_card(message, size, name[3], card, CARD, &column).number == STALE || column == MOST_COLUMNS - 1;
+}
+
+/* The columns as the list has them. */
+static bool columns_agree(size_t size, size_t count) {
+    for (const uint64_t *e = entries, *type = entries; e < entries + 6 * count; e += 6) {
+        if (e[2] == 45 && e[5] == 0) type = e;
+        if (e[2] != 46) continue;
+        size_t column;
+        if (plain_find_column(message, size, e[3], message + e[0] + 4, load32(message + e[0]), &column).number != 0) return false;
+        if (column != first_named(e, count) || !card_agrees(size, e, message[type[0] + e[5]])) return false;
     }
     return true;
 }
@@ -120,6 +159,7 @@ static void one(size_t size) {
     plain_refusal no = plain_fields(message, size, 0, entries, MOST_NUMBERS, &count);
     if (!print_list(no, count)) return;
     if (!cells_agree(size, count)) printf("a cell differs from the list\n");
+    if (!columns_agree(size, count)) printf("a column differs from the list\n");
     if (!written_alike(size, count)) printf("written anew, the message differs\n");
 }
 

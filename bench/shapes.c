@@ -180,6 +180,33 @@ static size_t names(uint8_t *buffer, size_t size) {
     return (size_t)(p - buffer);
 }
 
+/* 64 columns of bigints and one row. Each name is a part that all share and the column's number, in one order or the other. */
+static size_t family(uint8_t *buffer, size_t size, bool number_first) {
+    static const uint8_t shared[] = "HARBOUR_ENGINE_LIMIT";
+    enum { SHARED = sizeof shared - 1, NUMBER = 2, NAME = SHARED + NUMBER };
+    uint8_t names[MOST_COLUMNS * NAME];
+    plain_column columns[MOST_COLUMNS];
+    plain_writer w;
+    for (size_t k = 0; k < MOST_COLUMNS; k++) {
+        uint8_t *name = names + k * NAME, *number = number_first ? name : name + SHARED;
+        memcpy(number_first ? name + NUMBER : name, shared, SHARED);
+        number[0] = (uint8_t)('0' + k / 10), number[1] = (uint8_t)('0' + k % 10);
+        columns[k].type = PLAIN_BIGINT, columns[k].name = k * NAME, columns[k].name_size = NAME;
+    }
+    begin(&w, buffer, size);
+    plain_open_table(&w, 0, columns, MOST_COLUMNS, names, sizeof names);
+    plain_open_row(&w);
+    for (size_t k = 0; k < MOST_COLUMNS; k++) plain_put_number(&w, PLAIN_BIGINT, k);
+    plain_close_row(&w);
+    plain_close_table(&w);
+    plain_finish(&w);
+    return w.at;
+}
+
+static size_t begin_alike(uint8_t *buffer, size_t size) { return family(buffer, size, false); }
+
+static size_t end_alike(uint8_t *buffer, size_t size) { return family(buffer, size, true); }
+
 const shape shapes[] = {
     {"bigints", "rows of 8 bigints", bigints},
     {"tinyints", "rows of one tinyint", tinyints},
@@ -197,6 +224,13 @@ const shape shapes[] = {
 };
 
 const size_t shape_count = sizeof shapes / sizeof *shapes;
+
+const shape column_shapes[] = {
+    {"begin alike", "64 columns, whose names have one length and share their first twenty letters", begin_alike},
+    {"end alike", "the same, but they share their last twenty letters", end_alike},
+};
+
+const size_t column_shape_count = sizeof column_shapes / sizeof *column_shapes;
 
 static void put_ring(plain_area_writer *w, size_t vertices, uint64_t *state) {
     plain_open_ring(w, (uint8_t)made_up(state));

@@ -1,4 +1,5 @@
-/* The messages that are measured, and the bodies of geographies: one maker for each shape, for any size. */
+/* The messages that are measured, and the bodies of geographies: one maker for each shape, for any size (those for
+   questions about columns have one of their own). */
 #pragma once
 #include <stddef.h>
 #include <stdint.h>
@@ -9,5 +10,5 @@ typedef struct {
     size_t (*make)(uint8_t *buffer, size_t size); /* at most `size` bytes; gives how many */
 } shape;
 
-extern const shape shapes[], area_shapes[];
-extern const size_t shape_count, area_shape_count;
+extern const shape shapes[], column_shapes[], area_shapes[];
+extern const size_t shape_count, column_shape_count, area_shape_count;
