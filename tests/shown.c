@@ -5,7 +5,7 @@
 #include <stdlib.h>
 #include <string.h>
 
-enum { MOST_FRAME = 1 << 16, MOST_NUMBERS = 17, MOST_ENTRIES = 1 << 16, NAME_LENGTH = 46, MARK = 85, SPARE = 4 };
+enum { MOST_FRAME = 1 << 23, MOST_NUMBERS = 17, MOST_ENTRIES = 1 << 16, NAME_LENGTH = 46, MARK = 85, SPARE = 4 };
 
 static uint8_t frame[MOST_FRAME], card[CHALOENPIK_CARD + SPARE];
 static const uint8_t *message = frame + 1;
@@ -58,8 +58,16 @@ static void open_card(size_t table) {
     if (!refused(answer)) printf("%lu\n", chaloenpik_value(answer));
 }
 
-/* The card of a name, made in too little room and then in enough; and the columns that it opens in its own table and in the next. */
+static void find(size_t table, const uint8_t *bytes, size_t size) {
+    uint64_t answer = chaloenpik_find_column(message, length, table, bytes, size);
+    if (!refused(answer)) printf("%lu\n", chaloenpik_value(answer));
+}
+
+/* The columns that have a name in its own table and in the next; its card, made in too little room and then in enough; and the columns that this opens in
+   both tables. */
 static void name(size_t table, const uint8_t *bytes, size_t size) {
+    find(table, bytes, size);
+    find(table + 1, bytes, size);
     memset(card, MARK, sizeof card);
     refused(chaloenpik_make_card(message, length, table, bytes, size, card, CHALOENPIK_CARD - 1));
     if (!all_marked(card, card + sizeof card)) printf("written on a refusal\n");

@@ -1,13 +1,14 @@
 #!/usr/bin/env python3
-"""Runs tests/shown.c, which asks the exported functions, and the second reader over the same messages: compare_shown.py N SEED
+"""Runs tests/shown.c, which asks the exported functions, and the second reader over the same messages, made-up ones and some with the longest
+names: compare_shown.py N SEED
 
 For each message lines of numbers, as include/chaloenpik.h orders them, and a dot:
 - its record, or its refusal;
 - of an invocation, each parameter and after it each element, one more than there are (and one of what is no array); a parameter more;
-- of a response, for each table: for each column the answer to making its card in 35 bytes; the card's column and bytes; the columns
-  that the card opens in that table and in the next. Then where each column's name stands, one more than there are; and each row's
-  cells, one more than there are, and a row more than there are, after each cell where its bytes stand;
-- of a refused invocation one parameter, of a refused response a name, a cell and its place, a card made and a card opened.
+- of a response, for each table: for each column the first of its name in that table and in the next; the answer to making its card in 35
+  bytes; the card's column and bytes; the columns that the card opens in both tables. Then where each column's name stands, one more than
+  there are; and each row's cells, one more than there are, and a row more than there are, after each cell where its bytes stand;
+- of a refused invocation one parameter, of a refused response a name, a cell and its place, a column found, a card made and a card opened.
 """
 
 import pathlib
@@ -15,6 +16,7 @@ import subprocess
 import sys
 from collections import Counter
 
+from encoder import encode
 from frames import frame
 from generate import messages
 from reader import Refused, read
@@ -24,14 +26,14 @@ ROOT = pathlib.Path(__file__).resolve().parents[2]
 RUN = [ROOT / "tools" / "c" / "kit", "run", ROOT / "target" / "tests" / "shown"]
 MOST_SIZE = 4096
 FIXED, BYTES, NONE, MANY = range(4)
-PAST_END, STALE = "refused 11 0", "refused 10 0"
+NO_COLUMN, STALE, PAST_END = "refused 9 0", "refused 10 0", "refused 11 0"
 CARD, MOST_NAME = 36, 32
 
 
 def main():
     count, seed = int(sys.argv[1]), int(sys.argv[2])
     print("compare_shown: %d messages, seed %d" % (count, seed), flush=True)
-    chosen = [(kind, m) for kind, m in messages(count, seed) if kind in KINDS and len(m) <= MOST_SIZE]
+    chosen = [(kind, m) for kind, m in messages(count, seed) if kind in KINDS and len(m) <= MOST_SIZE] + list(longest_names())
     data = b"".join(frame(kind, m) for kind, m in chosen)
     found = subprocess.run(RUN, input=data, stdout=subprocess.PIPE, check=True).stdout.decode().split(".\n")
     counts = Counter()
@@ -41,6 +43,8 @@ def main():
             return report(kind, message, expected, one.splitlines())
         counts["refused" if expected[0].startswith("refused") else "accepted"] += 1
         counts["lines"] += len(expected)
+        counts["no such column"] += expected.count(NO_COLUMN)
+        counts["stale card"] += expected.count(STALE)
     if len(found) != len(chosen) + 1:
         print("compare_shown: DIFFERENCE: %d answers to %d messages" % (len(found) - 1, len(chosen)))
         return 1
@@ -48,11 +52,20 @@ def main():
     return 0
 
 
+def longest_names():
+    """Replies whose names are as long as they can be, and differ in one byte: the first, one between, the last."""
+    name = b"N" * MOST_BODY
+    for at in (0, MOST_BODY // 2, MOST_BODY - 1):
+        names = [name[:at] + b"M" + name[at + 1:], name]
+        tables = [{"status": 0, "types": [BIGINT] * len(some), "names": some, "rows": []} for some in (names, names[1:])]
+        yield REPLY, encode(REPLY, {"version": 1, "client_data": bytes(8), "flags": 0, "status": 1, "application": -128, "round_trip": 0, "tables": tables})
+
+
 def shown(kind, message):
     try:
         record, fields = read(kind, message)
     except Refused as no:
-        return ["refused %d %d" % (no.number, no.place)] * {INVOCATION: 2, REPLY: 7}.get(kind, 1)
+        return ["refused %d %d" % (no.number, no.place)] * {INVOCATION: 2, REPLY: 9}.get(kind, 1)
     return Shown(message, record, fields).lines(kind)
 
 
@@ -100,7 +113,7 @@ class Shown:
                       len(it["tables"]), sum(self.fields[F_TABLES, 0, 0, 0]))]
         for t, table in enumerate(it["tables"]):
             for name in table["names"]:
-                lines += self.card(t, name)
+                lines += [self.found(t, name), self.found(t + 1, name), *self.card(t, name)]
             lines += [line(*self.part(F_COLUMN_NAME, t, 0, c)) for c in range(len(table["names"]))] + [PAST_END]
             for r, row in enumerate(table["rows"]):
                 for c, wire_type in enumerate(table["types"]):
@@ -108,6 +121,12 @@ class Shown:
                 lines += [PAST_END] * 2
             lines += [PAST_END] * 2 * (len(table["types"]) + 1)
         return lines + [PAST_END]
+
+    def found(self, t, name):
+        if t == len(self.record["tables"]):
+            return PAST_END
+        names = self.record["tables"][t]["names"]
+        return str(names.index(name)) if name in names else NO_COLUMN
 
     def card(self, t, name):
         table = self.record["tables"][t]

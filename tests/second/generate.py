@@ -3,7 +3,7 @@
     messages(count, seed)  ->  (kind, message) pairs, the same ones for the same seed
 
 Fields are chosen by their number first, so that rare fields are damaged as often as frequent ones. Points have more than their share: much
-is nearly null.
+is nearly null. Some names are nearly equal.
 """
 
 import math
@@ -60,7 +60,7 @@ class Maker:
             record["status"], record["application"], record["round_trip"] = self.integer(1), self.integer(1), self.integer(4)
             record["status_string"], record["application_string"] = self.body(), self.body()
             record["exception"] = self.text()
-            record["tables"] = [self.table() for _ in range(self.size(6))]
+            record["tables"] = self.tables()
         return record
 
     def parameter(self):
@@ -78,10 +78,42 @@ class Maker:
         rng = self.rng
         columns = rng.choice((0, 1, 1, 2, 2, 3, 3, 4, 5, 8, rng.randint(0, 64), rng.randint(0, 64), 64))
         types = [rng.choice(COLUMN_TYPES) for _ in range(columns)]
-        names = [bytes(rng.randrange(128) for _ in range(self.size(40))) for _ in range(columns)]
+        family = self.name() if rng.random() < 0.3 else None
+        names = [self.name() if family is None else self.nearly(family) for _ in range(columns)]
+        return self.filled(types, names)
+
+    def tables(self):
+        """Tables, some with the columns of the one before, but for one name or type."""
+        tables = []
+        for _ in range(self.size(6)):
+            twin = tables and self.rng.random() < 0.4
+            tables.append(self.twin(tables[-1]) if twin else self.table())
+        return tables
+
+    def twin(self, table):
+        types, names = list(table["types"]), list(table["names"])
+        if names:
+            at = self.rng.randrange(len(names))
+            names[at] = self.nearly(names[at])
+            if self.rng.random() < 0.2:
+                types[at] = self.rng.choice(COLUMN_TYPES)
+        return self.filled(types, names)
+
+    def filled(self, types, names):
+        columns = len(types)
         rows = self.size(400 if columns < 3 else 20 if columns < 12 else 4)
         return {"status": self.integer(1), "types": types, "names": names,
                 "rows": [[self.value(wire_type) for wire_type in types] for _ in range(rows)]}
+
+    def name(self):
+        return bytes(self.rng.randrange(128) for _ in range(self.size(40)))
+
+    def nearly(self, name):
+        """The name itself; or with one byte changed, put in or taken out: the first, the last or another."""
+        rng = self.rng
+        at = rng.choice((0, max(len(name) - 1, 0), rng.randint(0, len(name))))
+        other = bytes([rng.randrange(128)])
+        return rng.choice((name, name[:at] + other + name[at + 1:], name[:at] + other + name[at:], name[:at] + name[at + 1:]))
 
     def size(self, most):
         """A count: mostly small, now and then up to `most`."""
