@@ -866,6 +866,12 @@ class WithTheProvedLibrary(unittest.TestCase):
         running.send_signal(signal.SIGINT)
         self.assertEqual((running.communicate()[1], running.returncode), ("explain: stopped\n", 2))
 
+    def test_several_at_once(self):
+        """Each asks `rt`, whose verdicts stand in one place: none takes what another has only begun to write for its own."""
+        for words in (("4", str(SAMPLE)), ("4", str(AREAS), "--inside")):
+            together = [subprocess.Popen([str(ROOT / "explain"), *words], stdout=subprocess.DEVNULL, stderr=subprocess.PIPE, encoding="utf-8") for _ in range(4)]
+            self.assertEqual([(one.communicate()[1], one.returncode) for one in together], [("", 0)] * len(together))
+
     def test_a_message_of_4_megabytes(self):
         """The longest that there is, with the harbour's table; one byte more is too many."""
         table = dict(harbour.ENGINES, rows=[harbour.ENGINES["rows"][1]] * 53_000)

@@ -6,6 +6,7 @@ import shutil
 import subprocess
 import sys
 import tempfile
+import unicodedata
 import unittest
 
 sys.dont_write_bytecode = True
@@ -73,6 +74,12 @@ class Text(unittest.TestCase):
         self.assertIn("0 bytes, 0 fields up to the refusal", page_of(2, b"", [], refusal=(1, 0), words=("refused 1 at 0",)))
 
 
+def settled(words):
+    """Words with the characters escaped that are newer than Unicode 3.2: on which of them can be shown, Python and node needn't agree yet."""
+    old = unicodedata.ucd_3_2_0
+    return ["".join(c if old.category(c) != "Cn" else "\\u{%x}" % ord(c) for c in word) for word in words]
+
+
 @unittest.skipUnless(shutil.which("node"), "there is no node")
 class Told(unittest.TestCase):
     """The scripts tell every field as fields.py does."""
@@ -88,7 +95,7 @@ class Told(unittest.TestCase):
         for told, (_, message, entries) in zip(json.loads(done.stdout), cases):
             self.assertEqual([tuple(field[:6]) for field in told], entries)
             for ours, theirs, entry in zip(told, told_by_python(message, entries), entries):
-                self.assertEqual(tuple(ours[6:]), theirs, entry)
+                self.assertEqual(settled(ours[6:]), settled(theirs), entry)
 
     def test_samples(self):
         self.compare((kind, message, messages.listed(kind, message)) for message, kind in SAMPLES.items())

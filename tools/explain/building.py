@@ -1,6 +1,8 @@
 """The programs that list fields, proved and built. `rt` proves only what has changed, so it is asked each time: no answer comes from a program that is
 older than the crates. What the prover says goes to a log. Run by itself this makes target/bin/list."""
 
+import contextlib
+import fcntl
 import os
 import pathlib
 import platform
@@ -44,11 +46,11 @@ def c_program(name):
     made, source = PROGRAMS / name, SOURCES / (name + ".c")
     for crate in ("exports", "writeexports", "areaexports"):
         proved(crate)
-    if not fresh(ARCHIVE, ROOT / "crates", ROOT / "crates.txt"):
-        say("making the archive of the C interface, about a minute and a half")
-        logged("archive", ["tools/c/archive"])
-    if not fresh(made, ARCHIVE, source, ROOT / "include"):
-        logged(name, ["tools/c/kit", "build", str(made), str(source), str(ARCHIVE)])
+    with told_after("making the archive of the C interface, about a minute and a half"):
+        logged("archive", ["tools/c/archive"])  # makes it only if it has to
+    with alone("explain"):
+        if not fresh(made, ARCHIVE, source, ROOT / "include"):
+            logged(name, ["tools/c/kit", "build", str(made), str(source), str(ARCHIVE)])
     return made
 
 
@@ -63,12 +65,28 @@ def fresh(made, *sources):
 def proved(name):
     """Proves a crate and what it depends on, as far as it isn't, and says how far it is."""
     count = len(closure(name))
-    waiting = threading.Timer(SILENT, say, ["proving %s, %d crates: this takes minutes the first time; the prover's notes go to %s" % (name, count, log_of(name))])
+    with alone("rt"), told_after("proving %s, %d crates: this takes minutes the first time; the prover's notes go to %s" % (name, count, log_of(name))):
+        logged(name, ["rt", "check", name], Progress(count).line)
+
+
+@contextlib.contextmanager
+def told_after(text):
+    """Says what takes so long."""
+    waiting = threading.Timer(SILENT, say, [text])
     waiting.start()
     try:
-        logged(name, ["rt", "check", name], Progress(count).line)
+        yield
     finally:
         waiting.cancel()
+
+
+@contextlib.contextmanager
+def alone(name):
+    """While nobody else is at it here: who comes second waits. The lock of `rt` is that of tools/alone."""
+    LOGS.mkdir(parents=True, exist_ok=True)
+    with open(ROOT / "target" / (name + ".lock"), "w") as lock:
+        fcntl.flock(lock, fcntl.LOCK_EX)
+        yield
 
 
 class Progress:
