@@ -7,10 +7,10 @@ use mathlib.Core.Path.{_≡_, refl, sym, ap, _∙_, subst}
 use mathlib.Core.List.{List, [], _∷_}
 use lib.ListN.{length, drop, length-append}
 use Rattle.format.specs.declared.Fault.{Fault}
-use Rattle.format.specs.declared.Fault.the-variants.{Short, Negative, Limit, Extra, Version, WireType, Decimal, Point, Flags, Name, Geography, Output, NoColumn, Stale, PastEnd, CardForm, Stage}
 use Rattle.format.specs.declared.Answer.{Answer}
 use Rattle.format.specs.declared.Answer.the-variants.{Is, No}
-use Rattle.format.specs.Result.{Res, ok, no, numberOf, toldAnswer}
+use Rattle.format.proofs.Decides.{number-small}
+use Rattle.format.specs.Result.{Res, ok, no, toldAnswer}
 use Rattle.format.specs.Geography.{Polygon, polygon}
 use Rattle.format.proofs.Results.{no-ok}
 use Rattle.steps.specs.Writings.{overlaid}
@@ -33,25 +33,6 @@ use Rattle.areaexports.specs.Stored.{stageOf, stateOf, numbersOf, kept, 
 use Rattle.areaexports.specs.Calls.{Left, Chain, ChainTo, Calls, CallsTo}
 
 -- an answer's low 8 bits
-number-small : (f : Fault) → (0 < numberOf f) × (numberOf f < 256)
-number-small Short = omega arith
-number-small Negative = omega arith
-number-small Limit = omega arith
-number-small Extra = omega arith
-number-small Version = omega arith
-number-small WireType = omega arith
-number-small Decimal = omega arith
-number-small Point = omega arith
-number-small Flags = omega arith
-number-small Name = omega arith
-number-small Geography = omega arith
-number-small Output = omega arith
-number-small NoColumn = omega arith
-number-small Stale = omega arith
-number-small PastEnd = omega arith
-number-small CardForm = omega arith
-number-small Stage = omega arith
-
 refused-not : (f : Fault) (p : ℕ) → packedNo f p % 2 ^ 8 ≡ 0 → ⊥
 refused-not f p e = let s = number-small f in omega (arith, s .0, s .1)
 

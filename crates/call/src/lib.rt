@@ -184,7 +184,7 @@ pub fn bytes_param(out: &mut [u8], st: State, s: &[u8]) -> Outcome
     let at = st.position;
     let size = out.len();
     let permitted = write::at_call(st, size);
-    let fault = write::text_fault(at, s);
+    let fault = write::bytes_fault(at, s);
     let more = write::one_more(st.count, write::MOST_ITEMS);
     let bytes = 2 + put::text_size(false, s);
     let a = write::judge(permitted, fault, more, at, bytes, size);

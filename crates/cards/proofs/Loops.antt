@@ -10,7 +10,7 @@ use native.Mathlib.Nat.{zero-add}
 use native.Mathlib.Numerals.{add-one}
 use native.Mathlib.Omega.{arith}
 use Rattle.format.specs.Result.{pick}
-use Rattle.scan.specs.declared.Found.{Found}
+use Rattle.text.specs.declared.Found.{Found}
 use Rattle.query.specs.Answers.{same}
 use Rattle.query.proofs.Ends.{EqualFrom, equal-from-end}
 use Rattle.query.proofs.Names.{same-yes, same-no}

@@ -3,7 +3,7 @@ use Prim.Native.Nat.{ℕ}
 use mathlib.Core.Option.{Option, some, none}
 use lib.ListN.{length}
 use Rattle.format.specs.Result.{Res, ok, no}
-use Rattle.scan.specs.declared.Found.{Found}
+use Rattle.text.specs.declared.Found.{Found}
 use Rattle.scan.specs.Shown.{refusal}
 use Rattle.cards.specs.declared.Form.{Form}
 use Rattle.cards.specs.Card.{Card}

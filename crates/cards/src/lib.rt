@@ -7,7 +7,7 @@ use message::Verdict;
 use query::ColumnLayout;
 use query::Named;
 use query::Placed;
-use scan::Found;
+use text::Found;
 ghost use mathlib.Core.Path.{_≡_};
 ghost use mathlib.Core.Bool.{_&&_};
 ghost use mathlib.Core.List.{_++_};

@@ -1,6 +1,5 @@
--- The proofs. What a name's fault is (Names); what is written of columns (Metadata); what is put apart (Apart); what a survey finds
+-- The proofs. What is written of columns (Metadata); what is put apart (Apart); what a survey finds
 -- (Surveys); what is written around them (Heads); what the walk that writes them leaves (Pages); and that both are the step of the definition (Opens).
-pub mod Names
 pub mod Metadata
 pub mod Apart
 pub mod Surveys

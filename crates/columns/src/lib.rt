@@ -4,6 +4,7 @@ use format::Answer;
 use format::Fault;
 use format::Refusal;
 use steps::Stage;
+use text::Found;
 use write::COLUMNS;
 use write::Check;
 use write::Outcome;
@@ -245,16 +246,12 @@ fn stands(start: usize, size: usize, length: usize) -> bool
 fn ascii_fault(at: usize, name: &[u8]) -> Check
     ensures { λ r. ⌜ verdictOf r ≡ placed at (ascii (now (name .entry))) ⌝ }
 {
-    let mut i = 0;
-    while i < name.len() {
-        if format::HIGHEST_IN_NAME < name[i] {
-            return Check::Bad(Refusal {
-                fault: Fault::Name,
-                place: at,
-            });
-        }
-        i += 1;
-    }
+    let Found::Nothing = text::high_byte(name) else {
+        return Check::Bad(Refusal {
+            fault: Fault::Name,
+            place: at,
+        });
+    };
     Check::Fine
 }
 

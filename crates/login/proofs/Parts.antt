@@ -14,7 +14,8 @@ use Rattle.format.specs.declared.Refusal.{Refusal}
 use Rattle.format.specs.Result.{Res, ok, no, pick}
 use Rattle.format.specs.Number.{numBytes}
 use Rattle.format.specs.Format.{Verdict, fine, bad, number, block, ruled, into, both, nothing, present, counted}
-use Rattle.format.specs.Value.{textRule, mostBytes}
+use Rattle.format.specs.Text.{utf8}
+use Rattle.format.specs.Value.{mostBytes}
 use Rattle.format.specs.Message.{edition, hashSize, server, noServer, loginRequest as requestFormat, loginResponse as responseFormat, aLoginRequest, aLoginResponse, contentOf, message, messageBytes}
 use Rattle.format.proofs.Numbers.{length-numBytes}
 use Rattle.put.specs.Put.{put, sized}
@@ -31,6 +32,7 @@ use Rattle.steps.specs.Arguments.{textFault}
 use Rattle.steps.specs.Steps.{answerAt, says}
 use Rattle.steps.specs.Logins.{hashFault, writtenRequest, writtenResponse, Welcome, requestFault, responseFault, loginPlan}
 use Rattle.steps.proofs.Back.{also-fine, test-fine}
+use Rattle.write.proofs.Bytes.{text-few}
 use Rattle.write.proofs.Taken.{taken as accepts}
 use Rattle.login.specs.Parts.{hashPart, serverOf}
 
@@ -108,16 +110,13 @@ hash-at-most true h = go (eqb h 1)
     go false = omega arith
 hash-at-most false h = omega arith
 
-text-limit : (p : ℕ) (bs : List ℕ) → textFault textRule p bs ≡ fine → length bs ≤ mostBytes
-text-limit p bs e = leb-true (length bs) mostBytes (test-fine (leb (length bs) mostBytes) _ p (also-fine (test (leb (length bs) mostBytes) _ p) fine e .0))
-
 pub request-limits : (version hashing : ℕ) (service user hash : List ℕ) → requestFault version hashing service user hash ≡ fine → (length service ≤ mostBytes) × (length user ≤ mostBytes) × (length hash ≤ 32)
 unfolding requestFault
 request-limits version hashing service user hash e =
     let n = hashSize (pick (eqb version 1) (some hashing) none) in
     let f₁ = pick (eqb version 1) (test (leb hashing 1) Version 0) fine in
-    let f₂ = textFault textRule 0 service in
-    let f₃ = textFault textRule 0 user in
+    let f₂ = textFault utf8 0 service in
+    let f₃ = textFault utf8 0 user in
     let z₀ = also-fine (test (leb version 1) Version 0) (also f₁ (also f₂ (also f₃ (hashFault n hash)))) e in
     let z₁ = also-fine f₁ (also f₂ (also f₃ (hashFault n hash))) (z₀ .1) in
     let z₂ = also-fine f₂ (also f₃ (hashFault n hash)) (z₁ .1) in
@@ -125,7 +124,7 @@ request-limits version hashing service user hash e =
     let z₄ = also-fine (test (leb n (length hash)) _ 0) (test (leb (length hash) n) _ 0) (z₃ .1) in
     let h : length hash ≤ n = leb-true (length hash) n (test-fine (leb (length hash) n) _ 0 (z₄ .1)) in
     let most : n ≤ 32 = hash-at-most (eqb version 1) hashing in
-    (text-limit 0 service (z₂ .0), text-limit 0 user (z₃ .0), le-trans h most)
+    (text-few utf8 0 service (z₂ .0), text-few utf8 0 user (z₃ .0), le-trans h most)
 
 -- a response
 pub server-length : (w : Welcome) → length (server .bytes (serverOf w)) ≡ 28 + length (w .build)
@@ -211,7 +210,7 @@ pub response-fault-none : (version result : ℕ) (w : Welcome) → (result ≡ 0
 unfolding responseFault
 response-fault-none version result w n = rw (ne-eqb result 0 n) (also-none (test (leb version 1) Version 0))
 
-pub response-fault-some : (version result : ℕ) (w : Welcome) → result ≡ 0 → responseFault version result w ≡ also (test (leb version 1) Version 0) (textFault textRule 0 (w .build))
+pub response-fault-some : (version result : ℕ) (w : Welcome) → result ≡ 0 → responseFault version result w ≡ also (test (leb version 1) Version 0) (textFault utf8 0 (w .build))
 unfolding responseFault
 response-fault-some version result w e = rw (eq-eqb result 0 e)
 
@@ -223,7 +222,7 @@ unfolding responseFault
 same-answer version result size w u e =
     let l : length (messageBytes 2 (says version (aLoginResponse (writtenResponse result w)))) ≡ length (messageBytes 2 (says version (aLoginResponse (writtenResponse result u)))) =
     response-length version result w ∙ ap (λ (x : List ℕ). 6 + pick (eqb result 0) (28 + length x) 0) e ∙ sym (response-length version result u) in
-    ap₂ (λ (x : List ℕ) (n : ℕ). answerAt true (also (test (leb version 1) Version 0) (pick (eqb result 0) (textFault textRule 0 x) fine)) true 0 n size) e l
+    ap₂ (λ (x : List ℕ) (n : ℕ). answerAt true (also (test (leb version 1) Version 0) (pick (eqb result 0) (textFault utf8 0 x) fine)) true 0 n size) e l
 
 -- how long a response is, by its result
 pub response-length-none : (version result : ℕ) (w : Welcome) → (result ≡ 0 → ⊥) → length (messageBytes 2 (says version (aLoginResponse (writtenResponse result w)))) ≡ 6

@@ -4,7 +4,7 @@ use mathlib.Core.Path.{_≡_, refl, sym, _∙_, ap}
 use mathlib.Core.Bool.{Bool, true, false}
 use mathlib.Core.List.{List}
 use mathlib.Core.Option.{Option, none}
-use Rattle.format.specs.Format.{Format, number, block, ruled, nothing, present, into, both, counted}
+use Rattle.format.specs.Format.{Format, Verdict, number, block, ruled, nothing, present, into, both, counted}
 use Rattle.format.specs.Value.{string, anything}
 use Rattle.format.specs.Message.{Table, Note, response, head, noted, trip, appStated, tripped, afterFlags, flagByte, list, first, table, mostItems, binary}
 use Rattle.scan.specs.declared.Next.{Next}
@@ -13,21 +13,21 @@ use Rattle.scan.proofs.Steps.{into-ends, both-ends, goes-on, halts}
 use Rattle.message.proofs.Runs.{present-ends}
 
 -- a string that is there or not ends where it does, whatever the numbers of its fields; so does a number with such a string
-module _ (l b : ℕ) (nullable : Bool) (s : List ℕ) where
-  pub note-fields : (there : Bool) (at : ℕ) → present there none (string nullable anything l b) .read s at ≡ present there none (string nullable anything 0 0) .read s at
+module _ (l b : ℕ) (nullable : Bool) (rule : List ℕ → Verdict) (s : List ℕ) where
+  note-fields : (there : Bool) (at : ℕ) → present there none (string nullable rule l b) .read s at ≡ present there none (string nullable rule 0 0) .read s at
   unfolding present counted into nothing number
   note-fields true at = refl
   note-fields false at = refl
 
-  pub noted-fields : (width n : ℕ) (there : Bool) (at : ℕ)
-      → noted (number width n) there none (string nullable anything l b) .read s at ≡ noted (number width 0) there none (string nullable anything 0 0) .read s at
+  noted-fields : (width n : ℕ) (there : Bool) (at : ℕ)
+      → noted (number width n) there none (string nullable rule l b) .read s at ≡ noted (number width 0) there none (string nullable rule 0 0) .read s at
   unfolding both number
   noted-fields width n there at = simp (note-fields there)
 
 -- what reads a noted number answers by a test that is the flag's
-module _ (l b : ℕ) (nullable : Bool) (s : List ℕ) (at width n : ℕ) {t there : Bool} (same : t ≡ there) {a : Next} (e : a ≡ shownNext (noted (number width 0) t none (string nullable anything 0 0) .read s at)) where
-  pub noted-shows : a ≡ shownNext (noted (number width n) there none (string nullable anything l b) .read s at)
-  noted-shows = rw same at e ∙ sym (ap shownNext (noted-fields l b nullable s width n there at))
+module _ (l b : ℕ) (nullable : Bool) (rule : List ℕ → Verdict) (s : List ℕ) (at width n : ℕ) {t there : Bool} (same : t ≡ there) {a : Next} (e : a ≡ shownNext (noted (number width 0) t none (string nullable rule 0 0) .read s at)) where
+  pub noted-shows : a ≡ shownNext (noted (number width n) there none (string nullable rule l b) .read s at)
+  noted-shows = rw same at e ∙ sym (ap shownNext (noted-fields l b nullable rule s width n there at))
 
 -- what follows two formats that end alike ends alike
 module _ {A B C : Type 0} (f : Format A) (g : Format B) (h : Format C) (s : List ℕ) (at : ℕ) where
@@ -40,14 +40,14 @@ module _ {A B C : Type 0} (f : Format A) (g : Format B) (h : Format C) (s : List
 
 -- a round trip that is there, and one that is not, with the exception after it
 module _ (s : List ℕ) (at : ℕ) (there : Bool) where
-  pub timed-ends : (timed : Bool) → timed ≡ true → shownNext (noted (trip timed) there none (binary 38 39) .read s at) ≡ shownNext (noted (number 4 0) there none (string false anything 0 0) .read s at)
+  pub timed-ends : (timed : Bool) → timed ≡ true → shownNext (noted (trip timed) there none (binary 38 39) .read s at) ≡ shownNext (noted (number 4 0) there none (binary 0 0) .read s at)
   timed-ends timed is =
       both-alike (trip timed) (number 4 37) (present there none (binary 38 39)) s at (present-ends 0 (number 4 37) s at timed is)
-      ∙ ap shownNext (noted-fields 38 39 false s 4 37 there at)
+      ∙ ap shownNext (noted-fields 38 39 false anything s 4 37 there at)
 
-  pub untimed-ends : (timed : Bool) → timed ≡ false → shownNext (noted (trip timed) there none (binary 38 39) .read s at) ≡ shownNext (present there none (string false anything 0 0) .read s at)
+  pub untimed-ends : (timed : Bool) → timed ≡ false → shownNext (noted (trip timed) there none (binary 38 39) .read s at) ≡ shownNext (present there none (binary 0 0) .read s at)
   unfolding present nothing
-  untimed-ends timed is = rw is (both-ends (nothing none) (λ v. present there none (binary 38 39)) s at refl) ∙ ap shownNext (note-fields 38 39 false s there at)
+  untimed-ends timed is = rw is (both-ends (nothing none) (λ v. present there none (binary 38 39)) s at refl) ∙ ap shownNext (note-fields 38 39 false anything s there at)
 
 -- a head, after its client data, and after its status
 abbrev pub head-1 : Bool → Format (ℕ × ((ℕ × Note) × ((ℕ × Note) × (Option ℕ × Note))))

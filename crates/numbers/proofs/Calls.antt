@@ -10,10 +10,10 @@ use lib.ListN.{length, getD, length-append}
 use lib.Dec.{ltb}
 use borrow.Author.Tests.{lt-ltb, ltb-true}
 use Rattle.format.specs.declared.Fault.{Fault}
-use Rattle.format.specs.declared.Fault.the-variants.{Short, Negative, Limit, Extra, Version, WireType, Decimal, Point, Flags, Name, Geography, Output, NoColumn, Stale, PastEnd, CardForm, Stage as WrongStage}
 use Rattle.format.specs.declared.Answer.{Answer}
 use Rattle.format.specs.declared.Answer.the-variants.{Is, No}
-use Rattle.format.specs.Result.{Res, ok, no, pick, numberOf, toldAnswer}
+use Rattle.format.proofs.Decides.{number-small}
+use Rattle.format.specs.Result.{Res, ok, no, pick, toldAnswer}
 use Rattle.format.specs.Value.{isColumn}
 use Rattle.format.specs.Message.{Message, message, messageBytes, isKind, GoodMessage, mostColumns}
 use Rattle.format.proofs.Results.{no-ok, and-true-both}
@@ -43,25 +43,6 @@ use Rattle.numbers.specs.Calls.{Left, Meets, Begun, Chain, ChainTo, Call
 use Rattle.numbers.proofs.Kept.{answer-packed, told-shown}
 
 -- an answer's low 8 bits
-number-small : (f : Fault) → (0 < numberOf f) × (numberOf f < 256)
-number-small Short = omega arith
-number-small Negative = omega arith
-number-small Limit = omega arith
-number-small Extra = omega arith
-number-small Version = omega arith
-number-small WireType = omega arith
-number-small Decimal = omega arith
-number-small Point = omega arith
-number-small Flags = omega arith
-number-small Name = omega arith
-number-small Geography = omega arith
-number-small Output = omega arith
-number-small NoColumn = omega arith
-number-small Stale = omega arith
-number-small PastEnd = omega arith
-number-small CardForm = omega arith
-number-small WrongStage = omega arith
-
 above-accepted : (n : ℕ) → above n % 2 ^ 8 ≡ 0
 above-accepted n = omega arith
 

@@ -1,5 +1,5 @@
 -- Readings that are plainly fine: a number that fits, a counted body or a null, and a number of 16 bytes that passes its rule.
-use Prim.Native.Nat.{ℕ, _+_, _*_, _^_, _<_, _≤_}
+use Prim.Native.Nat.{ℕ, _+_, _*_, _-_, _^_, _<_, _≤_}
 use mathlib.Core.Path.{_≡_, refl, sym, _∙_, ap}
 use mathlib.Core.Bool.{Bool, true, false}
 use mathlib.Core.List.{List}
@@ -13,6 +13,10 @@ use Rattle.format.specs.Result.{Res, ok, no, pick}
 use Rattle.format.specs.Number.{numAt, null4}
 use Rattle.format.specs.Format.{number, ruled, counted, Verdict, fine, judged}
 use Rattle.format.specs.Value.{mostBytes, notEmpty, anything, string, value, widthOf}
+use Rattle.format.specs.Text.{utf8From, utf8}
+use Rattle.text.specs.declared.Found.{Found}
+use Rattle.text.specs.Shown.{shownAt}
+use Rattle.text.proofs.Finds.{finds-texts}
 use Rattle.scan.specs.declared.Next.{Next}
 use Rattle.scan.specs.Shown.{shownNext}
 use Rattle.scan.proofs.Counted.{null-body, whole, some-fine}
@@ -59,6 +63,13 @@ module _ (s : List ℕ) (at : ℕ) where
 
   pub string-past : (r : ℕ) → PastBody s at r → Past s at (string true anything 0 0 .read s at) r
   string-past r is = body-past anything r is (λ h e. refl)
+
+  -- a text whose bytes were looked at and none of which tears it
+  pub text-past : (r : ℕ) → PastBody s at r → at + 4 ≤ r → {found : Found} → found ≡ shownAt (utf8From 0 0 (take (r - (at + 4)) (drop (at + 4) s))) → found ≡ Found.Nothing
+      → Past s at (string true utf8 0 0 .read s at) r
+  text-past r is after {found} e none = body-past utf8 r is (λ h place.
+      let size : r - (at + 4) ≡ numAt 4 s at = omega arith in
+      finds-texts .passes (take (numAt 4 s at) (drop (at + 4) s)) (sym (ap (λ (n : ℕ). shownAt (utf8From 0 0 (take n (drop (at + 4) s)))) size) ∙ sym e ∙ none))
 
   pub geography-past : (r : ℕ) → 0 < numAt 4 s at → PastBody s at r → Past s at (string true notEmpty 0 0 .read s at) r
   geography-past r filled is = body-past notEmpty r is (λ h e.

@@ -2,6 +2,7 @@
 // alone, and a cell's room by where the row's last cell ends. Each helper answers a place, or 0 where it isn't sure; then scan is
 // asked, which says what is refused and where.
 use scan::Next;
+use text::Found;
 ghost use mathlib.Core.Path.{_≡_};
 ghost use Prim.Native.Nat.{_+_, _<_, _≤_};
 ghost use lib.ListN.{length, replicate};
@@ -10,6 +11,7 @@ ghost use mathlib.Core.List.{map};
 ghost use Rattle.format.specs.declared.Fault.the-variants.{Decimal, Point};
 ghost use Rattle.format.specs.Number.{numAt};
 ghost use Rattle.format.specs.Format.{each, number, ruled};
+ghost use Rattle.format.specs.Text.{utf8};
 ghost use Rattle.format.specs.Value.{value, string, notEmpty, decimalFine, pointFine};
 ghost use Rattle.format.specs.Message.{second, third, row, mostColumns};
 ghost use Rattle.scan.specs.Shown.{shownNext};
@@ -54,6 +56,24 @@ fn past_body(s: &[u8], at: usize) -> usize
         return 0;
     }
     at + 4 + n as usize
+}
+
+// Past a text or a null.
+fn past_text(s: &[u8], at: usize) -> usize
+    requires { ⌜ Low at ⌝ }
+    ensures { λ r. ⌜ Past (now (s .entry)) at (string true utf8 0 0 .read (now (s .entry)) at) r ⌝ }
+{
+    let end = past_body(s, at);
+    if end < at + 4 {
+        return 0;
+    }
+    if s.len() < end {
+        return 0;
+    }
+    let Found::Nothing = text::torn(&s[at + 4..end]) else {
+        return 0;
+    };
+    end
 }
 
 // Past a geography, which isn't empty.
@@ -141,7 +161,8 @@ fn past_value(s: &[u8], at: usize, t: u8) -> usize
         format::SMALLINT => at + 2,
         format::INTEGER => at + 4,
         format::BIGINT | format::FLOAT | format::TIMESTAMP => at + 8,
-        format::STRING | format::VARBINARY => past_body(s, at),
+        format::STRING => past_text(s, at),
+        format::VARBINARY => past_body(s, at),
         format::GEOGRAPHY => past_geography(s, at),
         format::DECIMAL => past_decimal(s, at),
         format::POINT => past_point(s, at),

@@ -9,6 +9,7 @@ use lib.Dec.{eqb}
 use Rattle.format.specs.Result.{ok}
 use Rattle.format.specs.Number.{Bytes, numBytes}
 use Rattle.format.specs.Format.{number, block, both, present, nothing}
+use Rattle.format.specs.Text.{utf8}
 use Rattle.format.specs.Message as wire
 use Rattle.format.specs.Message.{Message, Server, contentOf, readMessage, loginRequest, loginResponse, server, noServer, invocation, responseLayout, text, edition}
 use Rattle.format.proofs.Numbers.{numBytes-numAt}
@@ -45,8 +46,8 @@ module _ (m : List ℕ) where
       let q = both-parts m (present (eqb v 1) 0 (edition 3)) Rest 5 (p .0) end (p .1) in
       let at = afterNumber 1 5 h in
       let rest = ap (λ (n : ℕ). Rest h .read m n) (sym (byte-ends (eqb v 1) h (q .0) (q .1))) ∙ q .2 in
-      let q₁ = text-both m at false 4 5 (λ s. both (text 6 7) (λ u. block (wire.hashSize h) 8)) a end rest in
-      let q₂ = text-both m (afterText at (a .0)) false 6 7 (λ u. block (wire.hashSize h) 8) (a .1) end (q₁ .1) in
+      let q₁ = text-both m at false utf8 4 5 (λ s. both (text 6 7) (λ u. block (wire.hashSize h) 8)) a end rest in
+      let q₂ = text-both m (afterText at (a .0)) false utf8 6 7 (λ u. block (wire.hashSize h) 8) (a .1) end (q₁ .1) in
       let q₃ = block-held m (afterText (afterText at (a .0)) (a .1 .0)) (wire.hashSize h) 8 (a .1 .1) end (q₂ .1) in
       subst (LoginRequestHeld m v) (p .2) (q₁ .2, q₂ .2, q₃)
 
@@ -74,7 +75,7 @@ module _ (m : List ℕ) (bytes : Bytes m) where
       let t = took 4 14 m 26 (a .1 .1 .1 .0) (q₄ .0) (q₄ .1) in
       let leader : take 4 (drop 26 m) ≡ numBytes 4 (a .1 .1 .1 .0) = sym (ap (numBytes 4) (t .value) ∙ numBytes-numAt 4 m bytes 26 (t .fit)) in
       let build = ap (λ (n : ℕ). text 15 16 .read m n) (sym (t .place)) ∙ q₄ .2 in
-      subst (λ (y : Server). ServerHeld m v r (some y)) (p .2) (leader, text-held m 30 false 15 16 (a .1 .1 .1 .1) end build)
+      subst (λ (y : Server). ServerHeld m v r (some y)) (p .2) (leader, text-held m 30 false utf8 15 16 (a .1 .1 .1 .1) end build)
 
   result-held : (t : Bool) (v r : ℕ) (o : Option Server) (end : ℕ) → present t noServer server .read m 6 ≡ ok (o, end) → ServerHeld m v r o
   unfolding present nothing
@@ -111,7 +112,7 @@ module _ (m : List ℕ) where
   call-held v l end e =
       let p = into-parts m _ _ (both (text 20 21) call-1) 5 l end e in
       let a = p .0 in
-      let q₁ = text-both m 5 false 20 21 call-1 a end (p .1) in
+      let q₁ = text-both m 5 false utf8 20 21 call-1 a end (p .1) in
       let q₂ = block-both m (afterText 5 (a .0)) 22 (λ c. call-2) (a .1) end (q₁ .1) in
       subst (InvocationHeld m v) (p .2) (q₁ .2, q₂ .2)
 

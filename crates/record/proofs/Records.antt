@@ -12,6 +12,7 @@ use Rattle.format.specs.declared.Fault.the-variants.{Flags}
 use Rattle.format.specs.declared.Refusal.{Refusal}
 use Rattle.format.specs.Result.{Res, ok}
 use Rattle.format.specs.Format.{Format, number, block, both, present, nothing}
+use Rattle.format.specs.Text.{utf8}
 use Rattle.format.specs.Message as wire
 use Rattle.format.specs.Message.{Message, Server, contentOf, readMessage, loginRequest, loginResponse, server, noServer, invocation, responseLayout, response, head, appStated, tripped, flagByte, afterFlags, text, edition, flagged, mostItems, first, param, table}
 use Rattle.format.proofs.Results.{ok-same}
@@ -72,8 +73,8 @@ module _ (m : List ℕ) (v : ℕ) (version : numberAt m 4 1 ≡ record { n = v; 
         hash = Span.At (afterText (afterText at (a .0)) (a .1 .0)) (length (a .1 .1));
       }
   login-rest at e h a end read =
-      let q₁ = text-both m at false 4 5 (λ s. both (text 6 7) (λ u. block (wire.hashSize h) 8)) a end read in
-      let q₂ = text-both m (afterText at (a .0)) false 6 7 (λ u. block (wire.hashSize h) 8) (a .1) end (q₁ .1) in
+      let q₁ = text-both m at false utf8 4 5 (λ s. both (text 6 7) (λ u. block (wire.hashSize h) 8)) a end read in
+      let q₂ = text-both m (afterText at (a .0)) false utf8 6 7 (λ u. block (wire.hashSize h) 8) (a .1) end (q₁ .1) in
       login-put at (wire.hashSize h) e (a .0) (a .1 .0) (a .1 .1) (q₁ .0) (q₂ .0) (block-size m _ (wire.hashSize h) 8 (a .1 .1) end (q₂ .1))
 
   abbrev put : Option (List ℕ) × (Option (List ℕ) × List ℕ) → Option ℕ → LoginRequestRecord
@@ -120,7 +121,7 @@ module _ (m : List ℕ) (v : ℕ) (version : numberAt m 4 1 ≡ record { n = v; 
       let q₂ = number-both m 10 8 12 (λ b. both (number 8 13) (λ c. both (number 4 14) (λ d. text 15 16))) (a .1) end (q₁ .1) in
       let q₃ = number-both m 18 8 13 (λ c. both (number 4 14) (λ d. text 15 16)) (a .1 .1) end (q₂ .1) in
       let q₄ = number-both m 26 4 14 (λ d. text 15 16) (a .1 .1 .1) end (q₃ .1) in
-      let q₅ = text-says m 30 false 15 16 (a .1 .1 .1 .1) end (q₄ .1) in
+      let q₅ = text-says m 30 false utf8 15 16 (a .1 .1 .1 .1) end (q₄ .1) in
       rw (q₁ .0, q₂ .0, q₃ .0, q₄ .0, q₅ .0) (ap (λ (y : Server). loginResponseOf v r (some y)) (p .2))
 
   by-result : (t : Bool) (r : ℕ) → numberAt m 5 1 ≡ record { n = r; next = 6 } → eqb r 0 ≡ t → (o : Option Server) (end : ℕ) → present t noServer server .read m 6 ≡ ok (o, end) → loginResponseAt m ≡ loginResponseOf v r o
@@ -152,7 +153,7 @@ unfolding invocation
 call-says m v version l end e =
     let p = into-parts m _ _ (both (text 20 21) call-1) 5 l end e in
     let a = p .0 in
-    let q₁ = text-both m 5 false 20 21 call-1 a end (p .1) in
+    let q₁ = text-both m 5 false utf8 20 21 call-1 a end (p .1) in
     let q₂ = block-both m (afterText 5 (a .0)) 22 (λ c. call-2) (a .1) end (q₁ .1) in
     let q₃ = list-says m (afterText 5 (a .0) + 8) mostItems 23 first param (a .1 .1) end (q₂ .1) in
     let far : afterText 5 (a .0) + 8 + 2 ≡ afterText 5 (a .0) + 10 = omega arith in
@@ -199,9 +200,9 @@ module _ (timed : Bool) (m : List ℕ) where
       let c = block-both m 5 22 (λ c. both (flagByte 30) (afterFlags timed)) a (q .0) (w .1) in
       let f = ruled-both m 13 (λ n. eqb (n % 32) 0) Flags 1 30 (afterFlags timed) (a .1) (q .0) (c .1) in
       let flags = a .1 .0 in
-      let s = noted-both m 14 1 31 (flagged 32 flags) true 32 33 (λ s. both (appStated flags) (λ a. tripped timed flags)) (a .1 .1) (q .0) (f .1) in
+      let s = noted-both m 14 1 31 (flagged 32 flags) true utf8 32 33 (λ s. both (appStated flags) (λ a. tripped timed flags)) (a .1 .1) (q .0) (f .1) in
       let app = afterNote 15 (a .1 .1 .0 .1) in
-      let b = noted-both m app 1 34 (flagged 128 flags) true 35 36 (λ a. tripped timed flags) (a .1 .1 .1) (q .0) (s .1) in
+      let b = noted-both m app 1 34 (flagged 128 flags) true utf8 35 36 (λ a. tripped timed flags) (a .1 .1 .1) (q .0) (s .1) in
       let trip = afterNote (app + 1) (a .1 .1 .1 .0 .1) in
       let r = trip-says m trip timed (flagged 64 flags) (a .1 .1 .1 .1) (q .0) (b .1) in
       let n = list-says m (q .0) mostItems 40 first table (p .0 .1) end (q .2) in

@@ -11,10 +11,11 @@ use Rattle.format.specs.declared.Fault.{Fault}
 use Rattle.format.specs.declared.Fault.the-variants.{Short}
 use Rattle.format.specs.Result.{ok, no, pick}
 use Rattle.format.specs.Number.{numAt}
-use Rattle.format.specs.Format.{Format, Index, number, block, ruled, both, present, nothing, each, counted}
-use Rattle.format.specs.Value.{string, anything}
+use Rattle.format.specs.Format.{Format, Index, Verdict, number, block, ruled, both, present, nothing, each, counted}
+use Rattle.format.specs.Value.{string, anything, mostBytes}
 use Rattle.format.specs.Message.{Message, contentOf, readMessage, list, binary, noted, trip}
 use Rattle.format.proofs.Results.{passed, ok-same}
+use Rattle.format.proofs.Texts.{counted-unruled}
 use Rattle.scan.proofs.Answers.{took}
 use Rattle.places.specs.Places.{afterText, afterNote, afterNumber, tripSize}
 use Rattle.places.proofs.Readings.{both-parts, into-parts, ruled-part, each-length, block-held, text-ends}
@@ -40,31 +41,32 @@ module _ (s : List ℕ) (at : ℕ) where
       let far : at + 8 ≡ next = ap (λ (w : List ℕ × ℕ). w .1) (ok-same (passed (leb (at + 8) (length s)) _ _ e .1)) in
       (ap (blockIn at) (e ∙ ap (λ (m : ℕ). ok (bs, m)) (sym far)), sym far)
 
-  pub text-says : (nullable : Bool) (l b : ℕ) (o : Option (List ℕ)) (next : ℕ) → string nullable anything l b .read s at ≡ ok (o, next)
+  pub text-says : (nullable : Bool) (rule : List ℕ → Verdict) (l b : ℕ) (o : Option (List ℕ)) (next : ℕ) → string nullable rule l b .read s at ≡ ok (o, next)
       → (textAt s at nullable ≡ spot (spanOf at o) (afterText at o)) × (next ≡ afterText at o)
-  unfolding textAt counted number
-  text-says nullable l b o next e =
-      let far = text-ends s at nullable l b o next e in
-      (ap (spotIn at) (e ∙ ap (λ (m : ℕ). ok (o, m)) far), far)
+  unfolding textAt
+  text-says nullable rule l b o next e =
+      let plain = counted-unruled nullable mostBytes rule l b 0 0 s at (o, next) e in
+      let far = text-ends s at nullable 0 0 o next plain in
+      (ap (spotIn at) (plain ∙ ap (λ (m : ℕ). ok (o, m)) far), far)
 
-  pub note-says : (there nullable : Bool) (l b : ℕ) (o : Option (Option (List ℕ))) (next : ℕ) → present there none (string nullable anything l b) .read s at ≡ ok (o, next)
+  pub note-says : (there nullable : Bool) (rule : List ℕ → Verdict) (l b : ℕ) (o : Option (Option (List ℕ))) (next : ℕ) → present there none (string nullable rule l b) .read s at ≡ ok (o, next)
       → (noteAt s at there nullable ≡ spot (noteOf at o) (afterNote at o)) × (next ≡ afterNote at o)
   unfolding present nothing
-  note-says true nullable l b o next e =
-      let p = into-parts s some _ (string nullable anything l b) at o next e in
-      let t = text-says nullable l b (p .0) next (p .1) in
+  note-says true nullable rule l b o next e =
+      let p = into-parts s some _ (string nullable rule l b) at o next e in
+      let t = text-says nullable rule l b (p .0) next (p .1) in
       (sym (note-there s at true nullable refl) ∙ t .0 ∙ ap (λ (x : Option (Option (List ℕ))). spot (noteOf at x) (afterNote at x)) (p .2), t .1 ∙ ap (afterNote at) (p .2))
-  note-says false nullable l b o next e =
+  note-says false nullable rule l b o next e =
       let same = ok-same e in
       let gone : none ≡ o = ap (λ (w : Option (Option (List ℕ)) × ℕ). w .0) same in
       (sym (note-absent s at false nullable refl) ∙ ap (λ (x : Option (Option (List ℕ))). spot (noteOf at x) (afterNote at x)) gone, sym (ap (λ (w : Option (Option (List ℕ)) × ℕ). w .1) same) ∙ ap (afterNote at) gone)
 
-  pub note-held : (there nullable : Bool) (l b : ℕ) (o : Option (Option (List ℕ))) (next : ℕ) → present there none (string nullable anything l b) .read s at ≡ ok (o, next) → HoldsNote s (noteOf at o) o
+  pub note-held : (there nullable : Bool) (rule : List ℕ → Verdict) (l b : ℕ) (o : Option (Option (List ℕ))) (next : ℕ) → present there none (string nullable rule l b) .read s at ≡ ok (o, next) → HoldsNote s (noteOf at o) o
   unfolding present nothing
-  note-held true nullable l b o next e =
-      let p = into-parts s some _ (string nullable anything l b) at o next e in
-      subst (λ (x : Option (Option (List ℕ))). HoldsNote s (noteOf at x) x) (p .2) (text-held s at nullable l b (p .0) next (p .1))
-  note-held false nullable l b o next e =
+  note-held true nullable rule l b o next e =
+      let p = into-parts s some _ (string nullable rule l b) at o next e in
+      subst (λ (x : Option (Option (List ℕ))). HoldsNote s (noteOf at x) x) (p .2) (text-held s at nullable rule l b (p .0) next (p .1))
+  note-held false nullable rule l b o next e =
       subst (λ (x : Option (Option (List ℕ))). HoldsNote s (noteOf at x) x) (ap (λ (w : Option (Option (List ℕ)) × ℕ). w .0) (ok-same e)) refl
 
   module _ {A : Type 0} (most field : ℕ) (ix : ℕ → Index → Index) (f : Format A) where
@@ -83,14 +85,14 @@ abbrev pub notice : ℕ → ℕ → Option (Option (List ℕ)) → Noted
 notice n from o = record { number = n; span = noteOf from o; next = afterNote from o }
 
 module _ (s : List ℕ) (at : ℕ) where
-  pub noted-says : (k field : ℕ) (there nullable : Bool) (l b : ℕ) (v : ℕ × Option (Option (List ℕ))) (next : ℕ) → noted (number k field) there none (string nullable anything l b) .read s at ≡ ok (v, next)
+  pub noted-says : (k field : ℕ) (there nullable : Bool) (rule : List ℕ → Verdict) (l b : ℕ) (v : ℕ × Option (Option (List ℕ))) (next : ℕ) → noted (number k field) there none (string nullable rule l b) .read s at ≡ ok (v, next)
       → (notedAt s at k there nullable ≡ notice (v .0) (at + k) (v .1)) × (next ≡ afterNote (at + k) (v .1)) × HoldsNote s (noteOf (at + k) (v .1)) (v .1)
-  noted-says k field there nullable l b v next e =
-      let q = both-parts s (number k field) (λ n. present there none (string nullable anything l b)) at v next e in
+  noted-says k field there nullable rule l b v next e =
+      let q = both-parts s (number k field) (λ n. present there none (string nullable rule l b)) at v next e in
       let n = number-says s at k field (v .0) (q .0) (q .1) in
-      let rest = ap (λ (p : ℕ). present there none (string nullable anything l b) .read s p) (sym (n .1)) ∙ q .2 in
-      let t = note-says s (at + k) there nullable l b (v .1) next rest in
-      (rw (n .0, t .0), t .1, note-held s (at + k) there nullable l b (v .1) next rest)
+      let rest = ap (λ (p : ℕ). present there none (string nullable rule l b) .read s p) (sym (n .1)) ∙ q .2 in
+      let t = note-says s (at + k) there nullable rule l b (v .1) next rest in
+      (rw (n .0, t .0), t .1, note-held s (at + k) there nullable rule l b (v .1) next rest)
 
   -- the round trip, which is a number of 0 bytes where there is none
   no-number : numberAt s at 0 ≡ record { n = 0; next = at }
@@ -123,8 +125,8 @@ module _ (s : List ℕ) (at : ℕ) where
       let q = both-parts s (trip timed) (λ n. present there none (binary 38 39)) at v next e in
       let n = maybe-says timed (v .0) (q .0) (q .1) in
       let rest = ap (λ (p : ℕ). present there none (binary 38 39) .read s p) (sym (n .1)) ∙ q .2 in
-      let t = note-says s (afterNumber 4 at (v .0)) there false 38 39 (v .1) next rest in
-      (rw (n .0, t .0), t .1, note-held s (afterNumber 4 at (v .0)) there false 38 39 (v .1) next rest)
+      let t = note-says s (afterNumber 4 at (v .0)) there false anything 38 39 (v .1) next rest in
+      (rw (n .0, t .0), t .1, note-held s (afterNumber 4 at (v .0)) there false anything 38 39 (v .1) next rest)
 
 -- ---- a field, and what follows it
 module _ {B : Type 0} (s : List ℕ) (at : ℕ) where
@@ -149,19 +151,19 @@ module _ {B : Type 0} (s : List ℕ) (at : ℕ) where
       let t = block-says s at field (v .0) (q .0) (q .1) in
       (t .0, ap (λ (p : ℕ). g (v .0) .read s p) (sym (t .1)) ∙ q .2, block-held s at 8 field (v .0) (q .0) (q .1))
 
-  pub text-both : (nullable : Bool) (l b : ℕ) (g : Option (List ℕ) → Format B) (v : Option (List ℕ) × B) (next : ℕ) → both (string nullable anything l b) g .read s at ≡ ok (v, next)
+  pub text-both : (nullable : Bool) (rule : List ℕ → Verdict) (l b : ℕ) (g : Option (List ℕ) → Format B) (v : Option (List ℕ) × B) (next : ℕ) → both (string nullable rule l b) g .read s at ≡ ok (v, next)
       → (textAt s at nullable ≡ spot (spanOf at (v .0)) (afterText at (v .0))) × (g (v .0) .read s (afterText at (v .0)) ≡ ok (v .1, next)) × Holds s (spanOf at (v .0)) (v .0)
-  text-both nullable l b g v next e =
-      let q = both-parts s (string nullable anything l b) g at v next e in
-      let t = text-says s at nullable l b (v .0) (q .0) (q .1) in
-      (t .0, ap (λ (p : ℕ). g (v .0) .read s p) (sym (t .1)) ∙ q .2, text-held s at nullable l b (v .0) (q .0) (q .1))
+  text-both nullable rule l b g v next e =
+      let q = both-parts s (string nullable rule l b) g at v next e in
+      let t = text-says s at nullable rule l b (v .0) (q .0) (q .1) in
+      (t .0, ap (λ (p : ℕ). g (v .0) .read s p) (sym (t .1)) ∙ q .2, text-held s at nullable rule l b (v .0) (q .0) (q .1))
 
-  pub noted-both : (k field : ℕ) (there nullable : Bool) (l b : ℕ) (g : ℕ × Option (Option (List ℕ)) → Format B) (v : (ℕ × Option (Option (List ℕ))) × B) (next : ℕ)
-      → both (noted (number k field) there none (string nullable anything l b)) g .read s at ≡ ok (v, next)
+  pub noted-both : (k field : ℕ) (there nullable : Bool) (rule : List ℕ → Verdict) (l b : ℕ) (g : ℕ × Option (Option (List ℕ)) → Format B) (v : (ℕ × Option (Option (List ℕ))) × B) (next : ℕ)
+      → both (noted (number k field) there none (string nullable rule l b)) g .read s at ≡ ok (v, next)
       → (notedAt s at k there nullable ≡ notice (v .0 .0) (at + k) (v .0 .1)) × (g (v .0) .read s (afterNote (at + k) (v .0 .1)) ≡ ok (v .1, next)) × HoldsNote s (noteOf (at + k) (v .0 .1)) (v .0 .1)
-  noted-both k field there nullable l b g v next e =
-      let q = both-parts s (noted (number k field) there none (string nullable anything l b)) g at v next e in
-      let t = noted-says s at k field there nullable l b (v .0) (q .0) (q .1) in
+  noted-both k field there nullable rule l b g v next e =
+      let q = both-parts s (noted (number k field) there none (string nullable rule l b)) g at v next e in
+      let t = noted-says s at k field there nullable rule l b (v .0) (q .0) (q .1) in
       (t .0, ap (λ (p : ℕ). g (v .0) .read s p) (sym (t .1)) ∙ q .2, t .2)
 
 -- ---- the whole message

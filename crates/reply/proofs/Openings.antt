@@ -8,14 +8,14 @@ use mathlib.Core.List.{List, [], _++_, append-assoc}
 use mathlib.Core.Option.{Option, some, none}
 use lib.ListN.{length, length-append}
 use lib.Dec.{leb, eqb}
-use borrow.Author.Tests.{leb-true}
 use Rattle.format.specs.declared.Fault.the-variants.{Version, Flags}
 use Rattle.format.specs.declared.Refusal.{Refusal}
 use Rattle.format.specs.Result.{pick}
 use Rattle.format.specs.Number.{numBytes}
 use Rattle.format.specs.Format.{Verdict, fine, number, block, ruled, both, present, nothing, into, counted}
-use Rattle.format.specs.Value.{anything, textRule, mostBytes}
-use Rattle.format.specs.Message.{nullText, text, flagged, head as headFormat, aResponse, message}
+use Rattle.format.specs.Text.{utf8}
+use Rattle.format.specs.Value.{anything, mostBytes}
+use Rattle.format.specs.Message.{nullText, binary, flagged, head as headFormat, aResponse, message}
 use Rattle.format.proofs.Numbers.{length-numBytes}
 use Rattle.put.specs.Put.{put, optional, sized}
 use Rattle.put.proofs.Laws.{Puts, puts, sized-null, sized-some}
@@ -29,8 +29,9 @@ use Rattle.steps.specs.Arguments.{textFault, nullTextFault, openingFault, opene
 use Rattle.steps.specs.Steps.{Step, answerAt, plan, says, beginReply}
 use Rattle.write.specs.Shown.{zero, seen, shownAnswer, Stepped}
 use Rattle.write.specs.Shared.{verdictOf}
-use Rattle.steps.proofs.Back.{also-fine, test-fine}
+use Rattle.steps.proofs.Back.{also-fine}
 use Rattle.steps.proofs.Reply.{head, begin-bytes}
+use Rattle.write.proofs.Bytes.{text-few}
 use Rattle.write.proofs.Taken.{answered, step-refused, step-accepted}
 use Rattle.reply.specs.declared.Head.{Head}
 use Rattle.reply.specs.Opening.{openingOf, beginFault, letIn, statusPart, appPart, exceptionPart, beginSize, frontBytes, middleBytes, endBytes, beginBytes}
@@ -46,18 +47,16 @@ null-part true x y none = refl
 null-part true x y (some bs) = refl
 null-part false x y o = refl
 
-text-part : (t : Bool) (x y : ℕ) (bs : List ℕ) → present t none (text x y) .bytes (pick t (some (some bs)) none) ≡ letIn t false bs
+binary-part : (t : Bool) (x y : ℕ) (bs : List ℕ) → present t none (binary x y) .bytes (pick t (some (some bs)) none) ≡ letIn t false bs
 unfolding present into nothing counted
-text-part true x y bs = refl
-text-part false x y bs = refl
+binary-part true x y bs = refl
+binary-part false x y bs = refl
 
-text-limit : (bs : List ℕ) → textFault anything 0 bs ≡ fine → length bs ≤ mostBytes
-text-limit bs e = leb-true (length bs) mostBytes (test-fine (leb (length bs) mostBytes) _ 0 (also-fine (test (leb (length bs) mostBytes) _ 0) fine e .0))
-
-let-in-limit : (there null : Bool) (bs : List ℕ) → pick there (nullTextFault anything 0 (optional null bs)) fine ≡ fine → length (letIn there null bs) ≤ 4 + mostBytes
-let-in-limit true true bs e = let l = sized-null in omega arith
-let-in-limit true false bs e = let l = sized-some bs in let h = text-limit bs e in omega arith
-let-in-limit false null bs e = omega arith
+module _ (rule : List ℕ → Verdict) where
+  let-in-limit : (there null : Bool) (bs : List ℕ) → pick there (nullTextFault rule 0 (optional null bs)) fine ≡ fine → length (letIn there null bs) ≤ 4 + mostBytes
+  let-in-limit true true bs e = let l = sized-null in omega arith
+  let-in-limit true false bs e = let l = sized-some bs in let h = text-few rule 0 bs e in omega arith
+  let-in-limit false null bs e = omega arith
 
 -- the parts, one after the other
 regroup : (a b c d e f g i j k l : List ℕ) → a ++ ((b ++ (c ++ (d ++ ((e ++ f) ++ ((g ++ i) ++ (j ++ k)))))) ++ l) ≡ (a ++ (b ++ (c ++ (d ++ e)))) ++ ((f ++ (g ++ i)) ++ (j ++ (k ++ l)))
@@ -75,14 +74,14 @@ begin-whole h client status app exception =
     let q = appPart h app in
     let r = exceptionPart h exception in
     let q₀ = present f₁ none (nullText 35 36) .bytes (opened o .head .appString) in
-    let r₀ = present f₂ none (text 38 39) .bytes (opened o .head .exception) in
+    let r₀ = present f₂ none (binary 38 39) .bytes (opened o .head .exception) in
     let parts : List ℕ → List ℕ → List ℕ → List ℕ = λ x y z. numBytes 4 0 ++ ((numBytes 1 (h .version) ++ (client ++ (numBytes 1 (h .flags) ++ ((numBytes 1 (h .status) ++ x)
     ++ ((numBytes 1 (h .«app_status») ++ y) ++ (numBytes 4 (h .«round_trip») ++ z)))))) ++ numBytes 2 0) in
     sym (
     ap (λ (x : List ℕ). numBytes 4 0 ++ x) (begin-bytes (h .version) (opened o))
     ∙ ap (λ (x : List ℕ). parts x q₀ r₀) (null-part f₀ 32 33 (o .statusString))
     ∙ ap (λ (x : List ℕ). parts p x r₀) (null-part f₁ 35 36 (o .appString))
-    ∙ ap (λ (x : List ℕ). parts p q x) (text-part f₂ 38 39 exception)
+    ∙ ap (λ (x : List ℕ). parts p q x) (binary-part f₂ 38 39 exception)
     ∙ regroup (numBytes 4 0) (numBytes 1 (h .version)) client (numBytes 1 (h .flags)) (numBytes 1 (h .status)) p (numBytes 1 (h .«app_status»)) q (numBytes 4 (h .«round_trip»)) r (numBytes 2 0))
 
 -- how long they are
@@ -119,14 +118,14 @@ opening-limits : (h : Head) (status app exception : List ℕ) → beginFault h s
 unfolding openingFault
 opening-limits h status app exception e =
     let f₀ = test (eqb (h .flags % 32) 0) Flags 0 in
-    let f₁ = pick (flagged 32 (h .flags)) (nullTextFault textRule 0 (optional (h .«status_null») status)) fine in
-    let f₂ = pick (flagged 128 (h .flags)) (nullTextFault textRule 0 (optional (h .«app_null») app)) fine in
+    let f₁ = pick (flagged 32 (h .flags)) (nullTextFault utf8 0 (optional (h .«status_null») status)) fine in
+    let f₂ = pick (flagged 128 (h .flags)) (nullTextFault utf8 0 (optional (h .«app_null») app)) fine in
     let f₃ = pick (flagged 64 (h .flags)) (textFault anything 0 exception) fine in
     let z₀ = also-fine (test (leb (h .version) 1) Version 0) (also f₀ (also f₁ (also f₂ f₃))) e in
     let z₁ = also-fine f₀ (also f₁ (also f₂ f₃)) (z₀ .1) in
     let z₂ = also-fine f₁ (also f₂ f₃) (z₁ .1) in
     let z₃ = also-fine f₂ f₃ (z₂ .1) in
-    (let-in-limit (flagged 32 (h .flags)) (h .«status_null») status (z₂ .0), let-in-limit (flagged 128 (h .flags)) (h .«app_null») app (z₃ .0), let-in-limit (flagged 64 (h .flags)) false exception (z₃ .1))
+    (let-in-limit utf8 (flagged 32 (h .flags)) (h .«status_null») status (z₂ .0), let-in-limit utf8 (flagged 128 (h .flags)) (h .«app_null») app (z₃ .0), let-in-limit anything (flagged 64 (h .flags)) false exception (z₃ .1))
 
 -- and so their sum, however the code counts them, fits
 pub sizes-few : (h : Head) (status app exception : List ℕ) {x y z : ℕ} → beginFault h status app exception ≡ fine → x ≡ length (statusPart h status) → y ≡ length (appPart h app)

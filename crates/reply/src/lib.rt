@@ -15,10 +15,11 @@ ghost use mathlib.Core.List.{[]};
 ghost use lib.ListN.{length};
 ghost use Rattle.format.specs.Result.{pick};
 ghost use Rattle.format.specs.Format.{fine};
+ghost use Rattle.format.specs.Text.{utf8};
 ghost use Rattle.format.specs.Value.{anything};
 ghost use Rattle.put.specs.Put.{put, optional};
 ghost use Rattle.steps.specs.Plans.{answerOf};
-ghost use Rattle.steps.specs.Arguments.{nullTextFault};
+ghost use Rattle.steps.specs.Arguments.{textFault, nullTextFault};
 ghost use Rattle.steps.specs.Steps.{answerAt, plan, beginReply, finishReply};
 ghost use Rattle.write.specs.Shown.{zero, seen, shownAnswer, Stepped};
 ghost use Rattle.write.specs.Shared.{verdictOf};
@@ -114,7 +115,7 @@ fn opening_fault(h: Head, status: &[u8], app: &[u8], exception: &[u8]) -> Check
         status,
     );
     let second = let_in_fault(scan::has_flag(h.flags, APP_STRING), h.app_null, app);
-    let third = let_in_fault(scan::has_flag(h.flags, EXCEPTION), false, exception);
+    let third = exception_fault(scan::has_flag(h.flags, EXCEPTION), exception);
     write::also(
         edition,
         write::also(flags, write::also(first, write::also(second, third))),
@@ -181,15 +182,24 @@ fn end_at(out: &mut [u8], at: usize, h: Head, exception: &[u8]) -> usize
     put::number_at(out, second, 0, 2)
 }
 
-// Whether a flag is set, by its value.
-// What is wrong with a string that its flag lets in.
+// What is wrong with a text that its flag lets in.
 fn let_in_fault(there: bool, null: bool, s: &[u8]) -> Check
-    ensures { λ r. ⌜ verdictOf r ≡ pick there (nullTextFault anything 0 (optional null (now (s .entry)))) fine ⌝ }
+    ensures { λ r. ⌜ verdictOf r ≡ pick there (nullTextFault utf8 0 (optional null (now (s .entry)))) fine ⌝ }
 {
     if !there {
         return Check::Fine;
     }
     write::null_text_fault(0, null, s)
+}
+
+// What is wrong with an exception that its flag lets in.
+fn exception_fault(there: bool, s: &[u8]) -> Check
+    ensures { λ r. ⌜ verdictOf r ≡ pick there (textFault anything 0 (now (s .entry))) fine ⌝ }
+{
+    if !there {
+        return Check::Fine;
+    }
+    write::bytes_fault(0, s)
 }
 
 // How many bytes such a string has, with its length.

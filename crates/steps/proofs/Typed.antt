@@ -11,7 +11,8 @@ use Rattle.format.specs.Result.{pick}
 use Rattle.format.specs.Number.{Bytes}
 use Rattle.format.specs.Format.{Format, Index, Verdict, number, block, nothing, room, ruled, into, both, present, counted, each}
 use Rattle.format.specs.declared.Fault.the-variants.{Decimal, Point}
-use Rattle.format.specs.Value.{Value, fixed, body, number-of, body-of, value, string, anything, textRule, ascii, isCounted, widthOf, fixedFine, ruleOf, mostBytes, tArray, tNull, tTinyint, tDecimal}
+use Rattle.format.specs.Text.{utf8}
+use Rattle.format.specs.Value.{Value, fixed, body, number-of, body-of, value, string, anything, ascii, isCounted, widthOf, fixedFine, ruleOf, mostBytes, tArray, tNull, tTinyint, tDecimal}
 use Rattle.format.specs.Message.{Argument, null, one, array, Items, bytes, values, bytes-of, values-of, Param, param, argument, array-of, one-of, items, list, binary, edition, columnType, mostItems, first, second, third, LoginRequest, LoginResponse, Server, server, noServer, loginRequest, loginResponse, Invocation, invocation, Table, metadata, table, row, unlimited, Response, head, response, flagged, Content, aLoginRequest, aLoginResponse, anInvocation, aResponse, loginRequest-of, loginResponse-of, invocation-of, response-of, contentOf, Message, message, isKind, GoodMessage}
 use Rattle.steps.specs.Steps.{Step, says, element, closeArray, finishCall, closeRow, closeTable, finishReply}
 use Rattle.steps.specs.Spells.{textOf, argumentSteps, paramSteps, cellSteps, rowSteps, columnsOf, tableSteps, HeldText, HeldValue, HeldColumns, AllHeld, HeldWelcome}
@@ -84,7 +85,7 @@ unfolding message contentOf invocation into both ruled number block
 call-held version i g =
     let h = g .0 .1 .0 .0 in (
       g .0 .0 .0,
-      bytes-held (i .procedure) (text-held false mostBytes textRule 20 21 (i .procedure) (h .0)),
+      bytes-held (i .procedure) (text-held false mostBytes utf8 20 21 (i .procedure) (h .0)),
       h .1 .0,
       all-both (flatMap paramSteps (i .params)) (finishCall ∷ []) (list-held param paramSteps param-held first 2 mostItems 23 (i .params) (h .1 .1)) (tt, tt),
     )
@@ -131,9 +132,9 @@ reply-held version r g =
         client = h .0 .0 .0;
         flags = f .0 .0;
         status = f .1 .0 .0;
-        statusString = note-held (flagged 32 (r .head .flags)) true mostBytes textRule 32 33 (r .head .statusString) (f .1 .0 .1);
+        statusString = note-held (flagged 32 (r .head .flags)) true mostBytes utf8 32 33 (r .head .statusString) (f .1 .0 .1);
         appStatus = f .1 .1 .0 .0;
-        appString = note-held (flagged 128 (r .head .flags)) true mostBytes textRule 35 36 (r .head .appString) (f .1 .1 .0 .1);
+        appString = note-held (flagged 128 (r .head .flags)) true mostBytes utf8 35 36 (r .head .appString) (f .1 .1 .0 .1);
         roundTrip = f .1 .1 .1 .0 .0;
         exception = bytes-held (Option·getD e none) (note-held (flagged 64 (r .head .flags)) false mostBytes anything 38 39 e (f .1 .1 .1 .1));
       },
@@ -152,8 +153,8 @@ request-held version r g =
     let h = g .0 .1 .0 .0 in (
       g .0 .0 .0,
       edition-held (eqb version 1) (r .hashVersion) (h .0),
-      bytes-held (r .service) (text-held false mostBytes textRule 4 5 (r .service) (h .1 .0)),
-      bytes-held (r .user) (text-held false mostBytes textRule 6 7 (r .user) (h .1 .1 .0)),
+      bytes-held (r .service) (text-held false mostBytes utf8 4 5 (r .service) (h .1 .0)),
+      bytes-held (r .user) (text-held false mostBytes utf8 6 7 (r .user) (h .1 .1 .0)),
       h .1 .1 .1 .1,
     )
 
@@ -162,7 +163,7 @@ unfolding present server into both nothing number
 welcome-held true o g =
     let h = g .0 .0 in
     let s = Option·getD o noServer in
-    record { host = h .0; connection = h .1 .0; start = h .1 .1 .0; leader = h .1 .1 .1 .0; build = bytes-held (s .build) (text-held false mostBytes textRule 15 16 (s .build) (h .1 .1 .1 .1)) }
+    record { host = h .0; connection = h .1 .0; start = h .1 .1 .0; leader = h .1 .1 .1 .0; build = bytes-held (s .build) (text-held false mostBytes utf8 15 16 (s .build) (h .1 .1 .1 .1)) }
 welcome-held false o g = subst (λ (z : Option Server). HeldWelcome (welcomeOf z)) (sym g) (record { host = lit< tt; connection = lit< tt; start = lit< tt; leader = lit< tt; build = tt })
 
 response-held : (version : ℕ) (r : LoginResponse) → message 2 .Good (says version (aLoginResponse r)) → HeldWriting (contentWriting version (aLoginResponse r))

@@ -8,7 +8,8 @@ use lib.Dec.{leb, ltb, eqb}
 use Rattle.format.specs.declared.Fault.the-variants.{Limit, WireType, Decimal, Point, Flags, PastEnd}
 use Rattle.format.specs.Result.{pick}
 use Rattle.format.specs.Format.{Verdict, fine, bad}
-use Rattle.format.specs.Value.{Value, fixed, body, widthOf, isCounted, fixedFine, anything, textRule, ruleOf, ascii, mostBytes, tDecimal}
+use Rattle.format.specs.Text.{utf8}
+use Rattle.format.specs.Value.{Value, fixed, body, widthOf, isCounted, fixedFine, anything, ruleOf, ascii, mostBytes, tDecimal}
 use Rattle.format.specs.Message.{Response, Metadata, flagged}
 use Rattle.steps.specs.Plans.{also, test, placed}
 
@@ -76,6 +77,6 @@ opened o = record {
 unfoldable pub openingFault : Opening → Verdict
 openingFault o =
     also (test (eqb (o .flags % 32) 0) Flags 0)
-    (also (pick (flagged 32 (o .flags)) (nullTextFault textRule 0 (o .statusString)) fine)
-    (also (pick (flagged 128 (o .flags)) (nullTextFault textRule 0 (o .appString)) fine)
+    (also (pick (flagged 32 (o .flags)) (nullTextFault utf8 0 (o .statusString)) fine)
+    (also (pick (flagged 128 (o .flags)) (nullTextFault utf8 0 (o .appString)) fine)
     (pick (flagged 64 (o .flags)) (textFault anything 0 (o .exception)) fine)))

@@ -8,7 +8,7 @@ use lib.Dec.{leb, eqb}
 use Rattle.format.specs.declared.Fault.the-variants.{Short, Extra, Version}
 use Rattle.format.specs.Result.{pick}
 use Rattle.format.specs.Format.{Verdict, fine}
-use Rattle.format.specs.Value.{textRule}
+use Rattle.format.specs.Text.{utf8}
 use Rattle.format.specs.Message.{aLoginRequest, aLoginResponse, LoginRequest, LoginResponse, messageBytes, hashSize}
 use Rattle.steps.specs.State.{State, closed}
 use Rattle.steps.specs.Plans.{Plan, Out, carry, also, test}
@@ -30,8 +30,8 @@ unfoldable pub requestFault : ℕ → ℕ → List ℕ → List ℕ → List ℕ
 requestFault version hashVersion service user hash =
     also (test (leb version 1) Version 0)
     (also (pick (eqb version 1) (test (leb hashVersion 1) Version 0) fine)
-    (also (textFault textRule 0 service)
-    (also (textFault textRule 0 user)
+    (also (textFault utf8 0 service)
+    (also (textFault utf8 0 user)
     (hashFault (hashSize (pick (eqb version 1) (some hashVersion) none)) hash))))
 
 unfoldable pub loginRequest : ℕ → ℕ → List ℕ → List ℕ → List ℕ → List ℕ → Out State
@@ -53,7 +53,7 @@ writtenResponse result w = record {
 }
 
 unfoldable pub responseFault : ℕ → ℕ → Welcome → Verdict
-responseFault version result w = also (test (leb version 1) Version 0) (pick (eqb result 0) (textFault textRule 0 (w .build)) fine)
+responseFault version result w = also (test (leb version 1) Version 0) (pick (eqb result 0) (textFault utf8 0 (w .build)) fine)
 
 unfoldable pub loginResponse : ℕ → ℕ → Welcome → List ℕ → Out State
 loginResponse version result w b = carry (loginPlan (responseFault version result w) (messageBytes 2 (says version (aLoginResponse (writtenResponse result w))))) (closed 0) b

@@ -10,7 +10,8 @@ use Rattle.format.specs.declared.Fault.the-variants.{Limit, Version, WireType}
 use Rattle.format.specs.Result.{Res, ok}
 use Rattle.format.specs.Number.{numBytes}
 use Rattle.format.specs.Format.{Verdict, fine}
-use Rattle.format.specs.Value.{Value, value, anything, textRule, tNull, tTinyint, tArray}
+use Rattle.format.specs.Text.{utf8}
+use Rattle.format.specs.Value.{Value, value, anything, tNull, tTinyint, tArray}
 use Rattle.format.specs.Message.{Message, Content, anInvocation, aResponse, Param, null, one, array, bytes, values, param, metadata, message, mostItems, mostColumns, mostMessage, mostRow, unlimited}
 use Rattle.steps.specs.declared.Stage.{Stage}
 use Rattle.steps.specs.declared.Stage.the-variants.{Call, Array, Reply, Table, Row}
@@ -89,7 +90,7 @@ finishPlan stage st size = record {
 
 abbrev pub plan : Step → State → ℕ → Plan State
 plan (beginCall version procedure client) st size =
-    beginPlan Call (also (test (leb version 1) Version 0) (textFault textRule 0 procedure))
+    beginPlan Call (also (test (leb version 1) Version 0) (textFault utf8 0 procedure))
     (message 3 .bytes (says version (anInvocation (record { procedure = some procedure; client = client; params = [] }))))
 plan nullParam st size = paramPlan fine (record { type = tNull; argument = null }) st size
 plan (oneParam t v) st size = paramPlan (valueFault (st .position) t v) (record { type = t; argument = one v }) st size

@@ -1,26 +1,29 @@
 -- The bytes of values that have no fault, and how faults of texts are put together.
-use Prim.Native.Nat.{ℕ}
-use mathlib.Core.Path.{_≡_, refl, sym, ap}
+use Prim.Native.Nat.{ℕ, _≤_, _<_}
+use mathlib.Core.Path.{_≡_, refl, sym, _∙_, ap}
 use mathlib.Core.Bool.{Bool, true, false, not}
 use mathlib.Core.List.{List, [], _∷_, _++_}
 use mathlib.Core.Option.{Option, some, none}
 use lib.ListN.{length}
 use lib.Dec.{leb, eqb}
 use native.Mathlib.Omega.{arith}
-use borrow.Author.Tests.{ne-eqb}
-use Rattle.format.specs.declared.Fault.the-variants.{Limit}
+use borrow.Author.Tests.{ne-eqb, le-leb, lt-leb, leb-true}
+use Rattle.format.specs.declared.Fault.the-variants.{Limit, Text}
 use Rattle.format.specs.Result.{pick}
 use Rattle.format.specs.Number.{numBytes}
 use Rattle.format.specs.Format.{Verdict, fine, bad, number, ruled, into, both, nothing, counted}
-use Rattle.format.specs.Value.{Value, fixed, body, value, string, widthOf, isCounted, isColumn, fixedFine, anything, notEmpty, textRule, ruleOf, mostBytes, tNull, tTinyint, tString, tGeography, tArray}
+use Rattle.format.specs.Text.{utf8From, utf8}
+use Rattle.text.specs.declared.Found.{Found}
+use Rattle.text.specs.Shown.{shownAt}
+use Rattle.text.proofs.Finds.{finds-texts}
+use Rattle.format.specs.Value.{Value, fixed, body, value, string, widthOf, isCounted, isColumn, fixedFine, anything, notEmpty, ruleOf, mostBytes, tNull, tTinyint, tString, tGeography, tArray}
 use Rattle.format.specs.Message.{one, array, bytes, items, argument, param}
 use Rattle.put.specs.Put.{optional, sized}
 use Rattle.steps.specs.Plans.{also, test, placed}
 use Rattle.steps.specs.Arguments.{textFault, nullTextFault, isNumberOf, valueFault}
-use Rattle.write.specs.Shared.{emptyFault}
 use Rattle.steps.proofs.Back.{also-fine, test-fine, no-column, column-fixed, number-fits}
 
-also-none : (v : Verdict) → also v fine ≡ v
+pub also-none : (v : Verdict) → also v fine ≡ v
 also-none fine = refl
 also-none (bad f p) = refl
 
@@ -28,17 +31,25 @@ also-none (bad f p) = refl
 pub text-limit : (p : ℕ) (bs : List ℕ) → textFault anything p bs ≡ test (leb (length bs) mostBytes) Limit p
 text-limit p bs = also-none (test (leb (length bs) mostBytes) Limit p)
 
--- the length's limit comes first, then the rule of a geography
-pub body-fault : (p t : ℕ) (null : Bool) (bs : List ℕ)
-    → nullTextFault (ruleOf t) p (optional null bs) ≡ also (nullTextFault anything p (optional null bs)) (emptyFault p t null bs)
-body-fault p t null bs = go null (eqb t tGeography) (eqb t tString)
-  where
-    go : (n g s : Bool) → nullTextFault (pick g notEmpty (pick s textRule anything)) p (optional n bs) ≡ also (nullTextFault anything p (optional n bs)) (pick g (pick n fine (placed p (notEmpty bs))) fine)
-    go true true s = refl
-    go true false s = refl
-    go false true s = ap (λ (v : Verdict). also v (placed p (notEmpty bs))) (sym (text-limit p bs))
-    go false false true = sym (also-none (textFault textRule p bs))
-    go false false false = sym (also-none (textFault anything p bs))
+-- a text without a fault isn't too long, whatever its rule
+pub text-few : (rule : List ℕ → Verdict) (p : ℕ) (bs : List ℕ) → textFault rule p bs ≡ fine → length bs ≤ mostBytes
+text-few rule p bs e = leb-true (length bs) mostBytes (test-fine (leb (length bs) mostBytes) Limit p (also-fine (test (leb (length bs) mostBytes) Limit p) (placed p (rule bs)) e .0))
+
+-- a text that is too long, one that is torn, and one that isn't
+module _ (p : ℕ) (bs : List ℕ) where
+  pub text-long : mostBytes < length bs → textFault utf8 p bs ≡ bad Limit p
+  text-long h = rw (lt-leb (length bs) mostBytes h)
+
+  module _ (few : length bs ≤ mostBytes) {found : Found} (e : found ≡ shownAt (utf8From 0 0 bs)) where
+    pub text-torn : {i : ℕ} → found ≡ Found.At i → textFault utf8 p bs ≡ bad Text p
+    text-torn {i} is = rw (le-leb (length bs) mostBytes few, finds-texts .refuses bs i (sym e ∙ is) .0)
+
+    pub text-whole : found ≡ Found.Nothing → textFault utf8 p bs ≡ fine
+    text-whole is = rw (le-leb (length bs) mostBytes few, finds-texts .passes bs (sym e ∙ is))
+
+-- a geography's bytes are counted, and then that there are some
+pub geography-fault : (p : ℕ) (bs : List ℕ) → textFault notEmpty p bs ≡ also (textFault anything p bs) (placed p (notEmpty bs))
+geography-fault p bs = ap (λ (v : Verdict). also v (placed p (notEmpty bs))) (sym (text-limit p bs))
 
 pub empty-is : (p : ℕ) (bs : List ℕ) → placed p (notEmpty bs) ≡ test (not (eqb (length bs) 0)) Rattle.format.specs.declared.Fault.the-variants.Geography p
 empty-is p [] = refl

@@ -1,14 +1,10 @@
 -- What the functions that all steps share are held to.
 use Prim.Native.Nat.{ℕ}
-use mathlib.Core.Bool.{Bool}
-use mathlib.Core.List.{List}
-use lib.Dec.{leb, eqb}
+use lib.Dec.{leb}
 use Rattle.format.specs.Result.{pick}
 use Rattle.format.specs.Format.{Verdict, fine, bad}
-use Rattle.format.specs.Value.{notEmpty, tGeography}
 use Rattle.format.specs.Message.{mostColumns}
 use Rattle.steps.specs.declared.Stage.{Stage}
-use Rattle.steps.specs.Plans.{placed}
 use Rattle.write.specs.declared.State.{State as Code}
 use Rattle.write.specs.declared.Check.{Check}
 use Rattle.write.specs.declared.Check.the-variants.{Fine, Bad}
@@ -17,10 +13,6 @@ use Rattle.write.specs.declared.Check.the-variants.{Fine, Bad}
 abbrev pub verdictOf : Check → Verdict
 verdictOf Fine = fine
 verdictOf (Bad r) = bad (r .fault) (r .place)
-
--- what is wrong with a geography beside its length
-abbrev pub emptyFault : ℕ → ℕ → Bool → List ℕ → Verdict
-emptyFault at t null bs = pick (eqb t tGeography) (pick null fine (placed at (notEmpty bs))) fine
 
 -- how many types are seen where a state has so many columns: as many as `typesIn` gives
 abbrev pub countIn : ℕ → ℕ

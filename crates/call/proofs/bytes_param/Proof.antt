@@ -33,8 +33,8 @@ use Rattle.call.proofs.bytes_param.Tie as tie
 at-call-requires : tie.Need-at-call-requires
 at-call-requires c κs = tt
 
-text-fault-requires : tie.Need-text-fault-requires
-text-fault-requires c κs = tt
+bytes-fault-requires : tie.Need-bytes-fault-requires
+bytes-fault-requires c κs = tt
 
 one-more-requires : tie.Need-one-more-requires
 one-more-requires c κs = tt
@@ -55,29 +55,29 @@ enum-told : tie.Need-enum-told
 enum-told c = search needs
 
 returns : tie.Need-returns
-returns c = step-refused (bytesParam (c .before .before .before .before .before .before .before .before .before .args .s .now)) (c .before .before .before .before .before .before .before .before .before .args .st) (c .before .before .before .before .before .before .before .before .before .args .out .now) [] (bytes-answer (seen (c .before .before .before .before .before .before .before .before .before .args .st) []) (length (c .before .before .before .before .before .before .before .before .before .args .out .now)) (c .before .before .before .before .before .before .before .before .before .args .s .now) (c .before .before .before .before .before .before .at-call .ensures) (c .before .before .before .before .before .text-fault .ensures) (c .before .before .before .before .one-more .ensures) (c .before .before .before .text-size .ensures) (c .before .before .judge .ensures)) (c .enum-told .given .1)
+returns c = step-refused (bytesParam (c .before .before .before .before .before .before .before .before .before .args .s .now)) (c .before .before .before .before .before .before .before .before .before .args .st) (c .before .before .before .before .before .before .before .before .before .args .out .now) [] (bytes-answer (seen (c .before .before .before .before .before .before .before .before .before .args .st) []) (length (c .before .before .before .before .before .before .before .before .before .args .out .now)) (c .before .before .before .before .before .before .before .before .before .args .s .now) (c .before .before .before .before .before .before .at-call .ensures) (c .before .before .before .before .before .bytes-fault .ensures) (c .before .before .before .before .one-more .ensures) (c .before .before .before .text-size .ensures) (c .before .before .judge .ensures)) (c .enum-told .given .1)
 
 number-at-requires : tie.Need-number-at-requires
 number-at-requires c κs =
-    let h : c .before .before .before .before .before .before .before .before .before .before .before .args .st .position + (2 + length (sized (some (c .before .before .before .before .before .before .before .before .before .before .before .args .s .now)))) ≤ (length (c .before .before .before .before .before .before .before .before .before .before .before .args .out .now)) = room (step-accepted (bytesParam (c .before .before .before .before .before .before .before .before .before .before .before .args .s .now)) (c .before .before .before .before .before .before .before .before .before .before .before .args .st) (c .before .before .before .before .before .before .before .before .before .before .before .args .out .now) [] (bytes-answer (seen (c .before .before .before .before .before .before .before .before .before .before .before .args .st) []) (length (c .before .before .before .before .before .before .before .before .before .before .before .args .out .now)) (c .before .before .before .before .before .before .before .before .before .before .before .args .s .now) (c .before .before .before .before .before .before .before .before .at-call .ensures) (c .before .before .before .before .before .before .before .text-fault .ensures) (c .before .before .before .before .before .before .one-more .ensures) (c .before .before .before .before .before .text-size .ensures) (c .before .before .before .before .judge .ensures)) (c .before .before .a .given .1)) (array-size (c .before .before .before .before .before .before .before .before .before .before .before .args .s .now)) in
+    let h : c .before .before .before .before .before .before .before .before .before .before .before .args .st .position + (2 + length (sized (some (c .before .before .before .before .before .before .before .before .before .before .before .args .s .now)))) ≤ (length (c .before .before .before .before .before .before .before .before .before .before .before .args .out .now)) = room (step-accepted (bytesParam (c .before .before .before .before .before .before .before .before .before .before .before .args .s .now)) (c .before .before .before .before .before .before .before .before .before .before .before .args .st) (c .before .before .before .before .before .before .before .before .before .before .before .args .out .now) [] (bytes-answer (seen (c .before .before .before .before .before .before .before .before .before .before .before .args .st) []) (length (c .before .before .before .before .before .before .before .before .before .before .before .args .out .now)) (c .before .before .before .before .before .before .before .before .before .before .before .args .s .now) (c .before .before .before .before .before .before .before .before .at-call .ensures) (c .before .before .before .before .before .before .before .bytes-fault .ensures) (c .before .before .before .before .before .before .one-more .ensures) (c .before .before .before .before .before .text-size .ensures) (c .before .before .before .before .judge .ensures)) (c .before .before .a .given .1)) (array-size (c .before .before .before .before .before .before .before .before .before .before .before .args .s .now)) in
     omega arith
 
 number-at-requires-2 : tie.Need-number-at-requires-2
 number-at-requires-2 c κs =
-    let h : c .before .before .before .before .before .before .before .before .before .before .before .before .before .before .before .args .st .position + (2 + length (sized (some (c .before .before .before .before .before .before .before .before .before .before .before .before .before .before .before .args .s .now)))) ≤ (length (c .before .before .before .before .before .before .before .before .before .before .before .before .before .before .before .args .out .now)) = room (step-accepted (bytesParam (c .before .before .before .before .before .before .before .before .before .before .before .before .before .before .before .args .s .now)) (c .before .before .before .before .before .before .before .before .before .before .before .before .before .before .before .args .st) (c .before .before .before .before .before .before .before .before .before .before .before .before .before .before .before .args .out .now) [] (bytes-answer (seen (c .before .before .before .before .before .before .before .before .before .before .before .before .before .before .before .args .st) []) (length (c .before .before .before .before .before .before .before .before .before .before .before .before .before .before .before .args .out .now)) (c .before .before .before .before .before .before .before .before .before .before .before .before .before .before .before .args .s .now) (c .before .before .before .before .before .before .before .before .before .before .before .before .at-call .ensures) (c .before .before .before .before .before .before .before .before .before .before .before .text-fault .ensures) (c .before .before .before .before .before .before .before .before .before .before .one-more .ensures) (c .before .before .before .before .before .before .before .before .before .text-size .ensures) (c .before .before .before .before .before .before .before .before .judge .ensures)) (c .before .before .before .before .before .before .a .given .1)) (array-size (c .before .before .before .before .before .before .before .before .before .before .before .before .before .before .before .args .s .now)) in
+    let h : c .before .before .before .before .before .before .before .before .before .before .before .before .before .before .before .args .st .position + (2 + length (sized (some (c .before .before .before .before .before .before .before .before .before .before .before .before .before .before .before .args .s .now)))) ≤ (length (c .before .before .before .before .before .before .before .before .before .before .before .before .before .before .before .args .out .now)) = room (step-accepted (bytesParam (c .before .before .before .before .before .before .before .before .before .before .before .before .before .before .before .args .s .now)) (c .before .before .before .before .before .before .before .before .before .before .before .before .before .before .before .args .st) (c .before .before .before .before .before .before .before .before .before .before .before .before .before .before .before .args .out .now) [] (bytes-answer (seen (c .before .before .before .before .before .before .before .before .before .before .before .before .before .before .before .args .st) []) (length (c .before .before .before .before .before .before .before .before .before .before .before .before .before .before .before .args .out .now)) (c .before .before .before .before .before .before .before .before .before .before .before .before .before .before .before .args .s .now) (c .before .before .before .before .before .before .before .before .before .before .before .before .at-call .ensures) (c .before .before .before .before .before .before .before .before .before .before .before .bytes-fault .ensures) (c .before .before .before .before .before .before .before .before .before .before .one-more .ensures) (c .before .before .before .before .before .before .before .before .before .text-size .ensures) (c .before .before .before .before .before .before .before .before .judge .ensures)) (c .before .before .before .before .before .before .a .given .1)) (array-size (c .before .before .before .before .before .before .before .before .before .before .before .before .before .before .before .args .s .now)) in
     let p = puts-number (c .before .before .before .before .before .before .before .before .before .before .before .before .before .before .before .args .out .now) (c .before .before .before .before .before .before .before .before .before .before .before .before .before .before .before .args .st .position) 1 tArray (omega arith) (c .before .before .before .number-at .ensures) in
     omega arith
 
 text-at-requires : tie.Need-text-at-requires
 text-at-requires c κs =
-    let h : c .before .before .before .before .before .before .before .before .before .before .before .before .before .before .before .before .before .before .before .args .st .position + (2 + length (sized (some (c .before .before .before .before .before .before .before .before .before .before .before .before .before .before .before .before .before .before .before .args .s .now)))) ≤ (length (c .before .before .before .before .before .before .before .before .before .before .before .before .before .before .before .before .before .before .before .args .out .now)) = room (step-accepted (bytesParam (c .before .before .before .before .before .before .before .before .before .before .before .before .before .before .before .before .before .before .before .args .s .now)) (c .before .before .before .before .before .before .before .before .before .before .before .before .before .before .before .before .before .before .before .args .st) (c .before .before .before .before .before .before .before .before .before .before .before .before .before .before .before .before .before .before .before .args .out .now) [] (bytes-answer (seen (c .before .before .before .before .before .before .before .before .before .before .before .before .before .before .before .before .before .before .before .args .st) []) (length (c .before .before .before .before .before .before .before .before .before .before .before .before .before .before .before .before .before .before .before .args .out .now)) (c .before .before .before .before .before .before .before .before .before .before .before .before .before .before .before .before .before .before .before .args .s .now) (c .before .before .before .before .before .before .before .before .before .before .before .before .before .before .before .before .at-call .ensures) (c .before .before .before .before .before .before .before .before .before .before .before .before .before .before .before .text-fault .ensures) (c .before .before .before .before .before .before .before .before .before .before .before .before .before .before .one-more .ensures) (c .before .before .before .before .before .before .before .before .before .before .before .before .before .text-size .ensures) (c .before .before .before .before .before .before .before .before .before .before .before .before .judge .ensures)) (c .before .before .before .before .before .before .before .before .before .before .a .given .1)) (array-size (c .before .before .before .before .before .before .before .before .before .before .before .before .before .before .before .before .before .before .before .args .s .now)) in
+    let h : c .before .before .before .before .before .before .before .before .before .before .before .before .before .before .before .before .before .before .before .args .st .position + (2 + length (sized (some (c .before .before .before .before .before .before .before .before .before .before .before .before .before .before .before .before .before .before .before .args .s .now)))) ≤ (length (c .before .before .before .before .before .before .before .before .before .before .before .before .before .before .before .before .before .before .before .args .out .now)) = room (step-accepted (bytesParam (c .before .before .before .before .before .before .before .before .before .before .before .before .before .before .before .before .before .before .before .args .s .now)) (c .before .before .before .before .before .before .before .before .before .before .before .before .before .before .before .before .before .before .before .args .st) (c .before .before .before .before .before .before .before .before .before .before .before .before .before .before .before .before .before .before .before .args .out .now) [] (bytes-answer (seen (c .before .before .before .before .before .before .before .before .before .before .before .before .before .before .before .before .before .before .before .args .st) []) (length (c .before .before .before .before .before .before .before .before .before .before .before .before .before .before .before .before .before .before .before .args .out .now)) (c .before .before .before .before .before .before .before .before .before .before .before .before .before .before .before .before .before .before .before .args .s .now) (c .before .before .before .before .before .before .before .before .before .before .before .before .before .before .before .before .at-call .ensures) (c .before .before .before .before .before .before .before .before .before .before .before .before .before .before .before .bytes-fault .ensures) (c .before .before .before .before .before .before .before .before .before .before .before .before .before .before .one-more .ensures) (c .before .before .before .before .before .before .before .before .before .before .before .before .before .text-size .ensures) (c .before .before .before .before .before .before .before .before .before .before .before .before .judge .ensures)) (c .before .before .before .before .before .before .before .before .before .before .a .given .1)) (array-size (c .before .before .before .before .before .before .before .before .before .before .before .before .before .before .before .before .before .before .before .args .s .now)) in
     let p = puts-number (c .before .before .before .before .before .before .before .before .before .before .before .before .before .before .before .before .before .before .before .args .out .now) (c .before .before .before .before .before .before .before .before .before .before .before .before .before .before .before .before .before .before .before .args .st .position) 1 tArray (omega arith) (c .before .before .before .before .before .before .before .number-at .ensures) in
     let q = puts-number (c .before .before .before .before .before .before .before .number-at .last .0) (c .before .before .before .before .before .before .before .number-at .result) 1 tTinyint (omega arith) (c .before .before .before .number-at2 .ensures) in
     omega arith
 
 add-between : tie.Need-add-between
 add-between c =
-    let h : c .before .before .before .before .before .before .before .before .before .before .before .before .before .before .before .before .before .before .before .before .before .before .before .args .st .count + 1 ≤ mostItems = counts (c .before .before .before .before .before .before .before .before .before .before .before .before .before .before .before .before .before .before .before .before .before .before .before .args .st .count) mostItems (step-accepted (bytesParam (c .before .before .before .before .before .before .before .before .before .before .before .before .before .before .before .before .before .before .before .before .before .before .before .args .s .now)) (c .before .before .before .before .before .before .before .before .before .before .before .before .before .before .before .before .before .before .before .before .before .before .before .args .st) (c .before .before .before .before .before .before .before .before .before .before .before .before .before .before .before .before .before .before .before .before .before .before .before .args .out .now) [] (bytes-answer (seen (c .before .before .before .before .before .before .before .before .before .before .before .before .before .before .before .before .before .before .before .before .before .before .before .args .st) []) (length (c .before .before .before .before .before .before .before .before .before .before .before .before .before .before .before .before .before .before .before .before .before .before .before .args .out .now)) (c .before .before .before .before .before .before .before .before .before .before .before .before .before .before .before .before .before .before .before .before .before .before .before .args .s .now) (c .before .before .before .before .before .before .before .before .before .before .before .before .before .before .before .before .before .before .before .before .at-call .ensures) (c .before .before .before .before .before .before .before .before .before .before .before .before .before .before .before .before .before .before .before .text-fault .ensures) (c .before .before .before .before .before .before .before .before .before .before .before .before .before .before .before .before .before .before .one-more .ensures) (c .before .before .before .before .before .before .before .before .before .before .before .before .before .before .before .before .before .text-size .ensures) (c .before .before .before .before .before .before .before .before .before .before .before .before .before .before .before .before .judge .ensures)) (c .before .before .before .before .before .before .before .before .before .before .before .before .before .before .a .given .1)) refl in
+    let h : c .before .before .before .before .before .before .before .before .before .before .before .before .before .before .before .before .before .before .before .before .before .before .before .args .st .count + 1 ≤ mostItems = counts (c .before .before .before .before .before .before .before .before .before .before .before .before .before .before .before .before .before .before .before .before .before .before .before .args .st .count) mostItems (step-accepted (bytesParam (c .before .before .before .before .before .before .before .before .before .before .before .before .before .before .before .before .before .before .before .before .before .before .before .args .s .now)) (c .before .before .before .before .before .before .before .before .before .before .before .before .before .before .before .before .before .before .before .before .before .before .before .args .st) (c .before .before .before .before .before .before .before .before .before .before .before .before .before .before .before .before .before .before .before .before .before .before .before .args .out .now) [] (bytes-answer (seen (c .before .before .before .before .before .before .before .before .before .before .before .before .before .before .before .before .before .before .before .before .before .before .before .args .st) []) (length (c .before .before .before .before .before .before .before .before .before .before .before .before .before .before .before .before .before .before .before .before .before .before .before .args .out .now)) (c .before .before .before .before .before .before .before .before .before .before .before .before .before .before .before .before .before .before .before .before .before .before .before .args .s .now) (c .before .before .before .before .before .before .before .before .before .before .before .before .before .before .before .before .before .before .before .before .at-call .ensures) (c .before .before .before .before .before .before .before .before .before .before .before .before .before .before .before .before .before .before .before .bytes-fault .ensures) (c .before .before .before .before .before .before .before .before .before .before .before .before .before .before .before .before .before .before .one-more .ensures) (c .before .before .before .before .before .before .before .before .before .before .before .before .before .before .before .before .before .text-size .ensures) (c .before .before .before .before .before .before .before .before .before .before .before .before .before .before .before .before .judge .ensures)) (c .before .before .before .before .before .before .before .before .before .before .before .before .before .before .a .given .1)) refl in
     omega arith
 
 between-requires : tie.Need-between-requires
@@ -88,18 +88,18 @@ same-length c = search needs
 
 returns-2 : tie.Need-returns-2
 returns-2 c =
-    let h : c .before .before .before .before .before .before .before .before .before .before .before .before .before .before .before .before .before .before .before .before .before .before .before .before .args .st .position + (2 + length (sized (some (c .before .before .before .before .before .before .before .before .before .before .before .before .before .before .before .before .before .before .before .before .before .before .before .before .args .s .now)))) ≤ (length (c .before .before .before .before .before .before .before .before .before .before .before .before .before .before .before .before .before .before .before .before .before .before .before .before .args .out .now)) = room (step-accepted (bytesParam (c .before .before .before .before .before .before .before .before .before .before .before .before .before .before .before .before .before .before .before .before .before .before .before .before .args .s .now)) (c .before .before .before .before .before .before .before .before .before .before .before .before .before .before .before .before .before .before .before .before .before .before .before .before .args .st) (c .before .before .before .before .before .before .before .before .before .before .before .before .before .before .before .before .before .before .before .before .before .before .before .before .args .out .now) [] (bytes-answer (seen (c .before .before .before .before .before .before .before .before .before .before .before .before .before .before .before .before .before .before .before .before .before .before .before .before .args .st) []) (length (c .before .before .before .before .before .before .before .before .before .before .before .before .before .before .before .before .before .before .before .before .before .before .before .before .args .out .now)) (c .before .before .before .before .before .before .before .before .before .before .before .before .before .before .before .before .before .before .before .before .before .before .before .before .args .s .now) (c .before .before .before .before .before .before .before .before .before .before .before .before .before .before .before .before .before .before .before .before .before .at-call .ensures) (c .before .before .before .before .before .before .before .before .before .before .before .before .before .before .before .before .before .before .before .before .text-fault .ensures) (c .before .before .before .before .before .before .before .before .before .before .before .before .before .before .before .before .before .before .before .one-more .ensures) (c .before .before .before .before .before .before .before .before .before .before .before .before .before .before .before .before .before .before .text-size .ensures) (c .before .before .before .before .before .before .before .before .before .before .before .before .before .before .before .before .before .judge .ensures)) (c .before .before .before .before .before .before .before .before .before .before .before .before .before .before .before .a .given .1)) (array-size (c .before .before .before .before .before .before .before .before .before .before .before .before .before .before .before .before .before .before .before .before .before .before .before .before .args .s .now)) in
+    let h : c .before .before .before .before .before .before .before .before .before .before .before .before .before .before .before .before .before .before .before .before .before .before .before .before .args .st .position + (2 + length (sized (some (c .before .before .before .before .before .before .before .before .before .before .before .before .before .before .before .before .before .before .before .before .before .before .before .before .args .s .now)))) ≤ (length (c .before .before .before .before .before .before .before .before .before .before .before .before .before .before .before .before .before .before .before .before .before .before .before .before .args .out .now)) = room (step-accepted (bytesParam (c .before .before .before .before .before .before .before .before .before .before .before .before .before .before .before .before .before .before .before .before .before .before .before .before .args .s .now)) (c .before .before .before .before .before .before .before .before .before .before .before .before .before .before .before .before .before .before .before .before .before .before .before .before .args .st) (c .before .before .before .before .before .before .before .before .before .before .before .before .before .before .before .before .before .before .before .before .before .before .before .before .args .out .now) [] (bytes-answer (seen (c .before .before .before .before .before .before .before .before .before .before .before .before .before .before .before .before .before .before .before .before .before .before .before .before .args .st) []) (length (c .before .before .before .before .before .before .before .before .before .before .before .before .before .before .before .before .before .before .before .before .before .before .before .before .args .out .now)) (c .before .before .before .before .before .before .before .before .before .before .before .before .before .before .before .before .before .before .before .before .before .before .before .before .args .s .now) (c .before .before .before .before .before .before .before .before .before .before .before .before .before .before .before .before .before .before .before .before .before .at-call .ensures) (c .before .before .before .before .before .before .before .before .before .before .before .before .before .before .before .before .before .before .before .before .bytes-fault .ensures) (c .before .before .before .before .before .before .before .before .before .before .before .before .before .before .before .before .before .before .before .one-more .ensures) (c .before .before .before .before .before .before .before .before .before .before .before .before .before .before .before .before .before .before .text-size .ensures) (c .before .before .before .before .before .before .before .before .before .before .before .before .before .before .before .before .before .judge .ensures)) (c .before .before .before .before .before .before .before .before .before .before .before .before .before .before .before .a .given .1)) (array-size (c .before .before .before .before .before .before .before .before .before .before .before .before .before .before .before .before .before .before .before .before .before .before .before .before .args .s .now)) in
     let p = puts-number (c .before .before .before .before .before .before .before .before .before .before .before .before .before .before .before .before .before .before .before .before .before .before .before .before .args .out .now) (c .before .before .before .before .before .before .before .before .before .before .before .before .before .before .before .before .before .before .before .before .before .before .before .before .args .st .position) 1 tArray (omega arith) (c .before .before .before .before .before .before .before .before .before .before .before .before .number-at .ensures) in
     let q = puts-number (c .before .before .before .before .before .before .before .before .before .before .before .before .number-at .last .0) (c .before .before .before .before .before .before .before .before .before .before .before .before .number-at .result) 1 tTinyint (omega arith) (c .before .before .before .before .before .before .before .before .number-at2 .ensures) in
     let r = puts (c .before .before .before .before .before .before .before .before .number-at2 .last .0) (c .before .before .before .before .before .before .before .before .number-at2 .result) (length (sized (some (c .before .before .before .before .before .before .before .before .before .before .before .before .before .before .before .before .before .before .before .before .before .before .before .before .args .s .now)))) (sized (some (c .before .before .before .before .before .before .before .before .before .before .before .before .before .before .before .before .before .before .before .before .before .before .before .before .args .s .now))) refl (omega arith) (c .before .before .before .before .text-at .ensures) in
-    step-taken (bytesParam (c .before .before .before .before .before .before .before .before .before .before .before .before .before .before .before .before .before .before .before .before .before .before .before .before .args .s .now)) (c .before .before .before .before .before .before .before .before .before .before .before .before .before .before .before .before .before .before .before .before .before .before .before .before .args .st) (c .before .before .before .before .before .before .before .before .before .before .before .before .before .before .before .before .before .before .before .before .before .before .before .before .args .out .now) [] (bytes-answer (seen (c .before .before .before .before .before .before .before .before .before .before .before .before .before .before .before .before .before .before .before .before .before .before .before .before .args .st) []) (length (c .before .before .before .before .before .before .before .before .before .before .before .before .before .before .before .before .before .before .before .before .before .before .before .before .args .out .now)) (c .before .before .before .before .before .before .before .before .before .before .before .before .before .before .before .before .before .before .before .before .before .before .before .before .args .s .now) (c .before .before .before .before .before .before .before .before .before .before .before .before .before .before .before .before .before .before .before .before .before .at-call .ensures) (c .before .before .before .before .before .before .before .before .before .before .before .before .before .before .before .before .before .before .before .before .text-fault .ensures) (c .before .before .before .before .before .before .before .before .before .before .before .before .before .before .before .before .before .before .before .one-more .ensures) (c .before .before .before .before .before .before .before .before .before .before .before .before .before .before .before .before .before .before .text-size .ensures) (c .before .before .before .before .before .before .before .before .before .before .before .before .before .before .before .before .before .judge .ensures)) (c .before .before .before .before .before .before .before .before .before .before .before .before .before .before .before .a .given .1) (c .between .ensures) (puts-both p (puts-both q r) .is ∙ sym (ap (λ (bs : List ℕ). put (c .before .before .before .before .before .before .before .before .before .before .before .before .before .before .before .before .before .before .before .before .before .before .before .before .args .out .now) (c .before .before .before .before .before .before .before .before .before .before .before .before .before .before .before .before .before .before .before .before .before .before .before .before .args .st .position) bs) (array-bytes (c .before .before .before .before .before .before .before .before .before .before .before .before .before .before .before .before .before .before .before .before .before .before .before .before .args .s .now))))
+    step-taken (bytesParam (c .before .before .before .before .before .before .before .before .before .before .before .before .before .before .before .before .before .before .before .before .before .before .before .before .args .s .now)) (c .before .before .before .before .before .before .before .before .before .before .before .before .before .before .before .before .before .before .before .before .before .before .before .before .args .st) (c .before .before .before .before .before .before .before .before .before .before .before .before .before .before .before .before .before .before .before .before .before .before .before .before .args .out .now) [] (bytes-answer (seen (c .before .before .before .before .before .before .before .before .before .before .before .before .before .before .before .before .before .before .before .before .before .before .before .before .args .st) []) (length (c .before .before .before .before .before .before .before .before .before .before .before .before .before .before .before .before .before .before .before .before .before .before .before .before .args .out .now)) (c .before .before .before .before .before .before .before .before .before .before .before .before .before .before .before .before .before .before .before .before .before .before .before .before .args .s .now) (c .before .before .before .before .before .before .before .before .before .before .before .before .before .before .before .before .before .before .before .before .before .at-call .ensures) (c .before .before .before .before .before .before .before .before .before .before .before .before .before .before .before .before .before .before .before .before .bytes-fault .ensures) (c .before .before .before .before .before .before .before .before .before .before .before .before .before .before .before .before .before .before .before .one-more .ensures) (c .before .before .before .before .before .before .before .before .before .before .before .before .before .before .before .before .before .before .text-size .ensures) (c .before .before .before .before .before .before .before .before .before .before .before .before .before .before .before .before .before .judge .ensures)) (c .before .before .before .before .before .before .before .before .before .before .before .before .before .before .before .a .given .1) (c .between .ensures) (puts-both p (puts-both q r) .is ∙ sym (ap (λ (bs : List ℕ). put (c .before .before .before .before .before .before .before .before .before .before .before .before .before .before .before .before .before .before .before .before .before .before .before .before .args .out .now) (c .before .before .before .before .before .before .before .before .before .before .before .before .before .before .before .before .before .before .before .before .before .before .before .before .args .st .position) bs) (array-bytes (c .before .before .before .before .before .before .before .before .before .before .before .before .before .before .before .before .before .before .before .before .before .before .before .before .args .s .now))))
 
 pub bytes-param-spec : {M : Type 1} → statement M
 bytes-param-spec =
     tie.close
     (tie.spec
     at-call-requires
-    text-fault-requires
+    bytes-fault-requires
     one-more-requires
     text-size-requires
     add-bytes

@@ -2,6 +2,7 @@
 use mathlib.Core.Path.{sym, ap, _∙_}
 use mathlib.Core.Bool.{true, false}
 use Rattle.format.specs.Format.{block}
+use Rattle.format.specs.Text.{utf8}
 use Rattle.scan.specs.Shown.{shownNext}
 use Rattle.scan.proofs.Answers.{byte-go, byte-stop}
 use Rattle.format.specs.Message.{flagByte, stated, appStated, tripped, afterFlags}
@@ -75,7 +76,7 @@ returns-3 c =
     head-ends timed _ _
     ∙ goes-on (block 8 22) (head-1 timed) _ _ (c .before .before .before .before .before .before .before .before .before .before .before .before .skip-fixed .ensures ∙ sym (block-ends 8 22 _ _)) (c .before .before .before .before .before .before .before .before .before .before .client .given .1)
     ∙ both-ends (flagByte 30) (afterFlags timed) _ _ (flag-fields timed _ _ ∙ go)
-    ∙ halts (stated flags) (head-2 timed flags) _ _ (noted-shows 32 33 true _ _ 1 31 (c .before .before .before .before .has-flag .ensures) (c .before .before .before .skip-noted .ensures)) (c .before .enum-told3 .given .1) (c .next-refusal2 .ensures))
+    ∙ halts (stated flags) (head-2 timed flags) _ _ (noted-shows 32 33 true utf8 _ _ 1 31 (c .before .before .before .before .has-flag .ensures) (c .before .before .before .skip-noted .ensures)) (c .before .enum-told3 .given .1) (c .next-refusal2 .ensures))
 
 has-flag-requires-2 : tie.Need-has-flag-requires-2
 has-flag-requires-2 c κs = search needs
@@ -101,8 +102,8 @@ returns-4 c =
     head-ends timed _ _
     ∙ goes-on (block 8 22) (head-1 timed) _ _ (c .before .before .before .before .before .before .before .before .before .before .before .before .before .before .before .before .before .skip-fixed .ensures ∙ sym (block-ends 8 22 _ _)) (c .before .before .before .before .before .before .before .before .before .before .before .before .before .before .before .client .given .1)
     ∙ both-ends (flagByte 30) (afterFlags timed) _ _ (flag-fields timed _ _ ∙ go)
-    ∙ goes-on (stated flags) (head-2 timed flags) _ _ (noted-shows 32 33 true _ _ 1 31 (c .before .before .before .before .before .before .before .before .before .has-flag .ensures) (c .before .before .before .before .before .before .before .before .skip-noted .ensures)) (c .before .before .before .before .before .before .stated .given .1)
-    ∙ halts (appStated flags) (tripped timed flags) _ _ (noted-shows 35 36 true _ _ 1 34 (c .before .before .before .before .has-flag2 .ensures) (c .before .before .before .skip-noted2 .ensures)) (c .before .enum-told4 .given .1) (c .next-refusal3 .ensures))
+    ∙ goes-on (stated flags) (head-2 timed flags) _ _ (noted-shows 32 33 true utf8 _ _ 1 31 (c .before .before .before .before .before .before .before .before .before .has-flag .ensures) (c .before .before .before .before .before .before .before .before .skip-noted .ensures)) (c .before .before .before .before .before .before .stated .given .1)
+    ∙ halts (appStated flags) (tripped timed flags) _ _ (noted-shows 35 36 true utf8 _ _ 1 34 (c .before .before .before .before .has-flag2 .ensures) (c .before .before .before .skip-noted2 .ensures)) (c .before .enum-told4 .given .1) (c .next-refusal3 .ensures))
 
 has-flag-requires-3 : tie.Need-has-flag-requires-3
 has-flag-requires-3 c κs = search needs
@@ -120,8 +121,8 @@ returns-5 c =
     head-ends timed _ _
     ∙ goes-on (block 8 22) (head-1 timed) _ _ (c .before .before .before .before .before .before .before .before .before .before .before .before .before .before .before .before .before .before .before .skip-fixed .ensures ∙ sym (block-ends 8 22 _ _)) (c .before .before .before .before .before .before .before .before .before .before .before .before .before .before .before .before .before .client .given .1)
     ∙ both-ends (flagByte 30) (afterFlags timed) _ _ (flag-fields timed _ _ ∙ go)
-    ∙ goes-on (stated flags) (head-2 timed flags) _ _ (noted-shows 32 33 true _ _ 1 31 (c .before .before .before .before .before .before .before .before .before .before .before .has-flag .ensures) (c .before .before .before .before .before .before .before .before .before .before .skip-noted .ensures)) (c .before .before .before .before .before .before .before .before .stated .given .1)
-    ∙ goes-on (appStated flags) (tripped timed flags) _ _ (noted-shows 35 36 true _ _ 1 34 (c .before .before .before .before .before .before .has-flag2 .ensures) (c .before .before .before .before .before .skip-noted2 .ensures)) (c .before .before .before .app-stated .given .1))
+    ∙ goes-on (stated flags) (head-2 timed flags) _ _ (noted-shows 32 33 true utf8 _ _ 1 31 (c .before .before .before .before .before .before .before .before .before .before .before .has-flag .ensures) (c .before .before .before .before .before .before .before .before .before .before .skip-noted .ensures)) (c .before .before .before .before .before .before .before .before .stated .given .1)
+    ∙ goes-on (appStated flags) (tripped timed flags) _ _ (noted-shows 35 36 true utf8 _ _ 1 34 (c .before .before .before .before .before .before .has-flag2 .ensures) (c .before .before .before .before .before .skip-noted2 .ensures)) (c .before .before .before .app-stated .given .1))
 
 pub skip-head-spec : {M : Type 1} → statement M
 skip-head-spec =

@@ -5,8 +5,9 @@ use native.Mathlib.Omega.{arith}
 use mathlib.Core.Bool.{true}
 use Rattle.format.specs.declared.Fault.the-variants.{Decimal, Point}
 use Rattle.format.specs.Format.{number, ruled}
+use Rattle.format.specs.Text.{utf8}
 use Rattle.format.specs.Value.{value, string, anything, notEmpty, decimalFine, pointFine}
-use Rattle.scan.proofs.Values.{string-ends, geography-ends, decimal-ends, point-ends}
+use Rattle.scan.proofs.Values.{text-ends, binary-ends, geography-ends, decimal-ends, point-ends}
 use Rattle.quick.specs.Past.{plainOf}
 use Rattle.quick.proofs.Bodies.{plain-past, past-as, string-past}
 use borrow.Author.Needs.{needs}
@@ -24,6 +25,9 @@ add-result-3 c = search needs
 
 add-result-4 : tie.Need-add-result-4
 add-result-4 c = search needs
+
+past-text-requires : tie.Need-past-text-requires
+past-text-requires c κs = search needs
 
 past-body-requires : tie.Need-past-body-requires
 past-body-requires c κs = search needs
@@ -55,25 +59,30 @@ returns-4 c =
 returns-5 : tie.Need-returns-5
 returns-5 c =
     let a = c .before .before .before .args in
-    past-as (a .s .now) (a .at) (c .past-body .result) (string true anything 0 0 .read (a .s .now) (a .at)) (value 0 0 (a .t) .read (a .s .now) (a .at)) (string-ends (a .s .now) (a .at) (a .t) (c .before .match .keys5)) (string-past (a .s .now) (a .at) (c .past-body .result) (c .past-body .ensures))
+    past-as (a .s .now) (a .at) (c .past-text .result) (string true utf8 0 0 .read (a .s .now) (a .at)) (value 0 0 (a .t) .read (a .s .now) (a .at)) (text-ends (a .s .now) (a .at) (a .t) (c .before .match .keys5)) (c .past-text .ensures)
 
 returns-6 : tie.Need-returns-6
 returns-6 c =
     let a = c .before .before .before .args in
-    past-as (a .s .now) (a .at) (c .past-geography .result) (string true notEmpty 0 0 .read (a .s .now) (a .at)) (value 0 0 (a .t) .read (a .s .now) (a .at)) (geography-ends (a .s .now) (a .at) (a .t) (c .before .match .keys6)) (c .past-geography .ensures)
+    past-as (a .s .now) (a .at) (c .past-body .result) (string true anything 0 0 .read (a .s .now) (a .at)) (value 0 0 (a .t) .read (a .s .now) (a .at)) (binary-ends (a .s .now) (a .at) (a .t) (c .before .match .keys6)) (string-past (a .s .now) (a .at) (c .past-body .result) (c .past-body .ensures))
 
 returns-7 : tie.Need-returns-7
 returns-7 c =
     let a = c .before .before .before .args in
-    past-as (a .s .now) (a .at) (c .past-decimal .result) (ruled decimalFine Decimal (number 16 0) .read (a .s .now) (a .at)) (value 0 0 (a .t) .read (a .s .now) (a .at)) (decimal-ends (a .s .now) (a .at) (a .t) (c .before .match .keys7)) (c .past-decimal .ensures)
+    past-as (a .s .now) (a .at) (c .past-geography .result) (string true notEmpty 0 0 .read (a .s .now) (a .at)) (value 0 0 (a .t) .read (a .s .now) (a .at)) (geography-ends (a .s .now) (a .at) (a .t) (c .before .match .keys7)) (c .past-geography .ensures)
 
 returns-8 : tie.Need-returns-8
 returns-8 c =
     let a = c .before .before .before .args in
-    past-as (a .s .now) (a .at) (c .past-point .result) (ruled pointFine Point (number 16 0) .read (a .s .now) (a .at)) (value 0 0 (a .t) .read (a .s .now) (a .at)) (point-ends (a .s .now) (a .at) (a .t) (c .before .match .keys8)) (c .past-point .ensures)
+    past-as (a .s .now) (a .at) (c .past-decimal .result) (ruled decimalFine Decimal (number 16 0) .read (a .s .now) (a .at)) (value 0 0 (a .t) .read (a .s .now) (a .at)) (decimal-ends (a .s .now) (a .at) (a .t) (c .before .match .keys8)) (c .past-decimal .ensures)
 
 returns-9 : tie.Need-returns-9
-returns-9 c = λ there. absurd (omega arith)
+returns-9 c =
+    let a = c .before .before .before .args in
+    past-as (a .s .now) (a .at) (c .past-point .result) (ruled pointFine Point (number 16 0) .read (a .s .now) (a .at)) (value 0 0 (a .t) .read (a .s .now) (a .at)) (point-ends (a .s .now) (a .at) (a .t) (c .before .match .keys9)) (c .past-point .ensures)
+
+returns-10 : tie.Need-returns-10
+returns-10 c = λ there. absurd (omega arith)
 
 pub past-value-spec : {M : Type 1} → statement M
 past-value-spec =
@@ -83,6 +92,7 @@ past-value-spec =
     add-result-2
     add-result-3
     add-result-4
+    past-text-requires
     past-body-requires
     past-geography-requires
     past-decimal-requires
@@ -95,4 +105,5 @@ past-value-spec =
     returns-6
     returns-7
     returns-8
-    returns-9)
+    returns-9
+    returns-10)

@@ -2,7 +2,8 @@
 use mathlib.Core.Path.{_∙_}
 use mathlib.Core.Option.{none}
 use mathlib.Core.Bool.{true, false}
-use Rattle.format.specs.Value.{anything, textRule}
+use Rattle.format.specs.Text.{utf8}
+use Rattle.format.specs.Value.{anything}
 use Rattle.format.specs.Message.{binary, nullText}
 use Rattle.format.proofs.Laws.{lawful-number}
 use Rattle.tour.proofs.Tours.{bytes-all}
@@ -46,8 +47,8 @@ returns c =
     let a = c .before .before .before .before .before .before .before .before .before .before .before .before .before .before .before .before .before .before .before .before .before .before .before .before .before .before .before .before .before .args in
     let s = a .s .now in
     let b = bytes-all s (c .before .before .before .before .before .before .before .before .before .before .before .before .before .before .before .before .before .before .before .before .before .before .before .before .before .before .before .before .shared-slice-known .given) in
-    walked-then s b (lawful-noted 1 31 _ true textRule 32 33) (walked-then s b (lawful-number 1 31) (c .before .before .before .before .before .before .before .before .before .before .before .before .before .before .before .before .before .before .before .before .before .before .before .before .before .walk-fixed .ensures) (walked-if none (nullText 32 33) (c .before .before .before .before .before .before .before .before .before .before .before .before .before .before .before .before .before .before .before .before .before .has-flag .ensures) ((c .before .before .before .before .before .before .before .before .before .before .before .before .before .before .before .before .before .before .before .before .walk-optional .ensures) true textRule)))
-    (walked-then s b (lawful-noted 1 34 _ true textRule 35 36) (walked-then s b (lawful-number 1 34) (c .before .before .before .before .before .before .before .before .before .before .before .before .before .before .before .before .walk-fixed2 .ensures) (walked-if none (nullText 35 36) (c .before .before .before .before .before .before .before .before .before .before .before .before .has-flag2 .ensures) ((c .before .before .before .before .before .before .before .before .before .before .before .walk-optional2 .ensures) true textRule)))
+    walked-then s b (lawful-noted 1 31 _ true utf8 32 33) (walked-then s b (lawful-number 1 31) (c .before .before .before .before .before .before .before .before .before .before .before .before .before .before .before .before .before .before .before .before .before .before .before .before .before .walk-fixed .ensures) (walked-if none (nullText 32 33) (c .before .before .before .before .before .before .before .before .before .before .before .before .before .before .before .before .before .before .before .before .before .has-flag .ensures) ((c .before .before .before .before .before .before .before .before .before .before .before .before .before .before .before .before .before .before .before .before .walk-optional .ensures) true utf8)))
+    (walked-then s b (lawful-noted 1 34 _ true utf8 35 36) (walked-then s b (lawful-number 1 34) (c .before .before .before .before .before .before .before .before .before .before .before .before .before .before .before .before .walk-fixed2 .ensures) (walked-if none (nullText 35 36) (c .before .before .before .before .before .before .before .before .before .before .before .before .has-flag2 .ensures) ((c .before .before .before .before .before .before .before .before .before .before .before .walk-optional2 .ensures) true utf8)))
     (walked-then s b (lawful-trip (a .timed)) (c .before .before .before .before .before .before .before .walk-trip .ensures) (walked-if none (binary 38 39) (c .before .before .before .has-flag3 .ensures) ((c .before .before .walk-optional3 .ensures) false anything))))
 
 pub walk-flagged-spec : {M : Type 1} → statement M

@@ -1,6 +1,6 @@
 -- `tour::walk_login` meets its contract: field after field. Assumes nothing.
 use mathlib.Core.Bool.{false}
-use Rattle.format.specs.Value.{textRule}
+use Rattle.format.specs.Text.{utf8}
 use Rattle.tour.proofs.Tours.{bytes-all, walked-block}
 use Rattle.tour.proofs.Values.{lawful-string}
 use Rattle.tour.proofs.Contents.{walked-then}
@@ -24,8 +24,8 @@ returns : tie.Need-returns
 returns c =
     let a = c .before .before .before .before .before .before .before .before .before .before .before .before .before .before .args in
     let b = bytes-all (a .s .now) (c .before .before .before .before .before .before .before .before .before .before .before .before .before .shared-slice-known .given) in
-    walked-then (a .s .now) b (lawful-string false textRule 4 5) ((c .before .before .before .before .before .before .before .before .before .before .walk-body .ensures) false textRule)
-    (walked-then (a .s .now) b (lawful-string false textRule 6 7) ((c .before .before .before .before .before .before .walk-body2 .ensures) false textRule) (walked-block (a .s .now) (a .size) 8 (c .before .before .walk-fixed .ensures)))
+    walked-then (a .s .now) b (lawful-string false utf8 4 5) ((c .before .before .before .before .before .before .before .before .before .before .walk-body .ensures) false utf8)
+    (walked-then (a .s .now) b (lawful-string false utf8 6 7) ((c .before .before .before .before .before .before .walk-body2 .ensures) false utf8) (walked-block (a .s .now) (a .size) 8 (c .before .before .walk-fixed .ensures)))
 
 pub walk-login-spec : {M : Type 1} → statement M
 walk-login-spec =

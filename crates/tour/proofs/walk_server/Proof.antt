@@ -1,7 +1,7 @@
 -- `tour::walk_server` meets its contract: field after field. Assumes nothing.
 use mathlib.Core.Path.{_∙_}
 use mathlib.Core.Bool.{false}
-use Rattle.format.specs.Value.{textRule}
+use Rattle.format.specs.Text.{utf8}
 use Rattle.format.proofs.Laws.{lawful-number}
 use Rattle.tour.proofs.Tours.{bytes-all}
 use Rattle.tour.proofs.Contents.{walked-then, walked-server}
@@ -33,7 +33,7 @@ returns c =
     let s = a .s .now in
     let b = bytes-all (a .s .now) (c .before .before .before .before .before .before .before .before .before .before .before .before .before .before .before .before .before .before .before .before .before .shared-slice-known .given) in
     walked-server s b (walked-then s b (lawful-number 4 11) (c .before .before .before .before .before .before .before .before .before .before .before .before .before .before .before .before .before .before .walk-fixed .ensures) (walked-then s b (lawful-number 8 12) (c .before .before .before .before .before .before .before .before .before .before .before .before .before .before .walk-fixed2 .ensures)
-    (walked-then s b (lawful-number 8 13) (c .before .before .before .before .before .before .before .before .before .before .walk-fixed3 .ensures) (walked-then s b (lawful-number 4 14) (c .before .before .before .before .before .before .walk-fixed4 .ensures) ((c .before .before .walk-body .ensures) false textRule)))))
+    (walked-then s b (lawful-number 8 13) (c .before .before .before .before .before .before .before .before .before .before .walk-fixed3 .ensures) (walked-then s b (lawful-number 4 14) (c .before .before .before .before .before .before .walk-fixed4 .ensures) ((c .before .before .walk-body .ensures) false utf8)))))
 
 pub walk-server-spec : {M : Type 1} → statement M
 walk-server-spec =

@@ -1,10 +1,11 @@
--- `write::body_fault` meets its contract: the type, the length's limit, then a geography's rule. Assumes nothing.
+-- `write::body_fault` meets its contract: the type, and then its bytes, if it isn't null. Assumes nothing.
 use mathlib.Core.Path.{sym, ap, ap₂, _∙_}
 use mathlib.Core.Bool.{Bool}
 use Rattle.format.specs.declared.Fault.the-variants.{WireType}
+use Rattle.format.specs.Value.{isCounted}
 use Rattle.steps.specs.Plans.{test, also}
 use Rattle.steps.specs.Arguments.{valueFault}
-use Rattle.write.proofs.Bytes.{body-fault}
+use Rattle.write.proofs.Bytes.{also-none}
 use borrow.Author.Needs.{needs}
 use Rattle.write.proofs.body_fault.Statement.{statement}
 use Rattle.write.proofs.body_fault.Tie as tie
@@ -15,24 +16,24 @@ is-counted-requires c κs = search needs
 test-requires : tie.Need-test-requires
 test-requires c κs = search needs
 
-null-text-fault-requires : tie.Need-null-text-fault-requires
-null-text-fault-requires c κs = search needs
+returns : tie.Need-returns
+unfolding valueFault
+returns c =
+    let a = c .before .before .before .before .args in
+    c .before .test .ensures ∙ ap (λ (b : Bool). test b WireType (a .at)) (c .before .before .is-counted .ensures) ∙ sym (rw (c .if1 .taken) (also-none (test (isCounted (a .t)) WireType (a .at))))
 
-empty-fault-requires : tie.Need-empty-fault-requires
-empty-fault-requires c κs = search needs
+ruled-fault-requires : tie.Need-ruled-fault-requires
+ruled-fault-requires c κs = search needs
 
 also-requires : tie.Need-also-requires
 also-requires c κs = search needs
 
-also-requires-2 : tie.Need-also-requires-2
-also-requires-2 c κs = search needs
-
-returns : tie.Need-returns
+returns-2 : tie.Need-returns-2
 unfolding valueFault
-returns c =
-    let a = c .before .before .before .before .before .before .before .args in
-    c .also2 .ensures ∙ ap₂ also (c .before .before .before .before .test .ensures ∙ ap (λ (b : Bool). test b WireType (a .at)) (c .before .before .before .before .before .is-counted .ensures))
-    (c .before .also .ensures ∙ ap₂ also (c .before .before .before .null-text-fault .ensures) (c .before .before .empty-fault .ensures) ∙ sym (body-fault (a .at) (a .t) (a .null) (a .s .now)))
+returns-2 c =
+    let a = c .before .before .before .before .before .before .args in
+    c .also .ensures ∙ ap₂ also (c .before .before .before .test .ensures ∙ ap (λ (b : Bool). test b WireType (a .at)) (c .before .before .before .before .is-counted .ensures)) (c .before .ruled-fault .ensures)
+    ∙ sym (rw (c .before .before .if1 .left))
 
 pub body-fault-spec : {M : Type 1} → statement M
 body-fault-spec =
@@ -40,8 +41,7 @@ body-fault-spec =
     (tie.spec
     is-counted-requires
     test-requires
-    null-text-fault-requires
-    empty-fault-requires
+    returns
+    ruled-fault-requires
     also-requires
-    also-requires-2
-    returns)
+    returns-2)

@@ -1,0 +1,73 @@
+-- `text::is_long_ascii` meets its contract: the bytes before the place that is looked at are all ASCII; the last 16 join them. Assumes nothing.
+use mathlib.Core.Path.{_≡_, sym, subst}
+use mathlib.Core.Bool.{true≢false}
+use Prim.Native.Nat.{ℕ, _+_, _-_, _≤_}
+use lib.ListN.{length}
+use native.Mathlib.Omega.{arith}
+use borrow.Author.Tests.{not-false}
+use Rattle.text.specs.Shown.{LowRun}
+use Rattle.text.proofs.Runs.{low-none, low-join}
+use borrow.Author.Needs.{needs}
+use Rattle.text.proofs.is_long_ascii.Statement.{statement}
+use Rattle.text.proofs.is_long_ascii.Tie as tie
+
+abbrev Inv-loop : tie.InvT-loop
+Inv-loop b i₀ i = (i ≤ length b) × LowRun b 0 i
+
+abbrev μ-loop : tie.MeasureT-loop
+μ-loop b i₀ i = length b - i
+
+loop-holds : tie.Need-loop-holds Inv-loop μ-loop
+loop-holds c = (omega arith, low-none (c .before .args .b .now) 0)
+
+add-loop : tie.Need-add-loop Inv-loop μ-loop
+add-loop c = search needs
+
+are-low-requires : tie.Need-are-low-requires Inv-loop μ-loop
+are-low-requires c κs = search needs
+
+returns : tie.Need-returns Inv-loop μ-loop
+returns c = λ e. absurd (true≢false (sym e))
+
+add-i : tie.Need-add-i Inv-loop μ-loop
+add-i c = search needs
+
+loop-less : tie.Need-loop-less Inv-loop μ-loop
+loop-less c = search needs
+
+loop-again : tie.Need-loop-again Inv-loop μ-loop
+loop-again c =
+    let l = c .before .before .before .loop in
+    let b = c .before .before .before .before .before .args .b .now in
+    (omega (arith, c .before .before .loop-test .taken), low-join b (l .i) (l .i) 16 (omega arith) (l .inv .1) (c .before .are-low .ensures (not-false _ (c .if1 .left))))
+
+sub-are-low : tie.Need-sub-are-low Inv-loop μ-loop
+sub-are-low c = search needs
+
+are-low-requires-2 : tie.Need-are-low-requires-2 Inv-loop μ-loop
+are-low-requires-2 c κs = search needs
+
+returns-2 : tie.Need-returns-2 Inv-loop μ-loop
+returns-2 c =
+    let l = c .before .before .loop in
+    let s = c .before .before .before .before in
+    let b = s .args .b .now in
+    let end : length b - 16 + 16 ≡ length b = omega (arith, s .pre) in
+    λ e. subst (LowRun b 0) end (low-join b (l .i) (length b - 16) 16 (omega (arith, c .before .loop-test .left)) (l .inv .1) (c .are-low2 .ensures e))
+
+pub is-long-ascii-spec : {M : Type 1} → statement M
+is-long-ascii-spec =
+    tie.close
+    (tie.spec
+    Inv-loop
+    μ-loop
+    loop-holds
+    add-loop
+    are-low-requires
+    returns
+    add-i
+    loop-less
+    loop-again
+    sub-are-low
+    are-low-requires-2
+    returns-2)
