@@ -137,13 +137,13 @@ module _ {A : Type 0} (at-index : ℕ → Index → Index) (f : Format A) where
       ((g .0, w .0), (w .1 .0, append-assoc (f .bytes a) _ _ ∙ ap (λ (z : List ℕ). f .bytes a ++ z) (w .1 .1)))
 
   pub some-lands : Lawful f → {s : List ℕ} {at : ℕ} (n i : ℕ) (l : List A) → i ≤ n → Stands (each at-index 0 (replicate n f)) s at l
-      → shownNext (each at-index 0 (replicate i f) .read s at) ≡ Next.At (at + total f (take i l))
+      → each at-index 0 (replicate i f) .read s at ≡ ok (take i l, at + total f (take i l))
   some-lands law {s} {at} n i l h d =
       let w = some-front 0 n i l h (d .good) in
       let there : Stands (each at-index 0 (replicate i f)) s at (take i l)
       = record { good = w .0; before = d .before; after = w .1 .0 ++ d .after; whole = rw (← append-assoc (each at-index 0 (replicate i f) .bytes (take i l)), w .1 .1) (d .whole); start = d .start } in
       let size : length (each at-index 0 (replicate i f) .bytes (take i l)) ≡ total f (take i l) = length-total at-index 0 i f (take i l) (short i l) in
-      ap shownNext (stands-read (lawful-each at-index 0 (replicate i f) (all-replicate i law)) there) ∙ ap (λ (x : ℕ). Next.At (at + x)) size
+      stands-read (lawful-each at-index 0 (replicate i f) (all-replicate i law)) there ∙ ap (λ (x : ℕ). ok (take i l, at + x)) size
 
 -- a format whose values have the bytes of a counted body
 pub record Sized {A : Type 0} (f : Format A) : Type 0 where

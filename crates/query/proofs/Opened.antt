@@ -15,13 +15,13 @@ use Rattle.format.specs.Format.{number, each}
 use Rattle.format.specs.Message.{first, third, head, Table, table, Message, response-of, responseLayout, readMessage}
 use Rattle.format.proofs.Results.{ok-same, no-ok, bound}
 use Rattle.format.proofs.Formats.{lawful-head, lawful-value}
-use Rattle.scan.specs.declared.Next.{Next}
-use Rattle.scan.proofs.Values.{value-fields}
 use Rattle.show.specs.declared.Cell.{Cell}
-use Rattle.show.specs.Cells.{cellOf, shownAs}
+use Rattle.show.specs.Cells.{cellOf, unruled, shownAs}
+use Rattle.show.proofs.Values.{unruled-reads}
 use Rattle.scan.specs.Shown.{shownNext, shownNumber, numberIn}
 use Rattle.message.specs.declared.Verdict.{Verdict}
 use Rattle.message.specs.Verdict.{toldVerdict, verdictOf}
+use Rattle.pass.specs.Passes.{Passes}
 use Rattle.places.specs.Stands.{Stands}
 use Rattle.places.specs.Places.{nameBytes, tablesOf, tableAt, typeAt, nameAt, rowAt}
 use Rattle.places.specs.Entries.{entry, Here, cellHere}
@@ -67,17 +67,17 @@ module _ {A : Type 0} (kind : ℕ) (m : List ℕ) where
 
 module _ (timed : Bool) (m : List ℕ) (b : Bytes m) (p : Message) (accepted : readMessage (responseLayout timed) m ≡ ok p) where
   -- what comes before the table count ends there
-  head-ends : pastOf (shownNext (head timed .read m 5)) ≡ 5 + headSize timed (response-of (p .content))
-  head-ends = rw (stands-read (lawful-head timed) (head-stands timed (response-stands timed m b p accepted)))
+  head-ends : {counted : ℕ} → Passes (head timed) m 5 counted → counted ≡ 5 + headSize timed (response-of (p .content))
+  head-ends e = e .ends _ _ (stands-read (lawful-head timed) (head-stands timed (response-stands timed m b p accepted)))
 
-  pub tables-is : (counted : ℕ) {n : ℕ} → counted ≡ pastOf (shownNext (head timed .read m 5)) → n ≡ numberIn (shownNumber (number 2 0 .read m counted)) → n ≡ length (tablesOf p)
-  tables-is counted e f = count-is m 2 40 counted f (e ∙ head-ends) (table-count-stands timed m b p accepted)
+  pub tables-is : (counted : ℕ) {n : ℕ} → Passes (head timed) m 5 counted → n ≡ numberIn (shownNumber (number 2 0 .read m counted)) → n ≡ length (tablesOf p)
+  tables-is counted e f = count-is m 2 40 counted f (head-ends e) (table-count-stands timed m b p accepted)
 
-  pub table-at-is : (t counted from : ℕ) {at : ℕ} → t < length (tablesOf p) → counted ≡ pastOf (shownNext (head timed .read m 5))
+  pub table-at-is : (t counted from : ℕ) {at : ℕ} → t < length (tablesOf p) → Passes (head timed) m 5 counted
       → from ≡ pastOf (shownNext (number 2 0 .read m counted)) → at ≡ pastOf (shownNext (each first 0 (replicate t sized) .read m from)) → at ≡ tableAt timed p t
   table-at-is t counted from h e f g =
       let fit = stands-fits (table-count-stands timed m b p accepted) in
-      let from-is : from ≡ 5 + headSize timed (response-of (p .content)) + 2 = after-is m 2 counted f (e ∙ head-ends) (omega (arith, length-number 2 40 (length (tablesOf p)))) in
+      let from-is : from ≡ 5 + headSize timed (response-of (p .content)) + 2 = after-is m 2 counted f (head-ends e) (omega (arith, length-number 2 40 (length (tablesOf p)))) in
       over-is m sized-table first (length (tablesOf p)) t (tablesOf p) from g from-is (omega arith) (tables-stand timed m b p accepted) ∙ sym (table-place timed p t)
 
   -- a table past the end, and one that is there
@@ -215,7 +215,7 @@ pub record Spotted (timed : Bool) (m : List ℕ) (t k c : ℕ) (spot : Spot) : T
   pub here : Here
   pub there : ofTable timed m t (λ at b. bind (cellHere at b k c) (λ h. ok h)) ≡ ok here
   pub is : spot ≡ spotOf here
-  pub reads : value 0 0 (here .type) .read m (here .at) ≡ ok (here .value, here .at + length (value 50 51 (here .type) .bytes (here .value)))
+  pub reads : value 50 51 (here .type) .read m (here .at) ≡ ok (here .value, here .at + length (value 50 51 (here .type) .bytes (here .value)))
 
 module _ (timed : Bool) (m : List ℕ) (t k c : ℕ) where
   -- what is asked of a cell follows from the cell
@@ -238,7 +238,7 @@ module _ (timed : Bool) (m : List ℕ) (t k c : ℕ) where
         here = w .here;
         there = opened ∙ found ∙ ap (λ (z : Res Here). bind z (λ h. ok h)) (w .is);
         is = sym (ok-same (h .2)) ∙ ap spotOf (sym same);
-        reads = sym (value-fields m (w .here .at) 50 51 type) ∙ stands-read (lawful-value 50 51 type) (w .stands);
+        reads = stands-read (lawful-value 50 51 type) (w .stands);
       }
 
   pub not-spotted : {A : Type 0} (ask : Here → Res A) {f : Fault} {p : ℕ} → no f p ≡ ofTable timed m t (λ at b. bind (cellHere at b k c) (λ h. ok (spotOf h)))
@@ -254,14 +254,16 @@ module _ (timed : Bool) (m : List ℕ) (t k c : ℕ) where
     asked-spot ask = sym (ap (λ (r : Res Here). bind r ask) (w .there)) ∙ asked-here ask
 
     -- what is shown of it, and where it ends
-    pub spot-shown : {cell : Cell} → cell ≡ cellIn (shownAs (cellOf (spot .«wire_type») (spot .at)) (value 0 0 (spot .«wire_type») .read m (spot .at)))
+    pub spot-shown : {cell : Cell} → cell ≡ cellIn (shownAs (cellOf (spot .«wire_type») (spot .at)) (unruled (spot .«wire_type») .read m (spot .at)))
         → ok (record { cell = cell; «type_at» = spot .«type_at» }) ≡ ofTable timed m t (λ at b. bind (cellHere at b k c) (λ h. ok (shownOf h)))
     spot-shown {cell} e =
-        let shows : cell ≡ shownHere (w .here) = e ∙ rw (w .is, w .reads) in
+        let shows : cell ≡ shownHere (w .here) = e ∙ rw (w .is, unruled-reads m (w .here .at) 50 51 (w .here .type) (w .reads)) in
         rw (w .is, shows) (asked-spot (λ h. ok (shownOf h)))
 
-    pub spot-ends : {next : Next} {«end» : ℕ} → next ≡ shownNext (value 0 0 (spot .«wire_type») .read m (spot .at)) → «end» ≡ pastOf next → «end» ≡ spot .at + placeHere (w .here) .1
-    spot-ends e f = f ∙ ap pastOf e ∙ rw (w .is, w .reads)
+    pub spot-ends : {«end» : ℕ} → Passes (value 50 51 (spot .«wire_type»)) m (spot .at) «end» → «end» ≡ spot .at + placeHere (w .here) .1
+    spot-ends {«end»} e =
+        let passes : Passes (value 50 51 (w .here .type)) m (w .here .at) «end» = rw (w .is) at e in
+        rw (w .is) (passes .ends _ _ (w .reads))
 
     pub spot-placed : {size : ℕ} → size ≡ placeHere (w .here) .1 → ok (some (spot .at, size)) ≡ ofTable timed m t (λ at b. bind (cellHere at b k c) (λ h. ok (some (placeHere h))))
     spot-placed e = rw (w .is, e) (asked-spot (λ h. ok (some (placeHere h))))

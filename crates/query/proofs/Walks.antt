@@ -13,6 +13,7 @@ use Rattle.format.proofs.Laws.{lawful-number, lawful-each, all-map, length-each
 use Rattle.format.proofs.Formats.{lawful-value}
 use Rattle.scan.specs.Shown.{shownNext, shownNumber, shownByte, numberIn, byteIn}
 use Rattle.scan.proofs.Params.{number-fields}
+use Rattle.pass.specs.Passes.{Passes}
 use Rattle.places.specs.Stands.{Stands}
 use Rattle.places.specs.Places.{nameBytes, typeAt, nameAt, rowAt, cellAt}
 use Rattle.places.specs.Entries.{cellHere}
@@ -25,7 +26,6 @@ use Rattle.query.specs.Answers.{layoutOf, columnOf}
 use Rattle.query.specs.declared.TableLayout.{TableLayout}
 use Rattle.query.specs.declared.Spot.{Spot}
 use Rattle.query.specs.declared.ColumnLayout.{ColumnLayout}
-use Rattle.scan.specs.declared.Next.{Next}
 use Rattle.format.specs.Result.{ok, bind}
 use Rattle.format.specs.Value.{value}
 
@@ -101,16 +101,15 @@ module _ (m : List ℕ) {at : ℕ} {b : Table} (d : Stands table m at b) (k c : 
   same-spot : {w₁ w₂ p₁ p₂ q₁ q₂ : ℕ} → w₁ ≡ w₂ → p₁ ≡ p₂ → q₁ ≡ q₂ → _≡_ {A = Spot} (record { «wire_type» = w₁; «type_at» = p₁; at = q₁ }) (record { «wire_type» = w₂; «type_at» = p₂; at = q₂ })
   same-spot w p q = rw (w, p, q)
 
-  pub spot-is : (types rows : ℕ) {type-at wire-type row-at cells next : ℕ} {front : Next} → types ≡ typeAt at (b .metadata) 0 → rows ≡ rowAt at b 0
+  pub spot-is : (types rows : ℕ) {type-at wire-type row-at cells next : ℕ} → types ≡ typeAt at (b .metadata) 0 → rows ≡ rowAt at b 0
       → type-at ≡ pastOf (shownNext (number c 0 .read m types))
       → wire-type ≡ byteIn (shownByte (number 1 0 .read m type-at))
       → row-at ≡ pastOf (shownNext (each first 0 (replicate k sized) .read m rows))
       → cells ≡ pastOf (shownNext (number 4 0 .read m row-at))
-      → front ≡ shownNext (each third 0 (map (value 50 51) (take c (drop types m))) .read m cells)
-      → next ≡ pastOf front
+      → Passes (each third 0 (map (value 50 51) (take c (drop types m)))) m cells next
       → ok (record { «wire_type» = wire-type; «type_at» = type-at; at = next }) ≡ bind (cellHere at b k c) (λ h. ok (spotOf h))
   unfolding total
-  spot-is types rows {type-at} {wire-type} {row-at} {cells} {next} {front} t₀ r₀ e₁ e₂ e₃ e₄ e₅ e₆ =
+  spot-is types rows {type-at} {wire-type} {row-at} {cells} {next} t₀ r₀ e₁ e₂ e₃ e₄ e₅ =
       let md = metadata-stands d in
       let l = b .metadata .types in
       let vs = entry-in (b .rows) k in-rows in
@@ -130,9 +129,10 @@ module _ (m : List ℕ) {at : ℕ} {b : Table} (d : Stands table m at b) (k c : 
       let part : take c (drop types m) ≡ take c l = rw types-is (types-part (length l) l c (omega arith) (types-stand md)) in
       let first-cells = stands-front third (value 50 51) 0 l (vs .0) c inner in
       let law = lawful-each third 0 (map (value 50 51) (take c l)) (all-map (value 50 51) (lawful-value 50 51) (take c l)) in
-      let reads : front ≡ Next.At (cellAt (rowAt at b k) l (vs .0) c)
-      = e₅ ∙ rw (part, cells-is, stands-read law first-cells, cell-place (rowAt at b k) l (vs .0) c, front-bytes third (value 50 51) 0 l (vs .0) c) in
-      rw (vs .1, ty .1, v .1) (ap ok (same-spot (byte-is m 45 type-at e₂ type-at-is typed) (omega (arith, type-place at (b .metadata) c (omega arith))) (e₆ ∙ ap pastOf reads)))
+      let passes : Passes (each third 0 (map (value 50 51) (take c l))) m (rowAt at b k + 4) next = rw (part, cells-is) at e₅ in
+      let next-is : next ≡ cellAt (rowAt at b k) l (vs .0) c
+      = passes .ends _ _ (stands-read law first-cells) ∙ rw (cell-place (rowAt at b k) l (vs .0) c, front-bytes third (value 50 51) 0 l (vs .0) c) in
+      rw (vs .1, ty .1, v .1) (ap ok (same-spot (byte-is m 45 type-at e₂ type-at-is typed) (omega (arith, type-place at (b .metadata) c (omega arith))) next-is))
 
 -- a column, step by step
 module _ (m : List ℕ) {at : ℕ} {b : Table} (d : Stands table m at b) (c : ℕ) (in-types : c < length (b .metadata .types)) where

@@ -22,7 +22,8 @@ ghost use Rattle.format.specs.Format.{number, each, counted};
 ghost use Rattle.format.specs.Value.{string, anything, ascii, value, tTinyint};
 ghost use Rattle.format.specs.Message.{first, third, unlimited, Message, readMessage, responseLayout, head, Table, table, Param, param};
 ghost use Rattle.scan.specs.Shown.{shownNext, shownNumber, numberIn, refusal};
-ghost use Rattle.show.specs.Cells.{cellOf, shownAs};
+ghost use Rattle.show.specs.Cells.{cellOf, unruled, shownAs};
+ghost use Rattle.pass.specs.Passes.{Passes};
 ghost use Rattle.places.specs.Stands.{Stands};
 ghost use Rattle.places.specs.Places.{tablesOf, tableAt, typeAt, nameAt, rowAt, paramsOf, paramAt};
 ghost use Rattle.places.specs.Entries.{entry, cellHere, valueHere, elementOf};
@@ -135,7 +136,7 @@ fn count_at(m: &[u8], at: usize, k: usize) -> usize
 }
 
 fn value_at(m: &[u8], at: usize, t: u8) -> show::Cell
-    ensures { λ r. ⌜ r ≡ cellIn (shownAs (cellOf t at) (value 0 0 t .read (now (m .entry)) at)) ⌝ }
+    ensures { λ r. ⌜ r ≡ cellIn (shownAs (cellOf t at) (unruled t .read (now (m .entry)) at)) ⌝ }
 {
     cell_in(show::read_value(m, at, t))
 }
@@ -189,9 +190,9 @@ fn wrong_type(place: usize) -> Refusal
 
 // Where the count of a response's tables stands; here and below, timed says whether the response has its round trip.
 fn tables_counted(m: &[u8], timed: bool) -> usize
-    ensures { λ r. ⌜ r ≡ pastOf (shownNext (head timed .read (now (m .entry)) 5)) ⌝ }
+    ensures { λ r. ⌜ Passes (head timed) (now (m .entry)) 5 r ⌝ }
 {
-    past(message::skip_head(m, 5, timed))
+    pass::pass_head(m, 5, timed)
 }
 
 fn count_tables(m: &[u8], timed: bool) -> Answer
@@ -423,12 +424,12 @@ struct Spot {
 }
 
 // Past the first c cells of a row, by the types that stand at a place.
-fn skip_front(m: &[u8], from: usize, types: usize, c: usize) -> Next
+fn pass_front(m: &[u8], from: usize, types: usize, c: usize) -> usize
     requires { ⌜ types + c ≤ length (now m) ⌝ }
-    ensures { λ r. ⌜ r ≡ shownNext (each third 0 (map (value 50 51) (take c (drop types (now (m .entry))))) .read (now (m .entry)) from) ⌝ }
+    ensures { λ r. ⌜ Passes (each third 0 (map (value 50 51) (take c (drop types (now (m .entry)))))) (now (m .entry)) from r ⌝ }
 {
     let end = types + c;
-    scan::skip_cells(m, from, &m[types..end])
+    pass::pass_cells(m, from, &m[types..end])
 }
 
 // The cell at row k and column c of a table, by where its types and rows begin.
@@ -441,7 +442,7 @@ fn spot_at(m: &[u8], types: usize, rows: usize, k: usize, c: usize) -> Spot
     let wire_type = scan::byte_at(m, type_at);
     let row = over(m, rows, k);
     let cells = after(m, row, 4);
-    let at = past(skip_front(m, cells, types, c));
+    let at = pass_front(m, cells, types, c);
     Spot {
         wire_type,
         type_at,
@@ -571,7 +572,7 @@ pub fn cell_place(m: &[u8], t: usize, k: usize, c: usize) -> Part
     match found {
         FoundSpot::No(r) => Part::No(r),
         FoundSpot::Is(spot) => {
-            let end = past(scan::skip_value(m, spot.at, spot.wire_type));
+            let end = pass::pass_value(m, spot.at, spot.wire_type);
             Part::Is(spot.at, end - spot.at)
         }
     }
@@ -589,7 +590,7 @@ fn param_in(m: &[u8], p: usize) -> Answer
         return Answer::No(PAST_END);
     }
     let first = after(m, counted, 2);
-    Answer::Is(past(scan::skip_params(m, first, p)))
+    Answer::Is(pass::pass_params(m, first, p))
 }
 
 fn find_param(m: &[u8], p: usize) -> Answer
@@ -684,7 +685,7 @@ fn element_at(m: &[u8], at: usize, e: usize) -> FoundCell
         return FoundCell::No(PAST_END);
     }
     let first = after(m, counted, width);
-    let cell = value_at(m, past(scan::skip_values(m, first, t, e)), t);
+    let cell = value_at(m, pass::pass_values(m, first, t, e), t);
     FoundCell::Is(ShownCell { cell, type_at })
 }
 

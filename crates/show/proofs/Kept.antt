@@ -13,7 +13,8 @@ use borrow.Author.Tests.{eqb-true}
 use Rattle.format.specs.Result.{Res, ok, no, bind, pick}
 use Rattle.format.specs.Number.{Bytes}
 use Rattle.format.specs.Format.{Verdict, number, ruled, into, counted}
-use Rattle.format.specs.Value.{Value, fixed, body, number-of, body-of, string, value, isColumn, mostBytes, anything, notEmpty, textRule, degrees360, isNullPoint, pointFine}
+use Rattle.format.specs.Text.{utf8}
+use Rattle.format.specs.Value.{Value, fixed, body, number-of, body-of, string, value, isColumn, mostBytes, anything, notEmpty, degrees360, isNullPoint, pointFine}
 use Rattle.format.proofs.Results.{bound, ok-same, no-ok}
 use Rattle.format.proofs.Formats.{lawful-value}
 use Rattle.scan.specs.Shown.{refusal}
@@ -125,7 +126,7 @@ module _ (s : List ℕ) (bytes : Bytes s) (at : ℕ) where
       (λ g e. absurd (no-body (g .1))) (λ g e. absurd (no-body (g .1))) (λ g e. (refl, refl)) (λ g e. absurd (no-body (g .1))) (λ g e. (refl, refl)) t
   body-read l b t (some bs) next =
       among (λ t. value l b t .Good (body (some bs)) → value l b t .read s at ≡ ok (body (some bs), next) → Keeps s t at (body (some bs)))
-      (λ g e. absurd (no-body (g .1))) (λ g e. absurd (no-body (g .1))) (λ g e. absurd (no-body (g .1))) (λ g e. absurd (no-body (g .1))) (λ g e. absurd (no-body (g .1))) (λ g e. (some-kept textRule l b bs next e, refl))
+      (λ g e. absurd (no-body (g .1))) (λ g e. absurd (no-body (g .1))) (λ g e. absurd (no-body (g .1))) (λ g e. absurd (no-body (g .1))) (λ g e. absurd (no-body (g .1))) (λ g e. (some-kept utf8 l b bs next e, refl))
       (λ g e. absurd (no-body (g .1))) (λ g e. absurd (no-body (g .1))) (λ g e. (some-kept anything l b bs next e, refl)) (λ g e. absurd (no-body (g .1))) (λ g e. (some-kept notEmpty l b bs next e, refl)) t
 
   pub read-kept : (l b t : ℕ) (v : Value) (next : ℕ) → isColumn t ≡ true → value l b t .read s at ≡ ok (v, next) → Keeps s t at v

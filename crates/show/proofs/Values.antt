@@ -12,13 +12,15 @@ use borrow.Author.Tests.{leb-true, eqb-true}
 use Rattle.format.specs.declared.Fault.the-variants.{Decimal, Point}
 use Rattle.format.specs.Result.{Res, ok, no, bind, pick}
 use Rattle.format.specs.Format.{Format, number, ruled, into}
-use Rattle.format.specs.Value.{fixed, body, number-of, body-of, value, string, ruleOf, isCounted, widthOf, fixedFine, decimalFine, degrees360, isPosition, isNullPoint, pointFine, within}
-use Rattle.format.proofs.Results.{and-true-both, or-true}
+use Rattle.format.specs.Value.{Value, fixed, body, number-of, body-of, value, string, anything, ruleOf, mostBytes, isCounted, widthOf, fixedFine, decimalFine, degrees360, isPosition, isNullPoint, pointFine, within}
+use Rattle.format.proofs.Results.{and-true-both, or-true, bound}
+use Rattle.format.proofs.Texts.{counted-unruled}
 use Rattle.scan.proofs.Steps.{ruled-any}
+use Rattle.scan.proofs.Values.{value-fields}
 use Rattle.show.specs.declared.Cell.{Cell}
 use Rattle.show.specs.declared.Shown.{Shown}
 use Rattle.scan.specs.Signed.{signed}
-use Rattle.show.specs.Cells.{plainCell, decimalCell, positionCell, pointCell, fixedCell, bodyCell, cellOf, shownAs}
+use Rattle.show.specs.Cells.{plainCell, decimalCell, positionCell, pointCell, fixedCell, bodyCell, cellOf, unruled, shownAs}
 use Rattle.show.proofs.Floats.{no-nan}
 
 -- a reading put into a value is shown as the value is
@@ -40,26 +42,26 @@ plain-key k e p = rw e p
 
 module _ (s : List ℕ) (at : ℕ) where
   abbrev Shows : ℕ → Shown → Type 0
-  Shows t x = x ≡ shownAs (cellOf t at) (value 0 0 t .read s at)
+  Shows t x = x ≡ shownAs (cellOf t at) (unruled t .read s at)
 
   pub decimal-shows : (t : ℕ) → t ≡ 22 → Shows t (shownAs decimalCell (ruled decimalFine Decimal (number 16 0) .read s at))
-  unfolding value
+  unfolding unruled value
   decimal-shows t e = rw e (sym (into-shown fixed number-of (ruled decimalFine Decimal (number 16 0)) s at (cellOf 22 at)))
 
   pub point-shows : (t : ℕ) → t ≡ 26 → Shows t (shownAs pointCell (ruled pointFine Point (number 16 0) .read s at))
-  unfolding value
+  unfolding unruled value
   point-shows t e = rw e (sym (into-shown fixed number-of (ruled pointFine Point (number 16 0)) s at (cellOf 26 at)))
 
-  pub counted-shows : (t : ℕ) → (t ≡ 9) ⊎ ((t ≡ 25) ⊎ (t ≡ 27)) → Shows t (shownAs (bodyCell t at) (string true (ruleOf t) 0 0 .read s at))
-  unfolding value
+  pub counted-shows : (t : ℕ) → (t ≡ 9) ⊎ ((t ≡ 25) ⊎ (t ≡ 27)) → Shows t (shownAs (bodyCell t at) (string true anything 0 0 .read s at))
+  unfolding unruled
   counted-shows t is =
       ⊎-elim (λ e. rw e (go 9)) (λ w. ⊎-elim (λ e. rw e (go 25)) (λ e. rw e (go 27)) w) is
     where
-      go : (t : ℕ) → shownAs (bodyCell t at) (string true (ruleOf t) 0 0 .read s at) ≡ shownAs (cellOf t at) (into body body-of (string true (ruleOf t) 0 0) .read s at)
-      go t = sym (into-shown body body-of (string true (ruleOf t) 0 0) s at (cellOf t at))
+      go : (t : ℕ) → shownAs (bodyCell t at) (string true anything 0 0 .read s at) ≡ shownAs (cellOf t at) (into body body-of (string true anything 0 0) .read s at)
+      go t = sym (into-shown body body-of (string true anything 0 0) s at (cellOf t at))
 
   pub plain-shows : (t k : ℕ) → Plain t k → Shows t (shownAs (plainCell t) (number k 0 .read s at))
-  unfolding value
+  unfolding unruled value
   plain-shows t k p =
       let fault = pick (eqb t 22) Decimal Point in
       let free = ruled-any (fixedFine t) fault (number k 0) s at (λ n. simp (p .2, p .3)) in
@@ -69,6 +71,17 @@ module _ (s : List ℕ) (at : ℕ) where
       same-shown : {f g : ℕ → Cell} → ((n : ℕ) → f n ≡ g n) → (r : Res (ℕ × ℕ)) → shownAs f r ≡ shownAs g r
       same-shown all (ok p) = ap (λ (c : Cell). Shown.Is c (p .1)) (all (p .0))
       same-shown all (no f p) = refl
+
+  -- a value that was read by its rule is read without it; the fields' numbers play no part
+  pub unruled-reads : (l b t : ℕ) {w : Value × ℕ} → value l b t .read s at ≡ ok w → unruled t .read s at ≡ ok w
+  unfolding unruled value into
+  unruled-reads l b t {w} e = by-count (isCounted t) refl (sym (value-fields s at l b t) ∙ e)
+    where
+      by-count : (c : Bool) → isCounted t ≡ c → value 0 0 t .read s at ≡ ok w → unruled t .read s at ≡ ok w
+      by-count false is e = rw is (rw is at e)
+      by-count true is e =
+          let r = bound (string true (ruleOf t) 0 0 .read s at) (rw is at e) in
+          rw (is, counted-unruled true mostBytes (ruleOf t) 0 0 0 0 s at (r .0) (r .1)) (r .2)
 
 -- a number of 16 bytes by its halves
 module _ (hi lo : ℕ) (small : lo < 2 ^ 64) where

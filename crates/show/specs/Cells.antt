@@ -2,11 +2,13 @@
 use Prim.Native.Nat.{ℕ, _+_, _*_, _/_, _%_, _^_}
 use mathlib.Core.List.{List}
 use mathlib.Core.Option.{Option, some, none}
+use mathlib.Core.Bool.{true}
 use lib.ListN.{length, take, drop}
 use lib.Dec.{eqb}
 use lib.Ieee.{Float, binary64, ofBits, toBits, nanBits}
 use Rattle.format.specs.Result.{Res, ok, no, pick}
-use Rattle.format.specs.Value.{Value, fixed, body, tTinyint, tSmallint, tInteger, tBigint, tFloat, tString, tTimestamp, tDecimal, tVarbinary, tPoint, tGeography, degrees360, isNullPoint}
+use Rattle.format.specs.Format.{Format, into}
+use Rattle.format.specs.Value.{Value, fixed, body, body-of, value, string, anything, isCounted, tTinyint, tSmallint, tInteger, tBigint, tFloat, tString, tTimestamp, tDecimal, tVarbinary, tPoint, tGeography, degrees360, isNullPoint}
 use Rattle.scan.specs.Shown.{refusal}
 use Rattle.scan.specs.Signed.{signed, unsigned}
 use Rattle.show.specs.declared.Cell.{Cell}
@@ -57,6 +59,10 @@ bodyCell t at (some bs) = partCell t (at + 4) (length bs)
 abbrev pub cellOf : ℕ → ℕ → Value → Cell
 cellOf t at (fixed n) = fixedCell t n
 cellOf t at (body b) = bodyCell t at b
+
+-- a value, whatever its bytes if it has a length of its own: for one that stands in an accepted message
+unfoldable pub unruled : ℕ → Format Value
+unruled t = pick (isCounted t) (into body body-of (string true anything 0 0)) (value 0 0 t)
 
 module _ {A : Type 0} where
   -- the answer for what a reading gives

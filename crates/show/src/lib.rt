@@ -10,9 +10,8 @@ ghost use lib.Ieee.{binary64, toBits};
 ghost use Prim.Native.Nat.{_+_, min};
 ghost use Rattle.format.specs.declared.Fault.the-variants.{Decimal, Point};
 ghost use Rattle.format.specs.Format.{number, ruled};
-ghost use Rattle.format.specs.Value.{value, string, ruleOf, decimalFine, pointFine};
-ghost use Rattle.scan.specs.Shown.{shownBody};
-ghost use Rattle.show.specs.Cells.{floatCell, plainCell, decimalCell, pointCell, partCell, nullCell, bodyCell, cellOf, shownAs, rawOf};
+ghost use Rattle.format.specs.Value.{string, anything, decimalFine, pointFine};
+ghost use Rattle.show.specs.Cells.{floatCell, plainCell, decimalCell, pointCell, partCell, nullCell, bodyCell, cellOf, unruled, shownAs, rawOf};
 ghost use Rattle.show.specs.Parts.{IsPart};
 
 // A value of a wire type. Text, varbinary and geography are where their bytes start and how many they are, or null. Nulls have cases of their own, but
@@ -120,16 +119,6 @@ fn read_point(s: &[u8], at: usize) -> Shown
     )
 }
 
-// The body of a counted value.
-fn read_part(s: &[u8], at: usize, t: u8) -> Body
-    ensures { λ r. ⌜ r ≡ shownBody at (string true (ruleOf t) 0 0 .read (now (s .entry)) at) ⌝ }
-{
-    if t == format::GEOGRAPHY {
-        return scan::read_geography(s, at);
-    }
-    scan::read_body(s, at, true, format::MOST_BYTES)
-}
-
 fn part_cell(t: u8, start: usize, size: usize) -> Cell
     ensures { λ r. ⌜ r ≡ partCell t start size ⌝ }
 {
@@ -150,10 +139,11 @@ fn null_cell(t: u8) -> Cell
     }
 }
 
+// A counted value by its length alone, whatever its bytes.
 fn read_counted(s: &[u8], at: usize, t: u8) -> Shown
-    ensures { λ r. ⌜ r ≡ shownAs (bodyCell t at) (string true (ruleOf t) 0 0 .read (now (s .entry)) at) ⌝ }
+    ensures { λ r. ⌜ r ≡ shownAs (bodyCell t at) (string true anything 0 0 .read (now (s .entry)) at) ⌝ }
 {
-    let part = read_part(s, at, t);
+    let part = scan::read_body(s, at, true, format::MOST_BYTES);
     match part {
         Body::Is(start, end) => Shown::Is(part_cell(t, start, end - start), end),
         Body::Null(next) => Shown::Is(null_cell(t), next),
@@ -161,9 +151,9 @@ fn read_counted(s: &[u8], at: usize, t: u8) -> Shown
     }
 }
 
-// The value of a wire type that stands at a place; of a type that has no values, no bytes.
+// The value of a wire type that stands at a place of an accepted message, whose texts are not looked at again; of a type that has no values, no bytes.
 pub fn read_value(s: &[u8], at: usize, t: u8) -> Shown
-    ensures { λ r. ⌜ r ≡ shownAs (cellOf t at) (value 0 0 t .read (now (s .entry)) at) ⌝ }
+    ensures { λ r. ⌜ r ≡ shownAs (cellOf t at) (unruled t .read (now (s .entry)) at) ⌝ }
 {
     match t {
         format::TINYINT => read_plain(s, at, t, 1),

@@ -20,18 +20,15 @@ enum-known-found c = search needs
 enum-known-found-2 : tie.Need-enum-known-found-2
 enum-known-found-2 c = search needs
 
-skip-value-requires : tie.Need-skip-value-requires
-skip-value-requires c κs = search needs
+pass-value-requires : tie.Need-pass-value-requires
+pass-value-requires c κs = search needs
 
-past-requires : tie.Need-past-requires
-past-requires c κs = search needs
-
-sub-t11 : tie.Need-sub-t11
-sub-t11 c =
-    let a = c .before .before .before .before .before .before .before .before .args in
-    let all = bytes-all (a .m .now) (λ k. omega (arith, c .before .before .before .before .before .before .before .shared-slice-known .given k)) in
-    let w = spotted true (a .m .now) (a .t) (a .k) (a .c) all (sym (ap toldSpot (c .before .before .before .before .found2 .given .1)) ∙ c .before .before .before .before .before .before .find-spot .ensures) in
-    omega (arith, spot-ends true (a .m .now) (a .t) (a .k) (a .c) w (c .before .before .skip-value .ensures) (c .before .past .ensures))
+sub-t10 : tie.Need-sub-t10
+sub-t10 c =
+    let a = c .before .before .before .before .before .before .before .args in
+    let all = bytes-all (a .m .now) (λ k. omega (arith, c .before .before .before .before .before .before .shared-slice-known .given k)) in
+    let w = spotted true (a .m .now) (a .t) (a .k) (a .c) all (sym (ap toldSpot (c .before .before .before .found2 .given .1)) ∙ c .before .before .before .before .before .find-spot .ensures) in
+    omega (arith, spot-ends true (a .m .now) (a .t) (a .k) (a .c) w (c .before .pass-value .ensures 50 51))
 
 returns : tie.Need-returns
 returns c =
@@ -40,10 +37,10 @@ returns c =
 
 returns-2 : tie.Need-returns-2
 returns-2 c =
-    let a = c .before .before .before .before .before .before .before .before .args in
-    let all = bytes-all (a .m .now) (λ k. omega (arith, c .before .before .before .before .before .before .before .shared-slice-known .given k)) in
-    let w = spotted true (a .m .now) (a .t) (a .k) (a .c) all (sym (ap toldSpot (c .before .before .before .before .found2 .given .1)) ∙ c .before .before .before .before .before .before .find-spot .ensures) in
-    spot-placed true (a .m .now) (a .t) (a .k) (a .c) w (omega (arith, spot-ends true (a .m .now) (a .t) (a .k) (a .c) w (c .before .before .skip-value .ensures) (c .before .past .ensures)))
+    let a = c .before .before .before .before .before .before .before .args in
+    let all = bytes-all (a .m .now) (λ k. omega (arith, c .before .before .before .before .before .before .shared-slice-known .given k)) in
+    let w = spotted true (a .m .now) (a .t) (a .k) (a .c) all (sym (ap toldSpot (c .before .before .before .found2 .given .1)) ∙ c .before .before .before .before .before .find-spot .ensures) in
+    spot-placed true (a .m .now) (a .t) (a .k) (a .c) w (omega (arith, spot-ends true (a .m .now) (a .t) (a .k) (a .c) w (c .before .pass-value .ensures 50 51)))
 
 pub cell-place-spec : {M : Type 1} → statement M
 cell-place-spec =
@@ -52,8 +49,7 @@ cell-place-spec =
     find-spot-requires
     enum-known-found
     enum-known-found-2
-    skip-value-requires
-    past-requires
-    sub-t11
+    pass-value-requires
+    sub-t10
     returns
     returns-2)

@@ -1,5 +1,5 @@
 -- `query::element_at` meets its contract: the walk over the elements before it comes to element e.
-use mathlib.Core.Path.{_∙_, sym, ap}
+use mathlib.Core.Path.{_∙_, ap}
 use Rattle.format.specs.Result.{no}
 use Rattle.format.specs.declared.Refusal.{Refusal}
 use Rattle.query.proofs.Calls.{no-array, element-past, element-is}
@@ -40,11 +40,8 @@ returns-2 c =
 after-requires-3 : tie.Need-after-requires-3
 after-requires-3 c κs = search needs
 
-skip-values-requires : tie.Need-skip-values-requires
-skip-values-requires c κs = search needs
-
-past-requires : tie.Need-past-requires
-past-requires c κs = search needs
+pass-values-requires : tie.Need-pass-values-requires
+pass-values-requires c κs = search needs
 
 value-at-requires : tie.Need-value-at-requires
 value-at-requires c κs = search needs
@@ -52,9 +49,9 @@ value-at-requires c κs = search needs
 returns-3 : tie.Need-returns-3
 returns-3 c =
     λ q d.
-    let a = c .before .before .before .before .before .before .before .before .before .before .before .before .before .args in
-    element-is _ d (c .before .before .before .before .before .before .before .before .before .before .before .byte-at .ensures) (c .before .before .before .before .before .before .before .before .before .after .ensures) (c .before .before .before .before .before .before .before .before .before .before .if1 .left) (c .before .before .before .before .before .before .before .before .byte-at2 .ensures) (c .before .before .before .before .before .before .before .after2 .ensures) (c .before .before .before .before .before .before .count-width .ensures) (c .before .before .before .before .before .count-at .ensures)
-    (a .e) (c .before .before .before .after3 .result) (c .before .past .result) (c .before .before .before .before .if2 .left) (c .before .before .before .after3 .ensures) (c .before .before .skip-values .ensures) (c .before .past .ensures) (c .value-at .ensures)
+    let a = c .before .before .before .before .before .before .before .before .before .before .before .before .args in
+    element-is _ d (c .before .before .before .before .before .before .before .before .before .before .byte-at .ensures) (c .before .before .before .before .before .before .before .before .after .ensures) (c .before .before .before .before .before .before .before .before .before .if1 .left) (c .before .before .before .before .before .before .before .byte-at2 .ensures) (c .before .before .before .before .before .before .after2 .ensures) (c .before .before .before .before .before .count-width .ensures) (c .before .before .before .before .count-at .ensures)
+    (a .e) (c .before .before .after3 .result) (c .before .pass-values .result) (c .before .before .before .if2 .left) (c .before .before .after3 .ensures) (c .before .pass-values .ensures) (c .value-at .ensures)
 
 pub element-at-spec : {M : Type 1} → statement M
 element-at-spec =
@@ -70,7 +67,6 @@ element-at-spec =
     count-at-requires
     returns-2
     after-requires-3
-    skip-values-requires
-    past-requires
+    pass-values-requires
     value-at-requires
     returns-3)

@@ -1,5 +1,5 @@
 -- `query::param_in` meets its contract: the walk over the parameters before it comes to parameter p.
-use mathlib.Core.Path.{_∙_, sym, ap}
+use mathlib.Core.Path.{_∙_, ap}
 use Rattle.query.specs.Shown.{pastOf}
 use native.Mathlib.Omega.{arith}
 use Rattle.query.proofs.Opened.{bytes-all}
@@ -32,20 +32,17 @@ returns c =
 after-requires-2 : tie.Need-after-requires-2
 after-requires-2 c κs = search needs
 
-skip-params-requires : tie.Need-skip-params-requires
-skip-params-requires c κs = search needs
-
-past-requires-2 : tie.Need-past-requires-2
-past-requires-2 c κs = search needs
+pass-params-requires : tie.Need-pass-params-requires
+pass-params-requires c κs = search needs
 
 returns-2 : tie.Need-returns-2
 returns-2 c =
     λ v e.
-    let a = c .before .before .before .before .before .before .before .before .before .args in
-    let all = bytes-all (a .m .now) (λ k. omega (arith, c .before .before .before .before .before .before .before .before .shared-slice-known .given k)) in
-    let client = c .before .before .before .before .before .before .past .ensures ∙ ap pastOf (c .before .before .before .before .before .before .before .skip-body .ensures) in
-    let n = params-is (a .m .now) all v e client (c .before .before .before .before .before .after .ensures) (c .before .before .before .before .count-at .ensures) in
-    param-found (a .m .now) all v e client (c .before .before .before .before .before .after .ensures) (a .p) (c .before .before .after2 .result) (omega arith) (c .before .before .after2 .ensures) (c .before .skip-params .ensures) (c .past2 .ensures)
+    let a = c .before .before .before .before .before .before .before .before .args in
+    let all = bytes-all (a .m .now) (λ k. omega (arith, c .before .before .before .before .before .before .before .shared-slice-known .given k)) in
+    let client = c .before .before .before .before .before .past .ensures ∙ ap pastOf (c .before .before .before .before .before .before .skip-body .ensures) in
+    let n = params-is (a .m .now) all v e client (c .before .before .before .before .after .ensures) (c .before .before .before .count-at .ensures) in
+    param-found (a .m .now) all v e client (c .before .before .before .before .after .ensures) (a .p) (c .before .after2 .result) (omega arith) (c .before .after2 .ensures) (c .pass-params .ensures)
 
 pub param-in-spec : {M : Type 1} → statement M
 param-in-spec =
@@ -57,6 +54,5 @@ param-in-spec =
     count-at-requires
     returns
     after-requires-2
-    skip-params-requires
-    past-requires-2
+    pass-params-requires
     returns-2)

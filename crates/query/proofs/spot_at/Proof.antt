@@ -16,18 +16,15 @@ over-requires c κs = search needs
 after-requires-2 : tie.Need-after-requires-2
 after-requires-2 c κs = search needs
 
-skip-front-requires : tie.Need-skip-front-requires
-skip-front-requires c κs = search needs
-
-past-requires : tie.Need-past-requires
-past-requires c κs = search needs
+pass-front-requires : tie.Need-pass-front-requires
+pass-front-requires c κs = search needs
 
 returns : tie.Need-returns
 returns c =
     λ at b d t r k n.
-    let a = c .before .before .before .before .before .before .before .args in
-    spot-is _ d (a .k) (a .c) k n (a .types) (a .rows) t r (c .before .before .before .before .before .after .ensures) (c .before .before .before .before .byte-at .ensures) (c .before .before .before .over .ensures)
-    (c .before .before .after2 .ensures) (c .before .skip-front .ensures) (c .past .ensures)
+    let a = c .before .before .before .before .before .before .args in
+    spot-is _ d (a .k) (a .c) k n (a .types) (a .rows) t r (c .before .before .before .before .after .ensures) (c .before .before .before .byte-at .ensures) (c .before .before .over .ensures)
+    (c .before .after2 .ensures) (c .pass-front .ensures)
 
 pub spot-at-spec : {M : Type 1} → statement M
 spot-at-spec =
@@ -37,6 +34,5 @@ spot-at-spec =
     byte-at-requires
     over-requires
     after-requires-2
-    skip-front-requires
-    past-requires
+    pass-front-requires
     returns)
