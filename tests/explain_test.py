@@ -32,7 +32,7 @@ import harbour
 import reader
 import wire
 import wire_poly
-from explain import areas, building, cells, command, geojson, lines, listing, main, paper, records, refusals, values
+from explain import areas, building, cells, command, geojson, lines, listing, main, paper, records, refusals, texts, values
 from explain.fields import Explained
 
 STORED = ROOT / "tests" / "explain"
@@ -94,8 +94,7 @@ class Sample(unittest.TestCase):
 
 class Harbour(unittest.TestCase):
     def test_the_samples_are_its_messages(self):
-        made = {name + ".bin": encoder.encode(kind, record) for name, (kind, record) in harbour.MESSAGES.items()}
-        self.assertEqual({file.name: file.read_bytes() for file in (ROOT / "samples").glob("*.bin")}, made)
+        self.assertEqual({file.name: file.read_bytes() for file in (ROOT / "samples").glob("*.bin")}, harbour.samples())
 
 
 class InsurersQuestion(unittest.TestCase):
@@ -158,6 +157,7 @@ class InsurersQuestion(unittest.TestCase):
                             (["--where", "ENGINE_ID=x", "--column", "0"], '"x" is no value that a column of type integer can be asked for'),
                             (["--where", "BERTH=0", "--column", "0"], '"0" is no value that a column of type point can be asked for'),
                             (["--where", "ENGINE=", "--column", "0"], 'no row of table 0 has ENGINE ""; it has 4 rows'),
+                            (["--where", "VESSEL=\udcc3", "--column", "0"], 'no row of table 0 has VESSEL "\\xc3"; it has 4 rows'),
                             (["4", "0"], "there is no row 4: table 0 has 4 rows"),
                             (["0", "7"], "table 0 has no column 7; it has ENGINE_ID, VESSEL, ENGINE, THROTTLE_LIMIT, COOLANT_C, BERTH, SERVICED")):
             with self.assertRaises(cells.NotThere) as stopped:
@@ -306,7 +306,7 @@ class InsideAreas(AsOfSecond):
 
     def test_parameters_and_elements(self):
         body, no_body = wire_poly.body(), b"no area"
-        parameters = [(wire.STRING, body), (wire.GEOGRAPHY, body), (wire.GEOGRAPHY, None), (wire.ARRAY, (wire.GEOGRAPHY, [no_body, None, body])), (wire.ARRAY, (wire.VARBINARY, [body]))]
+        parameters = [(wire.VARBINARY, body), (wire.GEOGRAPHY, body), (wire.GEOGRAPHY, None), (wire.ARRAY, (wire.GEOGRAPHY, [no_body, None, body])), (wire.ARRAY, (wire.VARBINARY, [body]))]
         message = encoder.encode(wire.INVOCATION, {"version": 0, "procedure": b"", "client_data": bytes(8), "parameters": parameters})
         explained_call = read_by_second(message, wire.INVOCATION)
         inside = areas.Inside(explained_call)
@@ -421,11 +421,11 @@ class GeoJson(AsOfSecond):
 
     def test_cells_as_json(self):
         types = [wire.TINYINT, wire.BIGINT, wire.FLOAT, wire.FLOAT, wire.STRING, wire.STRING, wire.TIMESTAMP, wire.DECIMAL, wire.DECIMAL, wire.VARBINARY, wire.POINT, wire.POINT]
-        values_told = [-5, 2**63 - 1, 0x3FE0000000000000, 0x7FF8000000000001, b"\xc3\x86r\xff", None, 0, 1, wire.NULL_DECIMAL, b"\0\xff", (12.5, -1.5), None]
+        values_told = [-5, 2**63 - 1, 0x3FE0000000000000, 0x7FF8000000000001, "Ærø".encode(), None, 0, 1, wire.NULL_DECIMAL, b"\0\xff", (12.5, -1.5), None]
         message = reply([*types, wire.GEOGRAPHY], [b"C%d" % n for n in range(len(types))] + [b"AREA"], [[*values_told, None]])
         (feature,) = self.features(message)
         self.assertEqual([feature["properties"]["C%d" % n] for n in range(len(types))], [
-            -5, 2**63 - 1, 0.5, "NaN (bits 7ff8000000000001)", "Ær\\xff", None, "1970-01-01 00:00:00.000000 UTC", "0.000000000001", None, "0x00ff", [12.5, -1.5], None])
+            -5, 2**63 - 1, 0.5, "NaN (bits 7ff8000000000001)", "Ærø", None, "1970-01-01 00:00:00.000000 UTC", "0.000000000001", None, "0x00ff", [12.5, -1.5], None])
 
     def test_columns_of_the_same_name(self):
         message = reply([wire.INTEGER] * 4 + [wire.GEOGRAPHY] * 2, [b"table", b"A", b"A", b"A (column 2)", b"A", b"B"], [[1, 2, 3, 4, None, wire_poly.body()]])
@@ -524,6 +524,39 @@ class Refused(unittest.TestCase):
                 "The field is: cell, table 0, row 2, column 2 POSITION (point). Its bytes are %s." % told,
                 "A point's longitude is from -180 to 180 and its latitude from -90 to 90, and neither is NaN; or both are 360, which is null: one of them alone isn't."])
 
+    def test_a_torn_name(self):
+        """A hirer's name, cut in mid-character."""
+        hirers = reply([wire.STRING, wire.TINYINT], [b"HIRER", b"BERTH"], [[b"Bodil", 1], ["Zoë Ærø".encode()[:-1], -128]])
+        self.assertEqual(self.words(hirers), [
+            "refused 20 at 93: a text isn't well-formed UTF-8",
+            'The field is: cell, table 0, row 1, column 0 HIRER (string). Its bytes are 5a 6f c3 ab .. 86 72 c3: "Zoë Ær\\xc3".',
+            "Around byte 93, number 9 of the text's 9, stands 5a 6f c3 ab 20 c3 86 72 [c3]: no character of UTF-8 begins there.",
+            "c3 begins a character of 2 bytes, and the text ends after 1 of them: it was cut inside that character."])
+        told = lines.refusal_lines(refusals.Refusal(wire.REPLY, hirers, (20, 93)))
+        self.assertTrue(any(line.startswith("85  9  5a 6f c3 ab .. 86 72 c3  cell ") and line.endswith('  "Zoë Ær\\xc3"') for line in told))
+        self.assertEqual(told[-1].strip(), "^^ 93")
+
+    def test_every_text_field(self):
+        login = {"version": 0, "service": b"", "user": b"", "hash": bytes(20)}
+        build = {"version": 0, "result": 0, "host": 0, "connection": 0, "start": 0, "leader": bytes(4)}
+        call = {"version": 0, "procedure": b"", "client_data": bytes(8), "parameters": []}
+        answer = dict(harbour.reply(harbour.ENGINES), flags=wire.FLAG_STATUS_STRING | wire.FLAG_APPLICATION_STRING, application_string=None)
+        torn = b"cut \xc3"
+        for kind, record, field in (
+                (wire.LOGIN, dict(login, service=torn), "service"),
+                (wire.LOGIN, dict(login, user=torn), "user"),
+                (wire.LOGIN_REPLY, dict(build, build=torn), "build"),
+                (wire.INVOCATION, dict(call, procedure=torn), "procedure"),
+                (wire.INVOCATION, dict(call, parameters=[(wire.NULL, None), (wire.STRING, torn)]), "value, parameter 1"),
+                (wire.INVOCATION, dict(call, parameters=[(wire.ARRAY, (wire.STRING, [b"", torn]))]), "value, parameter 0, element 1"),
+                (wire.REPLY, dict(answer, status_string=torn), "status string"),
+                (wire.REPLY, dict(answer, application_string=torn), "application string"),
+                (wire.REPLY, dict(answer, tables=[harbour.changed(harbour.ENGINES, b"VESSEL", value=torn)]), "cell, table 0, row 0, column 1 VESSEL (string)")):
+            message = encoder.encode(kind, record)
+            headline, told, *_ = self.words(message, kind)
+            self.assertEqual(headline, "refused 20 at %d: a text isn't well-formed UTF-8" % message.index(b"\xc3"))
+            self.assertEqual(told, 'The field is: %s. Its bytes are 63 75 74 20 c3: "cut \\xc3".' % field)
+
     def test_the_fields_before_are_shown(self):
         m = damaged(ENGINES.read_bytes(), 41, 7)
         told = lines.refusal_lines(refusals.Refusal(wire.REPLY, m, (6, 41)))
@@ -556,10 +589,43 @@ class Refused(unittest.TestCase):
                     self.assertEqual(offset, end)
                     end += size
                 self.assertTrue(end >= no.place or refused.goes_on())
-        self.assertEqual(numbers, set(range(1, 8)))
+        self.assertEqual(numbers, set(paper.REFUSALS))
 
     def test_a_place_past_the_end_is_marked(self):
         self.assertEqual(lines.around(bytes.fromhex("000000020000"), 6)[-1], "                      ^^ 6")
+
+
+class Texts(unittest.TestCase):
+    def test_faults(self):
+        for raw, told in (
+                (b"\xc3", "c3 begins a character of 2 bytes, and the text ends after 1 of them: it was cut inside that character."),
+                (b"\xf0\x9f\x98", "f0 begins a character of 4 bytes, and the text ends after 3 of them: it was cut inside that character."),
+                (b"\xc3r", "c3 begins a character of 2 bytes, and after 1 of them comes 72, which doesn't go on with it."),
+                (b"\xe2\x82\xc3\xa9", "e2 begins a character of 3 bytes, and after 2 of them comes c3, which doesn't go on with it."),
+                (b"\xa9", "a9 only goes on with a character, and none was begun."),
+                (b"\xc0\x80", "c0 never occurs in UTF-8: it could only begin an overlong form."),
+                (b"\xe0\x80\xaf", "e0 80 begins an overlong form: its character has a shorter one."),
+                (b"\xf0\x8f\xbf\xbf", "f0 8f begins an overlong form: its character has a shorter one."),
+                (b"\xed\xa0\xbd", "ed a0 begins a surrogate, which is half of a character in UTF-16 and none here."),
+                (b"\xf4\x90\x80\x80", "f4 90 begins what would be above U+10FFFF, the last character."),
+                (b"\xff\xfe", "ff never occurs in UTF-8: no character is above U+10FFFF.")):
+            self.assertEqual(texts.fault(raw), told)
+
+    def test_each_fault_is_of_the_kind_that_python_names(self):
+        words_for = {"invalid start byte": ("only goes on", "never occurs"), "unexpected end of data": ("text ends after",),
+                       "invalid continuation byte": ("doesn't go on", "overlong", "surrogate", "above U+10FFFF")}
+        edges = b"\x00\x7f\x80\x8f\x90\x9f\xa0\xbf\xc0\xc1\xc2\xdf\xe0\xe1\xec\xed\xee\xef\xf0\xf1\xf3\xf4\xf5\xff"
+        for raw in map(bytes, itertools.chain.from_iterable(itertools.product(edges, repeat=size) for size in (1, 2, 3))):
+            try:
+                raw.decode()
+            except UnicodeDecodeError as no:
+                told = texts.fault(raw[no.start:])
+                self.assertTrue(any(words in told for words in words_for[no.reason]), (raw, told))
+
+    def test_bytes_around(self):
+        self.assertEqual(texts.around(b"\xc3", 0), "[c3]")
+        self.assertEqual(texts.around(bytes(range(17)), 8), "00 01 02 03 04 05 06 07 [08] 09 0a 0b 0c 0d 0e 0f 10")
+        self.assertEqual(texts.around(bytes(range(19)), 9), ".. 01 02 03 04 05 06 07 08 [09] 0a 0b 0c 0d 0e 0f 10 11 ..")
 
 
 class Values(unittest.TestCase):
@@ -648,7 +714,7 @@ class OtherKinds(unittest.TestCase):
             self.assertTrue(list(explained(raw, *declared, (0, size, number, 0, 0, 0)))[-1].value)
 
     def test_each_number_of_reading_has_words(self):
-        self.assertEqual(sorted(paper.REFUSALS), list(range(1, 8)))
+        self.assertEqual(sorted(paper.REFUSALS), [*range(1, 8), 20])
 
 
 class Listing(unittest.TestCase):
@@ -668,7 +734,7 @@ class Listing(unittest.TestCase):
 
 class Building(unittest.TestCase):
     def test_the_crates_of_a_program(self):
-        self.assertEqual(building.closure("list"), {"list", "listing", "fields", "tour", "message", "quick", "scan", "format"})
+        self.assertEqual(building.closure("list"), {"list", "listing", "fields", "tour", "message", "quick", "scan", "text", "format"})
 
     def test_a_line_for_each_crate(self):
         said = io.StringIO()
@@ -798,6 +864,14 @@ class WithTheProvedLibrary(unittest.TestCase):
         done = self.run_it("2", str(ENGINES))
         self.assertEqual((done.returncode, done.stdout.splitlines()[0]), (1, "refused 3 at 30: a limit is passed"))
         self.assertIn("As 4, invocation response, the same bytes are accepted.", done.stdout)
+
+    def test_a_torn_name(self):
+        hirers = self.path("torn", reply([wire.STRING, wire.TINYINT], [b"HIRER", b"BERTH"], [["Ærø".encode()[:-1], -128]]))
+        done = self.run_it("4", hirers)
+        self.assertEqual((done.returncode, done.stdout.splitlines()[0]), (1, "refused 20 at 74: a text isn't well-formed UTF-8"))
+        self.assertIn("c3 begins a character of 2 bytes, and the text ends after 1 of them", done.stdout)
+        self.assertEqual(self.run_it("4", hirers, "--html", self.path("torn.html")).returncode, 1)
+        self.assertIn("<p>c3 begins a character of 2 bytes", pathlib.Path(self.path("torn.html")).read_text(encoding="utf-8"))
 
     def test_the_kind_is_guessed(self):
         done = self.run_it(str(ENGINES), "--byte", "0")

@@ -18,7 +18,7 @@ import messages
 from explain import page
 from explain.fields import Explained
 
-SAMPLES = {path.read_bytes(): int(path.name[0]) for path in sorted((ROOT / "samples").glob("*.bin"))}
+SAMPLES = {path.read_bytes(): int(path.name[0]) for path in sorted((ROOT / "samples").glob("*.bin")) if not path.stem.endswith("-torn")}
 SAMPLES[(ROOT / "tests" / "explain" / "engines.reply").read_bytes()] = 4
 REPLY = (ROOT / "samples" / "4-engines.bin").read_bytes()
 LIMIT_OF_ENGINE_2 = 238  # where the cell stands in the sample reply

@@ -95,10 +95,12 @@ static void cell(size_t table, size_t row, size_t column) {
 }
 
 static void table(size_t t) {
+    static const uint8_t torn[] = {0xc3}; /* no column has this name, and it is no text: it is searched for all the same */
     uint64_t answer = chaloenpik_rows(message, length, t);
     if (refused(answer)) return;
     size_t rows = chaloenpik_value(answer), columns = chaloenpik_value(chaloenpik_columns(message, length, t));
     names(t);
+    name(t, torn, sizeof torn);
     for (size_t c = 0; c <= columns; c++) told(chaloenpik_column_name(message, length, t, c, fresh()), 2);
     for (size_t r = 0; r <= rows; r++)
         for (size_t c = 0; c <= columns; c++) cell(t, r, c);

@@ -21,9 +21,10 @@ NANS = [0x7FF8000000000000, 0x7FF8000000000001, 0xFFF8000000000000, 0x7FF0000000
 DECIMALS = [0, 1, -1, 10**12, -(10**12), 999_999_999_999, 10**38 - 1, -(10**38 - 1), NULL_DECIMAL, -23325234250000000]
 MOMENTS = [0, 1, -1, 951_782_400_000_000, 2**63 - 1, -(2**63), -62_135_596_800_000_000, -62_135_596_800_000_001, -62_200_000_000_000_000,
            253_402_300_800_000_000, -65_000_000_000_000_000]
-TEXTS = [None, b"", b"plain", b'a "b" \\ \n\t\x00\x7f', "Zoë · Ærø 日本 😀".encode(), "\u202e\ufeff\u00a0\u2028\u00ad\ue000".encode(), b"cut \xc3", b"\x80\xbf\xc0\xaf",
-         b"\xed\xa0\x80", b"\xf4\x90\x80\x80", b"\xf0\x9f\x98", b"\xe2\x82A", b"\xff" * 61, b"x" * 60, b"x" * 61, "é".encode() * 60, "é".encode() * 61,
-         "😀".encode() * 61, b"x" * 59 + b"\xc3", b"x" * 60 + b"\xc3", b"</script><!-- & <b>", b"x" * 1000]
+TEXTS = [None, b"", b"plain", b'a "b" \\ \n\t\x00\x7f', "Zoë · Ærø 日本 😀".encode(), "\u202e\ufeff\u00a0\u2028\u00ad\ue000".encode(), b"x" * 60, b"x" * 61,
+         "é".encode() * 60, "é".encode() * 61, "😀".encode() * 61, "\ud7ff\ufdd0\uffff\U0010ffff".encode(), b"</script><!-- & <b>", b"x" * 1000]
+NO_TEXTS = [b"cut \xc3", b"\x80\xbf\xc0\xaf", b"\xc0\xaf", b"\xed\xa0\x80", b"\xf4\x90\x80\x80", b"\xf0\x9f\x98", b"\xe2\x82A", b"\xff" * 61, b"x" * 59 + b"\xc3",
+            b"x" * 60 + b"\xc3"]
 BINARIES = [None, b"", b"\0", bytes(60), bytes(61), bytes(range(256))]
 POINTS = [None, (0.0, -0.0), (-0.0, 0.0), (180.0, 90.0), (-180.0, -90.0), (12.5683, -1e-7), (-122.0264, 36.90719)]
 NO_POINTS = [(float("nan"), 0.0), (360.0, 0.0), (0.0, 360.0), (360.0, -360.0), (-360.0, -360.0)]
@@ -75,14 +76,14 @@ def edges():
     """(kind, message) for each message of edge values."""
     some = {"status": 0, "types": [TINYINT, STRING], "names": [b"N", b"S"], "rows": [[1, b"a"], [2, None]]}
     empty = {"status": 0, "types": [], "names": [], "rows": [[], [], []]}
-    strings = {"flags": 0xE0, "status_string": None, "application_string": b"no \xff", "exception": bytes(5)}
+    strings = {"flags": 0xE0, "status_string": None, "application_string": "nø".encode(), "exception": b"\xff" * 5}
     yield reply([edge_table()])
     yield reply([some, empty, some, dict(some, rows=[])], **strings)
     for status in range(-5, 3):
         yield reply([], status=status, round_trip=-1, client_data=b"\xff" * 8)
     yield INVOCATION, encode(INVOCATION, {"version": 1, "procedure": b"@Sys", "client_data": bytes(8), "parameters": edge_parameters()})
     for hash_version, size in ((0, 20), (1, 32)):
-        yield LOGIN, encode(LOGIN, {"version": 1, "hash_version": hash_version, "service": b"", "user": b"\xff", "hash": bytes(size)})
+        yield LOGIN, encode(LOGIN, {"version": 1, "hash_version": hash_version, "service": b"", "user": "\xff".encode(), "hash": bytes(size)})
     for start in (0, -1, 2**63 - 1, -(2**63)):
         yield LOGIN_REPLY, encode(LOGIN_REPLY, {"version": 0, "result": 0, "host": -1, "connection": -1, "start": start, "leader": b"\xff\0\1\2", "build": b"b"})
     for result in (1, 2, 3, 77):
@@ -101,9 +102,11 @@ def listed(kind, message):
 
 
 def refused(count):
-    """(kind, message, fields up to the fault) of made-up messages that are refused, and of some for a point that is no number or nearly null."""
+    """(kind, message, fields up to the fault) of made-up messages that are refused, and of some for a point that is no number or nearly null, or for a text that
+    isn't UTF-8."""
     nowhere = [reply([{"status": 0, "types": [POINT], "names": [b"P"], "rows": [[point]]}]) for point in NO_POINTS]
-    for kind, message in itertools.chain(generate.messages(count, 5), nowhere):
+    torn = [reply([{"status": 0, "types": [STRING], "names": [b"T"], "rows": [[text]]}]) for text in NO_TEXTS]
+    for kind, message in itertools.chain(generate.messages(count, 5), nowhere, torn):
         try:
             read(kind, message)
         except Refused as no:

@@ -1,11 +1,12 @@
 #!/usr/bin/env python3
-"""Runs `sweep` and the second reader over the same frames: compare.py N SEED"""
+"""Runs `sweep` and the second reader over the same frames, made-up ones and those at the edges of a frame's size and of text: compare.py N SEED"""
 
 import pathlib
 import subprocess
 import sys
 from collections import Counter
 
+import generate_texts
 from encoder import encode
 from frames import frame, split
 from generate import messages
@@ -18,7 +19,8 @@ RUN = pathlib.Path(__file__).resolve().parent.parent / "run"
 def main():
     count, seed = int(sys.argv[1]), int(sys.argv[2])
     print("compare: %d messages, seed %d" % (count, seed), flush=True)
-    data = edges() + b"".join(frame(kind, message) for kind, message in messages(count, seed)) + broken(seed)
+    texts = b"".join(frame(kind, message) for kind, message, _ in generate_texts.messages())
+    data = edges() + texts + b"".join(frame(kind, message) for kind, message in messages(count, seed)) + broken(seed)
     found = subprocess.run([RUN, "sweep"], input=data, stdout=subprocess.PIPE, check=True).stdout.decode()
     frames, _ = split(data)
     verdicts = Counter()

@@ -2,7 +2,8 @@
 """Runs tools/explain/fields.c, which asks the exported functions, and the second reader over messages at the limits.
 
 The longest reply, the longest row and the most elements, with null points among the values, and each with its last null point spoiled; a reply
-and a row with one byte more. Answers and field lists must be equal.
+and a row with one byte more; the longest texts, of ASCII and of the longest characters, and each torn at its end. Answers and field lists must be
+equal.
 """
 
 import array
@@ -39,6 +40,10 @@ def messages():
         yield what + ", its last null point turned", kind, message[:at] + b"\xc0" + message[at + 1:]
     yield "a longer reply", REPLY, longest_reply(1)
     yield "a longer row", REPLY, longest_row(1)
+    text = "😀".encode() * (MOST_BODY // 4)
+    yield "the longest text", REPLY, longest_text(text)
+    yield "the longest text, its last character cut", REPLY, longest_text(text[:-1])
+    yield "the longest ASCII, torn at its end", REPLY, longest_text(b"x" * (MOST_BODY - 1) + b"\xc3")
 
 
 def longest_reply(more):
@@ -50,6 +55,11 @@ def longest_reply(more):
 def longest_row(more):
     """Two counted values and a point have 24 bytes beside those of the bodies."""
     return reply([STRING, VARBINARY, POINT], [[b"x" * MOST_BODY, b"x" * (MOST_ROW + more - 24 - MOST_BODY), None]])
+
+
+def longest_text(text):
+    """Behind it stands a byte that ends a character."""
+    return reply([STRING, TINYINT], [[text, -128]])
 
 
 def most_elements():

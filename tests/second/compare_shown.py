@@ -1,13 +1,13 @@
 #!/usr/bin/env python3
-"""Runs tests/shown.c, which asks the exported functions, and the second reader over the same messages, made-up ones and some with the longest
-names: compare_shown.py N SEED
+"""Runs tests/shown.c, which asks the exported functions, and the second reader over the same messages, made-up ones, some with texts at the edges
+of their rule, and some with the longest names: compare_shown.py N SEED
 
 For each message lines of numbers, as include/chaloenpik.h orders them, and a dot:
 - its record, or its refusal;
 - of an invocation, each parameter and after it each element, one more than there are (and one of what is no array); a parameter more;
 - of a response, for each table: for each column the first of its name in that table and in the next; the answer to making its card in 35
-  bytes; the card's column and bytes; the columns that the card opens in both tables. Then where each column's name stands, one more than
-  there are; and each row's cells, one more than there are, and a row more than there are, after each cell where its bytes stand;
+  bytes; the card's column and bytes; the columns that the card opens in both tables. The same for a name that isn't even text. Then where
+  each column's name stands, one more than there are; and each row's cells, one more than there are, and a row more than there are, after each cell where its bytes stand;
 - of a refused invocation one parameter, of a refused response a name, a cell and its place, a column found, a card made and a card opened.
 """
 
@@ -16,6 +16,7 @@ import subprocess
 import sys
 from collections import Counter
 
+import generate_texts
 from encoder import encode
 from frames import frame
 from generate import messages
@@ -28,12 +29,15 @@ MOST_SIZE = 4096
 FIXED, BYTES, NONE, MANY = range(4)
 NO_COLUMN, STALE, PAST_END = "refused 9 0", "refused 10 0", "refused 11 0"
 CARD, MOST_NAME = 36, 32
+TORN_NAME = b"\xc3"
 
 
 def main():
     count, seed = int(sys.argv[1]), int(sys.argv[2])
     print("compare_shown: %d messages, seed %d" % (count, seed), flush=True)
-    chosen = [(kind, m) for kind, m in messages(count, seed) if kind in KINDS and len(m) <= MOST_SIZE] + list(longest_names())
+    chosen = [(kind, m) for kind, m in messages(count, seed) if kind in KINDS and len(m) <= MOST_SIZE]
+    chosen += [(kind, m) for kind, m, _ in generate_texts.messages(step=7)]
+    chosen += longest_names()
     data = b"".join(frame(kind, m) for kind, m in chosen)
     found = subprocess.run(RUN, input=data, stdout=subprocess.PIPE, check=True).stdout.decode().split(".\n")
     counts = Counter()
@@ -42,6 +46,7 @@ def main():
         if one.splitlines() != expected:
             return report(kind, message, expected, one.splitlines())
         counts["refused" if expected[0].startswith("refused") else "accepted"] += 1
+        counts["torn text"] += expected[0].startswith("refused %d " % BAD_TEXT)
         counts["lines"] += len(expected)
         counts["no such column"] += expected.count(NO_COLUMN)
         counts["stale card"] += expected.count(STALE)
@@ -114,6 +119,7 @@ class Shown:
         for t, table in enumerate(it["tables"]):
             for name in table["names"]:
                 lines += [self.found(t, name), self.found(t + 1, name), *self.card(t, name)]
+            lines += [self.found(t, TORN_NAME), self.found(t + 1, TORN_NAME)] + [NO_COLUMN] * 2
             lines += [line(*self.part(F_COLUMN_NAME, t, 0, c)) for c in range(len(table["names"]))] + [PAST_END]
             for r, row in enumerate(table["rows"]):
                 for c, wire_type in enumerate(table["types"]):

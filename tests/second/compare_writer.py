@@ -1,9 +1,10 @@
 #!/usr/bin/env python3
 """Runs tests/script.c, which takes the exported steps, and the second writer over the same scripts of steps: compare_writer.py N SEED
 
-Half of the scripts spell a made-up record, into a buffer that is long enough or a little too short, and try refused points before its
-points; the others take wild steps, with wrong arguments, out of order and on forged states. What `script` answers must be what the second
-writer does, line by line: after each step the whole state and the buffer too.
+Half of the scripts spell a made-up record, into a buffer that is long enough or a little too short, and try refused points and torn texts
+before its own; the others take wild steps, with wrong arguments, out of order and on forged states. Then come texts at the edges of their
+rule, in each step that takes one, and beside other faults and limits. What `script` answers must be what the second writer does, line by
+line: after each step the whole state and the buffer too.
 """
 
 import pathlib
@@ -13,6 +14,7 @@ import sys
 from collections import Counter
 
 import steps
+import text_scripts
 from encoder import encode
 from generate import Maker
 from wire import *
@@ -31,6 +33,7 @@ def main():
     print("compare_writer: %d scripts, seed %d" % (count, seed), flush=True)
     maker = Maker(random.Random(seed))
     scripts = [spelling(maker) if i % 2 else wild(maker) for i in range(count)]
+    scripts += [script for script, _ in (*text_scripts.by_turns(step=5), *text_scripts.in_order())]
     data = b"".join(steps.packed(script) for script in scripts)
     found = subprocess.run(RUN, input=data, stdout=subprocess.PIPE, check=True).stdout.decode().splitlines()
     counts, at = Counter(), 0
@@ -65,15 +68,18 @@ def spelling(maker):
 
 
 def refused_before(maker, step):
-    """Before a point, mostly the same step with one that is refused, and so changes nothing."""
+    """Before a point, mostly the same step with one that is refused, and so changes nothing. Before a text often the same step with that torn,
+    which is refused unless it is left out."""
     name, arguments = step
-    is_point = name in ("add_value", "add_element", "add_cell") and arguments[0][0] == POINT
-    return [(name, ((POINT, maker.beyond_point()),))] if is_point and maker.rng.random() < 0.7 else []
+    if name in text_scripts.VALUE_STEPS and arguments[0][0] == POINT:
+        return [(name, ((POINT, maker.beyond_point()),))] if maker.rng.random() < 0.7 else []
+    torn = text_scripts.torn(maker, step)
+    return [torn] if torn and maker.rng.random() < 0.4 else []
 
 
 def report(number, script, expected, found):
     print("compare_writer: DIFFERENCE in script %d:" % number)
-    print(steps.text(script), end="")
+    print("\n".join(line[:400] for line in steps.text(script).splitlines()))
     for i, line in enumerate(expected):
         if i >= len(found) or found[i] != line:
             print("answer %d: second writer: %s; script: %s" % (i + 1, line[:200], found[i][:200] if i < len(found) else "(end)"))

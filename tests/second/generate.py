@@ -2,8 +2,8 @@
 
     messages(count, seed)  ->  (kind, message) pairs, the same ones for the same seed
 
-Fields are chosen by their number first, so that rare fields are damaged as often as frequent ones. Points have more than their share: much
-is nearly null. Some names are nearly equal.
+Fields are chosen by their number first, so that rare fields are damaged as often as frequent ones. Points and texts have more than their
+share: much is nearly null, or nearly text. Some names are nearly equal.
 """
 
 import math
@@ -11,6 +11,7 @@ import random
 import struct
 
 from encoder import encode
+from generate_texts import CHARACTERS, TORN
 from reader import Refused, read
 from wire import *
 
@@ -40,6 +41,7 @@ class Maker:
     # -- Valid records.
 
     def record(self, kind):
+        """A record. What its flags or its result leave out may be there, and be any bytes."""
         rng = self.rng
         record = {"version": rng.choice((0, 1))}
         if kind == LOGIN:
@@ -50,7 +52,7 @@ class Maker:
         elif kind == LOGIN_REPLY:
             record["result"] = rng.choice((0, 0, 0, 1, 2, 3, -1, -128, 127))
             record["host"], record["connection"], record["start"] = self.integer(4), self.integer(8), self.integer(8)
-            record["leader"], record["build"] = rng.randbytes(4), self.text()
+            record["leader"], record["build"] = rng.randbytes(4), self.text() if record["result"] == 0 else self.blob()
         elif kind == INVOCATION:
             record["procedure"], record["client_data"] = self.text(), rng.randbytes(8)
             record["parameters"] = [self.parameter() for _ in range(self.size(40))]
@@ -58,8 +60,9 @@ class Maker:
             record["client_data"] = rng.randbytes(8)
             record["flags"] = rng.choice((0, 32, 64, 96, 128, 160, 192, 224))
             record["status"], record["application"], record["round_trip"] = self.integer(1), self.integer(1), self.integer(4)
-            record["status_string"], record["application_string"] = self.body(), self.body()
-            record["exception"] = self.text()
+            for part, flag in (("status_string", FLAG_STATUS_STRING), ("application_string", FLAG_APPLICATION_STRING)):
+                record[part] = self.body(self.text if record["flags"] & flag else self.blob)
+            record["exception"] = self.blob()
             record["tables"] = self.tables()
         return record
 
@@ -71,7 +74,7 @@ class Maker:
             return wire_type, self.value(wire_type)
         element_type = self.rng.choice(COLUMN_TYPES + (TINYINT, TINYINT) + (POINT,) * 6)
         if element_type == TINYINT:
-            return ARRAY, (TINYINT, self.text())
+            return ARRAY, (TINYINT, self.blob())
         return ARRAY, (element_type, [self.value(element_type) for _ in range(self.size(60))])
 
     def table(self):
@@ -119,14 +122,33 @@ class Maker:
         """A count: mostly small, now and then up to `most`."""
         return self.rng.choice((0, 1, 1, 2, 2, 3, 4)) if self.rng.random() < 0.93 else self.rng.randint(0, most)
 
-    def text(self):
-        """A body that isn't null: mostly short, some empty, now and then long."""
-        size = self.size(300) if self.rng.random() < 0.995 else self.rng.randint(0, 9000)
-        return self.rng.randbytes(size)
+    def body_size(self):
+        """Mostly small, sometimes 0, now and then large."""
+        return self.size(300) if self.rng.random() < 0.995 else self.rng.randint(0, 9000)
 
-    def body(self):
+    def blob(self):
+        """Any bytes."""
+        return self.rng.randbytes(self.body_size())
+
+    def text(self):
+        """ASCII, characters of every size, or some of these among so much ASCII that whole words of it stand beside them."""
+        rng = self.rng
+        way = rng.random()
+        if way < 0.4:
+            return self.ascii(self.body_size())
+        if way < 0.85:
+            return self.characters(self.size(60))
+        return self.ascii(rng.choice((rng.randint(0, 40), self.body_size()))) + self.characters(rng.randint(1, 3)) + self.ascii(rng.randint(0, 40))
+
+    def ascii(self, size):
+        return bytes(self.rng.choices(range(128), k=size))
+
+    def characters(self, count):
+        return b"".join(self.rng.choices(CHARACTERS, k=count))
+
+    def body(self, content):
         """A body that may be null."""
-        return None if self.rng.random() < 0.2 else self.text()
+        return None if self.rng.random() < 0.2 else content()
 
     def integer(self, size):
         most = 2 ** (8 * size - 1)
@@ -144,7 +166,7 @@ class Maker:
             return rng.choice((0, -1, MOST_DECIMAL, -MOST_DECIMAL, NULL_DECIMAL, rng.randint(-10**15, 10**15), wide))
         if wire_type == POINT:
             return None if rng.random() < 0.2 else self.position()
-        body = self.body()
+        body = self.body(self.text if wire_type == STRING else self.blob)
         return b"\0" if wire_type == GEOGRAPHY and body == b"" else body
 
     def position(self):
@@ -172,9 +194,13 @@ class Maker:
             record, fields = read(kind, message)
         except Refused:
             return self.blindly(kind, message)
-        points = points_of(kind, record, fields)
+        points = values_of(POINT, kind, record, fields)
         if points and rng.random() < (0.6 if kind == INVOCATION else 0.2):  # invocations have fewer of them
             return kind, replaced(message, rng.choice(points), struct.pack(">dd", *self.beyond_point()))
+        texts = texts_of(kind, record, fields)
+        if texts and rng.random() < 0.15:
+            at, size, *_ = field = self.chosen(texts)
+            return kind, replaced(message, field, self.torn(message[at:at + size])[:size])
         way = rng.random()
         if way < 0.62:
             return kind, self.field_changed(message, self.chosen(fields))
@@ -222,6 +248,11 @@ class Maker:
         for _ in range(self.rng.choice((1, 1, 2, 3))):
             name[self.rng.randrange(len(name))] = self.rng.choice((128, 255, self.rng.randint(128, 255), 127))
         return bytes(name)
+
+    def torn(self, text):
+        """The text with a sequence put in that is none, between its bytes or over them."""
+        at, new = self.rng.randint(0, len(text)), self.rng.choice(TORN)
+        return text[:at] + new + text[at + self.rng.choice((0, len(new))):]
 
     def beyond_decimal(self):
         edge = self.rng.choice((10**38, -(10**38), NULL_DECIMAL, NULL_DECIMAL + 1, 2**127 - 1, MOST_DECIMAL, -MOST_DECIMAL))
@@ -317,12 +348,17 @@ def replaced(message, field, new):
     return message[:at] + new + message[at + size:]
 
 
-def points_of(kind, record, fields):
-    """The fields that are points."""
+def values_of(wanted, kind, record, fields):
+    """The fields that are values of a type; of one that is counted, their bodies."""
     if kind == REPLY:
-        return [field for field in fields if field[2] == F_CELL + 1 and record["tables"][field[3]]["types"][field[5]] == POINT]
+        return [field for field in fields if field[2] == F_CELL + 1 and record["tables"][field[3]]["types"][field[5]] == wanted]
     types = [it[0] if wire_type == ARRAY else wire_type for wire_type, it in record.get("parameters", ())]
-    return [field for field in fields if field[2] == F_VALUE + 1 and types[field[3]] == POINT]
+    return [field for field in fields if field[2] == F_VALUE + 1 and types[field[3]] == wanted]
+
+
+def texts_of(kind, record, fields):
+    """The bodies that are text."""
+    return [field for field in fields if field[2] in TEXT_BODIES] + values_of(STRING, kind, record, fields)
 
 
 def rooms_of(message, fields):
@@ -335,6 +371,8 @@ LENGTHS_AND_COUNTS = (
     F_LENGTH, F_SERVICE, F_USER, F_BUILD, F_PROCEDURE, F_PARAMETERS, F_ELEMENTS, F_VALUE, F_STATUS_STRING,
     F_APPLICATION_STRING, F_EXCEPTION, F_TABLES, F_TABLE, F_METADATA, F_COLUMNS, F_COLUMN_NAME, F_ROWS, F_ROW, F_CELL,
 )
+
+TEXT_BODIES = [field + 1 for field in (F_SERVICE, F_USER, F_BUILD, F_PROCEDURE, F_STATUS_STRING, F_APPLICATION_STRING)]
 
 # Zeros, infinities, quiet and signalling NaNs with and without payload, the smallest and the largest numbers, one.
 FLOAT_PATTERNS = (

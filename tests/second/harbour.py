@@ -1,6 +1,6 @@
 #!/usr/bin/env python3
 """Makes samples/: messages of a made-up harbour whose engine control asks a database for the limits of its engines, a reply that lacks
-a column, one with the positions of boats, and one with no-wake areas; and, for the program `limit`, its input and what it prints: the
+a column, one with the positions of boats, one with no-wake areas, and one in which a name is torn; and, for the program `limit`, its input and what it prints: the
 sample reply, the same with a row more, three in which the limit's column is no longer what it was, and one that lacks a later column."""
 
 import pathlib
@@ -8,7 +8,7 @@ import struct
 
 import areas
 from encoder import encode
-from reader import read
+from reader import Refused, read
 from wire import *
 from wire_poly import vertex
 
@@ -38,6 +38,19 @@ BOATS = {
         # A boat whose plotter is off.
         [5, b"Clam", None, 1_761_900_000_000_000],
         [9, b"Tug 9", (-0.0, 51.5), 1_762_000_030_000_000],
+    ],
+}
+
+
+BERTHS = {
+    "status": 0,
+    "types": [INTEGER, STRING],
+    "names": [b"BERTH", b"HIRER"],
+    "rows": [
+        [11, "Bodil Sørensen".encode()],
+        # A name of which twelve bytes were kept: of its last letter that is the first of two.
+        [12, "Åge Kjærgård".encode()[:12]],
+        [14, b"Tug 9 ApS"],
     ],
 }
 
@@ -102,6 +115,24 @@ MESSAGES = {
 }
 
 
+def samples():
+    """The files and their bytes. All say their records but the last, which is refused."""
+    made = {}
+    for name, (kind, record) in MESSAGES.items():
+        made[name + ".bin"] = encode(kind, record)
+        assert read(kind, made[name + ".bin"])[0] == record
+    made["4-berths-torn.bin"] = encode(REPLY, reply(BERTHS))
+    assert refusal(REPLY, made["4-berths-torn.bin"]) == BAD_TEXT
+    return made
+
+
+def refusal(kind, message):
+    try:
+        read(kind, message)
+    except Refused as no:
+        return no.number
+
+
 def replies():
     more = dict(ENGINES, rows=[[5, b"Clam", None, 500_000_000_000, 0, (0.0, 0.0), 0]] + ENGINES["rows"])
     tables = [ENGINES, more, without(ENGINES, b"VESSEL"), changed(ENGINES, b"THROTTLE_LIMIT", names=b"THROTTLE_LIMITS"),
@@ -132,10 +163,8 @@ def limits(messages):
 
 if __name__ == "__main__":
     SAMPLES.mkdir(exist_ok=True)
-    for name, (kind, record) in MESSAGES.items():
-        message = encode(kind, record)
-        assert read(kind, message)[0] == record
-        (SAMPLES / (name + ".bin")).write_bytes(message)
+    for name, message in samples().items():
+        (SAMPLES / name).write_bytes(message)
     program, messages = SAMPLES.parent / "crates" / "limit", replies()
     (program / "stdin").write_bytes(b"".join(len(reply).to_bytes(4, "big") + reply for reply in messages))
     (program / "stdout").write_text(limits(messages))

@@ -1,4 +1,4 @@
-"""The second reader: what paper 01 says of a message, in plain Python.
+"""The second reader: what paper 01 and requests 1 and 4 say of a message, in plain Python.
 
     read(kind, message)  ->  (record, fields), or Refused is raised
 
@@ -10,6 +10,7 @@ An array is (element type, values); for tinyint its values are bytes.
 
 import struct
 
+from utf8 import torn_at
 from wire import *
 
 
@@ -47,8 +48,8 @@ def login(reading, end, record):
     if record["version"] == 1:
         record["hash_version"] = reading.version(F_HASH_VERSION, end)
         long_hash = record["hash_version"] == 1
-    record["service"] = reading.counted(F_SERVICE, end)
-    record["user"] = reading.counted(F_USER, end)
+    record["service"] = reading.text(F_SERVICE, end)
+    record["user"] = reading.text(F_USER, end)
     record["hash"] = reading.block(32 if long_hash else 20, F_HASH, end)
 
 
@@ -60,11 +61,11 @@ def login_reply(reading, end, record):
     record["connection"] = reading.number(8, F_CONNECTION, end)
     record["start"] = reading.number(8, F_START, end)
     record["leader"] = reading.block(4, F_LEADER, end)
-    record["build"] = reading.counted(F_BUILD, end)
+    record["build"] = reading.text(F_BUILD, end)
 
 
 def invocation(reading, end, record):
-    record["procedure"] = reading.counted(F_PROCEDURE, end)
+    record["procedure"] = reading.text(F_PROCEDURE, end)
     record["client_data"] = reading.block(8, F_CLIENT_DATA, end)
     count = reading.count(2, MOST_ITEMS, F_PARAMETERS, end)
     record["parameters"] = [parameter(reading, p, end) for p in range(count)]
@@ -90,10 +91,10 @@ def reply(reading, end, record):
     flags = record["flags"] = reading.flags(end)
     record["status"] = reading.number(1, F_STATUS, end)
     if flags & FLAG_STATUS_STRING:
-        record["status_string"] = reading.counted(F_STATUS_STRING, end, null=True)
+        record["status_string"] = reading.text(F_STATUS_STRING, end, null=True)
     record["application"] = reading.number(1, F_APPLICATION, end)
     if flags & FLAG_APPLICATION_STRING:
-        record["application_string"] = reading.counted(F_APPLICATION_STRING, end, null=True)
+        record["application_string"] = reading.text(F_APPLICATION_STRING, end, null=True)
     record["round_trip"] = reading.number(4, F_ROUND_TRIP, end)
     if flags & FLAG_EXCEPTION:
         record["exception"] = reading.counted(F_EXCEPTION, end)
@@ -222,6 +223,14 @@ class Reading:
             return b""
         return self.block(length, body_field or field + 1, end, index)
 
+    def text(self, field, end, index=(0, 0, 0), null=False):
+        """A counted body that is text. The first sequence in it that isn't well-formed is refused at its first byte, whatever follows the body."""
+        body = self.counted(field, end, index, null)
+        torn = torn_at(body or b"")
+        if torn is not None:
+            raise Refused(BAD_TEXT, self.at - len(body) + torn, field + 1, index)
+        return body
+
     def name(self, end, index):
         """A column's name. The first byte above 127 is refused where it stands."""
         name = self.counted(F_COLUMN_NAME, end, index)
@@ -251,6 +260,8 @@ class Reading:
             if not (-180.0 <= longitude <= 180.0 and -90.0 <= latitude <= 90.0):
                 raise Refused(BAD_VALUE, at, field + 1, index)
             return point
+        if wire_type == STRING:
+            return self.text(field, end, index, null=True)
         body = self.counted(field, end, index, null=True)
         if wire_type == GEOGRAPHY and body == b"":
             raise Refused(BAD_VALUE, at, field, index)

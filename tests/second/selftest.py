@@ -2,7 +2,8 @@
 """Checks the second reader against itself: selftest.py [N] [SEED]
 
 What is accepted encodes to the same bytes and its fields tile it; every fault that reading can find is found in every field
-where the paper lets it be; null points, and all that is nearly one, are met wherever a point can be; the limits hold to the byte.
+where the paper lets it be; null points, and all that is nearly one, are met wherever a point can be, and characters, and all that is
+nearly one, wherever a text can be; what text is, Python's codec says too; the limits hold to the byte.
 The same of geographies' bodies; turning their holes twice restores them, and document 000's own is read at the places that it prints.
 """
 
@@ -13,12 +14,14 @@ from collections import Counter
 
 import areas
 import generate_areas
+import generate_texts
 import wire_poly
 from encoder import encode
 from frames import frame, swept
 from generate import IN_RANGE, NEARLY_NULL, messages
 from listing import listing
 from reader import Refused, read
+from utf8 import torn_at
 from wire import *
 
 FIXED = (2, 3, 8, 10, 11, 12, 13, 14, 22, 24, 25, 28, 30, 31, 34, 37, 43, 45, 51)
@@ -33,6 +36,7 @@ POSSIBLE = {
     BAD_VERSION: {2, 3},
     BAD_TYPE: {0, 24, 25, 45},
     BAD_VALUE: {27, 28, 30, 47, 50, 51},
+    BAD_TEXT: {5, 7, 16, 21, 28, 33, 36, 51},
 }
 POSSIBLE_INSIDE = {NO_ROOM: {*range(60, 69)}, BAD_SIGN: {63, 65}, LEFT_OVER: {68}, BAD_VALUE: {62, 63, 65}}
 
@@ -57,6 +61,9 @@ def main():
         points.update((0, *it) for it in points_in(fields, message))
     report(count, seed, verdicts, at_fields, listed)
     report_points(count, points)
+    check_text()
+    check_texts()
+    check_order_of_text()
     check_limits()
     check_frames()
     check_areas(count // 4, seed)
@@ -110,6 +117,62 @@ def verdict(kind, message):
         return refusal.number, refusal.place
 
 
+def check_text():
+    """All sequences of one and two bytes, longer ones at the edges of their bytes' ranges; all characters of up to three, each 97th of four."""
+    edges = (0, 0x7F, 0x80, 0x8F, 0x90, 0x9F, 0xA0, 0xBF, 0xC0, 0xC2, 0xFF)
+    count = 0
+    for parts in itertools.chain(
+            itertools.product(range(256)), itertools.product(range(256), range(256)),
+            itertools.product(range(0xE0, 0xF0), edges, edges), itertools.product(range(0xF0, 0x100), edges, edges, edges)):
+        check_with_codec(bytes(parts))
+        count += 1
+    whole = "".join(map(chr, (*range(0xD800), *range(0xE000, 0x10000), *range(0x10000, 0x110000, 97), 0x10FFFF)))
+    check_with_codec(whole.encode())
+    print("  text: %d sequences and %d characters, as Python's codec says" % (count, len(whole)))
+
+
+def check_with_codec(body):
+    """All before the place is text, and no character begins there: the codec is asked whether, never where."""
+    at = torn_at(body)
+    if at is None:
+        assert is_text(body), body.hex()
+    else:
+        assert is_text(body[:at]) and at < len(body), body.hex()
+        assert not any(is_text(body[at:end]) for end in range(at + 1, at + 5)), body.hex()
+
+
+def is_text(body):
+    try:
+        body.decode("utf-8", "strict")
+        return True
+    except UnicodeDecodeError:
+        return False
+
+
+def check_texts():
+    """Each made-up text by itself; then in the fields that are text, by turns, and where bytes are right or other rules are."""
+    for text, place in generate_texts.texts():
+        assert torn_at(text) == place, text.hex()
+        check_with_codec(text)
+    verdicts = Counter()
+    for kind, message, expected in generate_texts.messages(step=11):
+        assert verdict(kind, message) == expected, (kind, message.hex(), expected)
+        verdicts[expected if expected == "accepted" else expected[0]] += 1
+    print("  texts in messages: %d accepted, %d refused for text, %d for a name" % (verdicts["accepted"], verdicts[BAD_TEXT], verdicts[BAD_VALUE]))
+
+
+def check_order_of_text():
+    """A text's own length comes first, then the text, then what follows it; what isn't a character's whole is refused at its first byte."""
+    for message, expected in (
+            ("00 00000005 c3", (NO_ROOM, 5)), ("00 fffffffe c3", (BAD_SIGN, 5)), ("00 00100001 c3", (LIMIT, 5)),
+            ("00 00000002 61c3", (BAD_TEXT, 10)), ("00 00000002 c3a9", (NO_ROOM, 11)),
+            ("00 00000001 c3 a9", (BAD_TEXT, 9)), ("00 00000001 c3 ffffffff", (BAD_TEXT, 9)),
+            ("00 00000001 73 00000002 75e2 82ac", (BAD_TEXT, 15)), ("00 00000003 e282c3 00000005", (BAD_TEXT, 9)),
+            ("02 00000001 c3", (BAD_VERSION, 4)), ("01 02 00000001 c3", (BAD_VERSION, 5))):
+        body = bytes.fromhex(message)
+        assert verdict(LOGIN, len(body).to_bytes(4, "big") + body) == expected, message
+
+
 def check_limits():
     """Limits that are too long for a frame."""
     def call(*parameters):
@@ -118,6 +181,10 @@ def check_limits():
     most = bytes(MOST_BODY)
     assert verdict(INVOCATION, call((STRING, most))) == "accepted"
     assert verdict(INVOCATION, call((STRING, most + b"x"))) == (LIMIT, 21)
+    assert verdict(INVOCATION, call((STRING, most[2:] + b"\xc3\xa9"))) == "accepted"
+    assert verdict(INVOCATION, call((STRING, most[1:] + b"\xc3"))) == (BAD_TEXT, 24 + MOST_BODY)
+    assert verdict(INVOCATION, call((STRING, b"\xc3" + most))) == (LIMIT, 21)
+    assert verdict(INVOCATION, call((VARBINARY, most[1:] + b"\xc3"))) == "accepted"
     assert verdict(INVOCATION, call((ARRAY, (TINYINT, most)))) == "accepted"
     assert verdict(INVOCATION, call((ARRAY, (TINYINT, most + b"x")))) == (LIMIT, 22)
     assert verdict(INVOCATION, call(*[(NULL, None)] * MOST_ITEMS)) == "accepted"

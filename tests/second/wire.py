@@ -46,7 +46,7 @@ NULL_DECIMAL = -(2**127)
 NULL_POINT = (360.0, 360.0)  # longitude and latitude; only 360.0 is equal to 360.0, so this is one value of 16 bytes
 
 # Refusal numbers of reading.
-NO_ROOM, BAD_SIGN, LIMIT, LEFT_OVER, BAD_VERSION, BAD_TYPE, BAD_VALUE = 1, 2, 3, 4, 5, 6, 7
+NO_ROOM, BAD_SIGN, LIMIT, LEFT_OVER, BAD_VERSION, BAD_TYPE, BAD_VALUE, BAD_TEXT = 1, 2, 3, 4, 5, 6, 7, 20
 
 # Field numbers of the list.
 F_LENGTH, F_VERSION, F_HASH_VERSION = 1, 2, 3

@@ -1,4 +1,4 @@
-"""The second writer: paper 01's "Writing", step by step, in plain Python.
+"""The second writer: paper 01's "Writing", with requests 1 and 4, step by step, in plain Python.
 
 A step takes the state and the buffer and gives (answer, state, buffer): the answer is None, or (number, place), and then state and
 buffer are the same as before. A value is (wire type, value), with values as in reader.py, or the `Bits` of one of a fixed size, as the
@@ -10,6 +10,7 @@ import struct
 from dataclasses import dataclass, replace
 
 import encoder
+from utf8 import torn_at
 from wire import *
 
 OUTPUT_SHORT, PAST_END, WRONG_STAGE = 8, 11, 13
@@ -49,8 +50,8 @@ def write_login(buffer, version, hash_version, service, user, hash_):
     check_version(version, 0)
     if version == 1:
         check_version(hash_version, 0)
-    check_body(service, 0)
-    check_body(user, 0)
+    check_text(service, 0)
+    check_text(user, 0)
     size = 32 if version == 1 and hash_version == 1 else 20
     if len(hash_) < size:
         raise No(NO_ROOM, 0)
@@ -63,7 +64,7 @@ def write_login(buffer, version, hash_version, service, user, hash_):
 def write_login_reply(buffer, version, result, host, connection, start, leader, build):
     check_version(version, 0)
     if result == 0:
-        check_body(build, 0)
+        check_text(build, 0)
     record = {"version": version, "result": result, "host": host, "connection": connection, "start": start,
               "leader": leader, "build": build}
     return put(buffer, 0, encoder.encode(LOGIN_REPLY, record))
@@ -71,7 +72,7 @@ def write_login_reply(buffer, version, result, host, connection, start, leader, 
 
 def begin_invocation(buffer, version, procedure, client_data):
     check_version(version, 0)
-    check_body(procedure, 0)
+    check_text(procedure, 0)
     out = bytes(4) + encoder.number(version, 1) + encoder.counted(procedure) + client_data + bytes(2)
     return begin(buffer, out, CALL)
 
@@ -82,11 +83,11 @@ def begin_reply(buffer, version, client_data, flags, status, status_string, appl
         raise No(BAD_VALUE, 0)
     out = bytes(4) + encoder.number(version, 1) + client_data + bytes([flags]) + encoder.number(status, 1)
     if flags & FLAG_STATUS_STRING:
-        check_body(status_string, 0)
+        check_text(status_string, 0)
         out += encoder.counted(status_string)
     out += encoder.number(application, 1)
     if flags & FLAG_APPLICATION_STRING:
-        check_body(application_string, 0)
+        check_text(application_string, 0)
         out += encoder.counted(application_string)
     out += encoder.number(round_trip, 4)
     if flags & FLAG_EXCEPTION:
@@ -263,6 +264,12 @@ def check_body(body, place):
         raise No(LIMIT, place)
 
 
+def check_text(body, place):
+    check_body(body, place)
+    if body is not None and torn_at(body) is not None:
+        raise No(BAD_TEXT, place)
+
+
 def written(value, place):
     """The bytes of a value; 6 unless it is one of its type, and then its own rule."""
     wire_type, it = value
@@ -285,9 +292,12 @@ def value_of(wire_type, bits, place):
 
 
 def check_value(value, place):
-    """A value's own rule: a body's limit; 7 for a decimal, a point that is neither a position nor null, or an empty geography."""
+    """A value's own rule: a body's limit; a string is text; 7 for a decimal, a point that is neither a position nor null, or an empty
+    geography."""
     wire_type, it = value
-    if wire_type in COUNTED_TYPES:
+    if wire_type == STRING:
+        check_text(it, place)
+    elif wire_type in COUNTED_TYPES:
         check_body(it, place)
     bad = (wire_type == DECIMAL and not (-MOST_DECIMAL <= it <= MOST_DECIMAL or it == NULL_DECIMAL)
            or wire_type == POINT and not (-180.0 <= it[0] <= 180.0 and -90.0 <= it[1] <= 90.0 or it == NULL_POINT)

@@ -3,7 +3,9 @@
 
 The steps that a record spells write its encoding and nothing past it; in a buffer that is too short by k bytes some step answers 8
 at the place that it would reach, and changes nothing; a run of wild steps that reaches its end has written an accepted message. A null
-point is written from its numbers and from its bits, and what is nearly one is refused. The same of the steps that write a geography's body.
+point is written from its numbers and from its bits, and what is nearly one is refused. Text that is torn is refused where the writer stands,
+behind the faults before it and before those after it, and not looked at where it is left out or may be any bytes. The same of the steps
+that write a geography's body.
 """
 
 import random
@@ -14,6 +16,7 @@ import area_calls
 import area_scripts
 import areas
 import steps
+import text_scripts
 import writer
 from encoder import encode
 from generate import IN_RANGE, NEARLY_NULL, Maker
@@ -21,20 +24,23 @@ from generate_areas import AreaMaker
 from reader import read
 from wire import *
 
-# The types of what is written. Points have more than their share: much is nearly null.
-TYPES = COLUMN_TYPES + (POINT,) * 3
+# The types of what is written. Points and strings have more than their share: much is nearly null, or nearly text.
+TYPES = COLUMN_TYPES + (POINT,) * 3 + (STRING,) * 3
 
 
 def main():
     count = int(sys.argv[1]) if len(sys.argv) > 1 else 2000
     seed = int(sys.argv[2]) if len(sys.argv) > 2 else 1
     maker = Maker(random.Random(seed))
-    answers = Counter()
+    answers, torn = Counter(), Counter()
     for _ in range(count):
         spelled_once(maker)
-        wild_once(maker, answers)
+        wild_once(maker, answers, torn)
     check_points()
+    check_texts()
     print("writer_test: seed %d, %d records; wild answers: %s" % (seed, count, listed(answers)))
+    print("writer_test: torn texts among these: %s" % listed(torn))
+    assert count < 2000 or set(torn) == {*text_scripts.TEXT_ARGUMENTS, *text_scripts.VALUE_STEPS}, torn
     maker, answers = AreaMaker(random.Random(seed)), Counter()
     for _ in range(count):
         area_once(maker)
@@ -64,10 +70,12 @@ def spelled_once(maker):
     assert refused and int(refused[0].split()[2]) > short, (answers, short)
 
 
-def wild_once(maker, counts):
+def wild_once(maker, counts, torn):
     script = wild(maker)
     answers, state, buffer = steps.run(script)
     counts.update(a.split()[1] if a.startswith("refused") else a for a in answers[:-1])
+    answering = [name for name, _ in script if name not in ("buffer", "forge")]
+    torn.update(name for name, answer in zip(answering, answers) if answer.startswith("refused 20 "))
     forged = any(name == "forge" for name, _ in script)
     if not forged and state.stage == writer.CLOSED and state.position:
         kind = INVOCATION if any(n == "begin_invocation" for n, _ in script[1:2]) else REPLY
@@ -88,6 +96,20 @@ def check_points():
     for nearly in NEARLY_NULL:
         point = tuple(0.0 if number is IN_RANGE else number for number in nearly)
         assert added(point)[0] == "refused 7 19", point
+
+
+def check_texts():
+    """The first step that is given torn text is refused where the writer stands, and changes nothing."""
+    for script, verdict in text_scripts.by_turns(step=11):
+        walk = list(steps.walked(script[:-1]))
+        refused = next((n for n, (answer, *_) in enumerate(walk) if answer not in (None, "fine")), None)
+        assert (refused is None) == (verdict == "accepted"), steps.text(script)
+        if refused is not None:
+            _, state, buffer = walk[refused - 1]
+            assert walk[refused] == ("refused 20 %d" % state.position, state, buffer), steps.text(script)
+    for script, answer in text_scripts.in_order():
+        *fine, last = steps.run(script)[0]
+        assert set(fine) <= {"fine"} and last == answer, (steps.text(script)[:400], fine, last, answer)
 
 
 # -- Bodies of geographies.
@@ -146,7 +168,7 @@ def wild(maker, forging=0.5):
         return script + [wild_login(maker), ("show", ())]
     kind = rng.choice((INVOCATION, REPLY))
     first = steps.spelled(kind, maker.record(kind))[0]
-    script.append(first if rng.random() < 0.9 else wrong_beginning(maker, first))
+    script.append(first if rng.random() < 0.8 else wrong_beginning(maker, first))
     forging = rng.random() < forging
     stage, types = (writer.CALL if kind == INVOCATION else writer.REPLY_OPEN), ()
     _, state, _ = steps.run(script)
@@ -167,15 +189,17 @@ def wild_login(maker):
     version = rng.choice((0, 1, 1, 2, -1))
     if rng.random() < 0.5:
         hash_ = rng.randbytes(rng.choice((0, 19, 20, 20, 21, 31, 32, 32, 33)))
-        return "login", (version, rng.choice((0, 1, 1, 2, -128)), maker.text()[:40], maker.text()[:40], hash_)
-    return "login_reply", (version, rng.choice((0, 0, 1, -1)), maker.integer(4), maker.integer(8), maker.integer(8), rng.randbytes(4),
-                           maker.text()[:40])
+        step = "login", (version, rng.choice((0, 1, 1, 2, -128)), maker.text(), maker.text(), hash_)
+    else:
+        step = "login_reply", (version, rng.choice((0, 0, 1, -1)), maker.integer(4), maker.integer(8), maker.integer(8), rng.randbytes(4),
+                               maker.text())
+    return text_scripts.torn(maker, step) if rng.random() < 0.2 else step
 
 
 def likely(maker, stage, types):
     rng = maker.rng
     if stage == writer.CALL:
-        return rng.choice((("add_null", ()), ("add_value", (some_value(maker),)), ("add_byte_array", (maker.text()[:40],)),
+        return rng.choice((("add_null", ()), ("add_value", (some_value(maker),)), ("add_byte_array", (maker.blob()[:40],)),
                            ("open_array", (rng.choice(TYPES),)), ("finish_invocation", ())))
     if stage == writer.ARRAY_OPEN:
         return rng.choice((("add_element", (some_value(maker, types),)), ("add_element", (some_value(maker, types),)), ("close_array", ())))
@@ -190,7 +214,7 @@ def likely(maker, stage, types):
 
 def anything(maker):
     rng = maker.rng
-    return rng.choice((("add_null", ()), ("add_value", (some_value(maker),)), ("add_byte_array", (maker.text()[:40],)),
+    return rng.choice((("add_null", ()), ("add_value", (some_value(maker),)), ("add_byte_array", (maker.blob()[:40],)),
                        ("open_array", (rng.choice((*COLUMN_TYPES, ARRAY, NULL, 0, 2, 127, -128)),)), ("add_element", (some_value(maker),)),
                        ("close_array", ()), table(maker), ("open_row", ()), ("add_cell", (some_value(maker),)), ("close_row", ()),
                        ("close_table", ()), ("finish_invocation", ()), ("finish_reply", ())))
@@ -202,8 +226,9 @@ def some_value(maker, types=()):
     wire_type = types[0] if types and types[0] in COLUMN_TYPES and rng.random() < 0.9 else rng.choice(TYPES)
     if rng.random() < 0.05:
         return odd_value(rng, wire_type)
-    if rng.random() < (0.3 if wire_type == POINT else 0.1) and wire_type in (DECIMAL, POINT, GEOGRAPHY):
-        return wire_type, {DECIMAL: rng.choice((10**38, -10**38, 2**127 - 1)), POINT: maker.beyond_point(), GEOGRAPHY: b""}[wire_type]
+    if rng.random() < (0.3 if wire_type in (POINT, STRING) else 0.1) and wire_type in (DECIMAL, POINT, GEOGRAPHY, STRING):
+        return wire_type, {DECIMAL: rng.choice((10**38, -10**38, 2**127 - 1)), POINT: maker.beyond_point(), GEOGRAPHY: b"",
+                           STRING: maker.torn(maker.text())}[wire_type]
     value = maker.value(wire_type)
     return steps.given(wire_type, value[:40] if isinstance(value, bytes) else value)
 
@@ -237,9 +262,10 @@ def wrong_beginning(maker, first):
     name, arguments = first
     arguments = list(arguments)
     arguments[0] = maker.rng.choice((0, 1, 2, -1))
-    if name == "begin_reply":
+    if name == "begin_reply" and maker.rng.random() < 0.5:
         arguments[2] = maker.rng.randrange(256)
-    return name, tuple(arguments)
+    step = name, tuple(arguments)
+    return text_scripts.torn(maker, step) if maker.rng.random() < 0.5 else step
 
 
 def forgery(rng, state):
