@@ -52,8 +52,14 @@ enum {
     CHALOENPIK_CARD_STALE = 10,   /* a well-formed card doesn't fit the table: 0 */
     CHALOENPIK_PAST_END = 11,     /* a table, row, column, ring, vertex, entry or byte past the end, or a column's name past its buffer: 0 */
     CHALOENPIK_CARD_BROKEN = 12,  /* a card breaks its form: the first wrong byte; for a wrong size, the smaller of the sizes */
-    CHALOENPIK_BAD_STAGE = 13     /* a step of writing comes at a stage, or with a state, that doesn't permit it: the position */
+    CHALOENPIK_BAD_STAGE = 13,    /* a step of writing comes at a stage, or with a state, that doesn't permit it: the position */
+    CHALOENPIK_BAD_TEXT = 20      /* a text isn't well-formed UTF-8: the first byte that begins no well-formed sequence; in the writer, the
+                                     position */
 };
+
+/* Text is well-formed UTF-8 by RFC 3629, without surrogates and overlong forms: service, user, procedure, build, the status string, the
+   application string and every string value. It ends where its length says, not at a zero, and not inside a character. Varbinaries, arrays of
+   tinyints, exceptions, geographies and names that are searched for are any bytes; the names of columns are bytes from 0 to 127. */
 
 /* Kinds of messages. */
 enum { CHALOENPIK_LOGIN_REQUEST = 1, CHALOENPIK_LOGIN_RESPONSE = 2, CHALOENPIK_INVOCATION = 3, CHALOENPIK_RESPONSE = 4 };
@@ -144,7 +150,7 @@ uint64_t chaloenpik_response(const uint8_t *message, size_t length, uint64_t rec
 
 enum {
     CHALOENPIK_FIXED = 0, /* of a fixed size: its upper and its lower 64 bits, which the functions below take apart */
-    CHALOENPIK_BYTES = 1, /* text or binary: where its bytes start in the message, and how many they are */
+    CHALOENPIK_BYTES = 1, /* text, which is UTF-8, or binary: where its bytes start in the message, and how many they are */
     CHALOENPIK_NONE = 2,  /* null, of a point too: 0 and 0. A null decimal is shown by its bits, -2^127 */
     CHALOENPIK_MANY = 3   /* an array: its elements' wire type, and how many they are */
 };
@@ -219,7 +225,7 @@ uint64_t chaloenpik_column_type(const uint8_t *message, size_t length, size_t ta
 /* Where the bytes of a column's name stand in the message: their start and how many they are. */
 uint64_t chaloenpik_column_name(const uint8_t *message, size_t length, size_t table, size_t column, uint64_t part[2]);
 
-/* The position of the first column whose name is equal, byte for byte. 9 at 0: no column has that name. */
+/* The position of the first column whose name is equal, byte for byte; any bytes may be asked for. 9 at 0: no column has that name. */
 uint64_t chaloenpik_find_column(const uint8_t *message, size_t length, size_t table, const uint8_t *name, size_t name_length);
 
 /* A cell of a table. */
@@ -239,7 +245,8 @@ uint64_t chaloenpik_open_card(const uint8_t *message, size_t length, size_t tabl
 
 /* ---- Writing. `out` has room for `size` bytes; the value is the position that was reached, which after the last step is the
    message's size. A step that is refused leaves the buffer, the state and the types as they were; 8 at the position that it
-   would reach: no room. Numbers are given by their bits, without a sign. */
+   would reach: no room; 20 at the position before it, 0 for a login and a begin: a text isn't well-formed UTF-8, perhaps because it was
+   cut inside a character (examples/c/name.c). Numbers are given by their bits, without a sign. */
 
 /* A login request. The hash has 20 bytes, or 32 with hash version 1. In version 0 the hash version is ignored. */
 uint64_t chaloenpik_write_login_request(uint8_t *out, size_t size, uint8_t version, uint8_t hash_version, const uint8_t *service, size_t service_length,

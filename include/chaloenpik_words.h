@@ -21,6 +21,7 @@ static inline const char *chaloenpik_refusal_text(unsigned refusal) {
     case CHALOENPIK_PAST_END: return "a table, row, column, ring, vertex, list entry or byte offset is past the end, or a column entry past its name buffer";
     case CHALOENPIK_CARD_BROKEN: return "a card breaks its form";
     case CHALOENPIK_BAD_STAGE: return "a writer step comes at a stage, or with a saved state, that doesn't permit it";
+    case CHALOENPIK_BAD_TEXT: return "a text isn't well-formed UTF-8";
     default: return "unknown";
     }
 }

@@ -1,8 +1,8 @@
 /* table FILE [TABLE]: prints a table of a reply, the first unless said, with its columns' names in front and tabs between. The whole is one
    walk over the field list, each value read at its own place; no cell is asked for by itself.
 
-   Null is \N; bytes below 32, 127 and the backslash of a text are written \xNN; varbinary and geography are hexadecimal; a timestamp counts
-   microseconds; a point is its longitude and its latitude. */
+   Null is \N; of a text, which is UTF-8, bytes below 32, 127 and the backslash are written \xNN; varbinary and geography are hexadecimal; a
+   timestamp counts microseconds; a point is its longitude and its latitude. */
 #include "decimal.h"
 #include "fields.h"
 

@@ -12,6 +12,7 @@ Where each field stands comes from the proved library (listing.py); nothing here
     areas.py     geographies looked into: the fields inside a body that is an area, and where its vertices are
     geojson.py   the areas of a response as GeoJSON
     refusals.py  why a message is refused, in words; the fields before the place are the second reader's (tests/second)
+    texts.py     what is wrong with a text that isn't UTF-8, in words
     sources.py   what an answer was made from: the file, the project's commit, the kit
     lines.py     the answers as lines of text
     records.py   the answers as lines of JSON

@@ -116,7 +116,7 @@ class Chosen:
         name = shown_name(self.names[key])
         if not rows:
             raise NotThere("no row of table %d has %s %s; it has %s" % (self.table, name, values.quoted(word), values.count_of(len(cells), "row")))
-        self.note_rows(rows, name, word.decode(errors="backslashreplace"), len(cells))
+        self.note_rows(rows, name, word.decode(), len(cells))
         return rows[0]
 
     def note_rows(self, rows, name, word, count):

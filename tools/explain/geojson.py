@@ -102,7 +102,7 @@ def plain(wire_type, raw):
         number = struct.unpack(">d", raw)[0]
         return number if math.isfinite(number) else values.float_text(raw)
     if wire_type == paper.STRING:
-        return raw.decode("utf-8", errors="backslashreplace")
+        return raw.decode("utf-8")
     if wire_type == paper.VARBINARY:
         return "0x" + raw.hex()
     if wire_type == paper.POINT:

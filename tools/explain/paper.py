@@ -96,6 +96,7 @@ REFUSALS = {
     6: ("the wire type is unknown or not permitted there, or there is no such kind", "that byte; 0 for a kind"),
     7: ("a decimal, point, flag byte, column name or empty geography breaks its rule",
         "the value; a name's first byte above 127; an empty geography's length field"),
+    20: ("a text isn't well-formed UTF-8", "the first byte that begins no well-formed sequence"),
 }
 
 # Why the body of a geography is no area, by the refusal's number, or by that and its place in the body.

@@ -8,7 +8,7 @@ message with the same number at the same place.
 import functools
 import sys
 
-from . import lines, paper, values
+from . import lines, paper, texts, values
 from .building import ROOT
 from .fields import Explained
 
@@ -41,7 +41,7 @@ class Refusal:
                 "The second reader (tests/second) doesn't refuse this message so: one of the two is wrong, and no more can be said. Please report it."]
 
     def particular(self):
-        told = {1: self.no_room, 2: self.bad_sign, 3: self.limit, 4: self.left_over, 5: self.bad_version, 6: self.bad_type, 7: self.bad_value}
+        told = {1: self.no_room, 2: self.bad_sign, 3: self.limit, 4: self.left_over, 5: self.bad_version, 6: self.bad_type, 7: self.bad_value, 20: self.bad_text}
         return [*self.field_words(), *told[self.number]()]
 
     def fields_up_to(self, kind):
@@ -147,6 +147,11 @@ class Refusal:
         if self.field.value.startswith("longitude"):
             return ["A point's longitude is from -180 to 180 and its latitude from -90 to 90, and neither is NaN; or both are 360, which is null: one of them alone isn't."]
         return ["A decimal counts units of 10^-12, here %d; it is from -(10^38 - 1) to 10^38 - 1, or -2^127, which is null." % self.said()]
+
+    def bad_text(self):
+        raw, at = self.field.raw, self.place - self.field.offset
+        return ["Around byte %d, number %d of the text's %d, stands %s: no character of UTF-8 begins there." % (self.place, at + 1, len(raw), texts.around(raw, at)),
+                texts.fault(raw[at:])]
 
 
 def second_refusal(kind, message, refusal):

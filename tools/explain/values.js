@@ -27,7 +27,7 @@ function valueText(paper, type, raw) {
   }
 }
 
-// Text in quotes. Bytes that are no UTF-8, and characters that can't be printed, are escaped.
+// Text in quotes. Bytes that are no UTF-8, as a refused message may have, and characters that can't be printed, are escaped.
 function quoted(raw, most) {
   let shown = "", at = 0;
   for (let count = 0; count < most && at < raw.length; count++) {

@@ -48,7 +48,7 @@ def raw_text(wire_type, raw):
 
 
 def quoted(raw):
-    """Text in quotes. Bytes that are no UTF-8, and characters that can't be printed, are escaped."""
+    """Text in quotes. Bytes that are no UTF-8, as a refused message or a file's name may have, and characters that can't be printed, are escaped."""
     text = raw.decode("utf-8", errors="surrogateescape")
     shown = "".join(map(one_character, text[:MOST_SHOWN]))
     return '"%s"' % shown if len(text) <= MOST_SHOWN else '"%s.." (%s)' % (shown, count_of(len(raw), "byte"))

@@ -2,7 +2,7 @@
 
 use crate::foreign::{self, State};
 use crate::refusal::{found, Refusal};
-use crate::value::{answered_type, part, Form, Value, WireType};
+use crate::value::{answered_type, text, Form, Value, WireType};
 use crate::written;
 use std::fmt;
 
@@ -12,7 +12,7 @@ pub struct Invocation<'m> {
     /// 0 or 1.
     pub version: u8,
     /// The name of the procedure that is called.
-    pub procedure: &'m [u8],
+    pub procedure: &'m str,
     /// The client's own bytes, which the response brings back.
     pub client: [u8; 8],
     /// How many parameters there are.
@@ -28,7 +28,7 @@ pub fn invocation(message: &[u8]) -> Result<Invocation<'_>, Refusal> {
     found(unsafe { foreign::chaloenpik_invocation(message.as_ptr(), message.len(), &mut n) })?;
     Ok(Invocation {
         version: n[0] as u8,
-        procedure: part(message, n[1], n[2])?,
+        procedure: text(message, n[1], n[2])?,
         client: n[3].to_be_bytes(),
         parameters: n[4] as usize,
         parameters_at: n[5] as usize,
@@ -119,8 +119,7 @@ impl fmt::Debug for CallWriter<'_> {
 
 impl<'b> CallWriter<'b> {
     /// Begins an invocation of a procedure. The client's bytes come back in the response.
-    pub fn begin(out: &'b mut [u8], version: u8, procedure: impl AsRef<[u8]>, client: [u8; 8]) -> Result<Self, Refusal> {
-        let procedure = procedure.as_ref();
+    pub fn begin(out: &'b mut [u8], version: u8, procedure: &str, client: [u8; 8]) -> Result<Self, Refusal> {
         let mut state = State::default();
         // SAFETY: pointers and lengths are those of slices; what is written, buffer and state, is lent alone.
         let position = found(unsafe {

@@ -34,6 +34,23 @@
 //! # Ok::<(), chaloenpik::Refusal>(())
 //! ```
 //!
+//! # A name that arrives torn
+//!
+//! Text is `&str`. A message in which some isn't well-formed UTF-8 is refused as a whole, at the first byte that begins no character.
+//!
+//! ```
+//! use chaloenpik::{cell, find_column, Value};
+//!
+//! let mut reply = include_bytes!("../../../samples/4-engines.bin").to_vec();
+//! let vessel = find_column(&reply, 0, "VESSEL")?;
+//! assert_eq!(cell(&reply, 0, 2, vessel)?, Value::Text(Some("\u{c6}r\u{f8}")));
+//!
+//! reply[302] = b'?'; // the last byte of that name
+//! let refusal = cell(&reply, 0, 2, vessel).unwrap_err();
+//! assert_eq!(refusal.to_string(), "a text isn't well-formed UTF-8 (refusal 20) at byte 301");
+//! # Ok::<(), chaloenpik::Refusal>(())
+//! ```
+//!
 //! # A column that may move
 //!
 //! A card keeps a column by its position, type and name. It opens where the column still stands, and never gives another's position.
@@ -107,7 +124,7 @@
 //! # What is proved
 //!
 //! The functions of the archive are, and each call here is one or a few of them. Outside the proof are this crate's own lines, which are
-//! tested: numbers become Rust's types, and a [`Table`] takes its values from the bytes that the proved field list gives them, as
+//! tested: numbers and text become Rust's types, and a [`Table`] takes its values from the bytes that the proved field list gives them, as
 //! [`Area::vertices`] does from those behind a ring's place.
 //!
 //! # What is unsafe

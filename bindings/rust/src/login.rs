@@ -2,7 +2,7 @@
 
 use crate::foreign;
 use crate::refusal::{found, Refusal};
-use crate::value::part;
+use crate::value::{part, text};
 use crate::written;
 
 /// What a login request says.
@@ -13,9 +13,9 @@ pub struct LoginRequest<'m> {
     /// 0 for a hash of 20 bytes, 1 for one of 32. Version 0 has none, and its hash has 20 bytes.
     pub hash_version: Option<u8>,
     /// The service that is asked for.
-    pub service: &'m [u8],
+    pub service: &'m str,
     /// The user's name.
-    pub user: &'m [u8],
+    pub user: &'m str,
     /// The hash of the password.
     pub hash: &'m [u8],
 }
@@ -43,7 +43,7 @@ pub struct Welcome<'m> {
     /// The address of the leader.
     pub leader: [u8; 4],
     /// The server's build string.
-    pub build: &'m [u8],
+    pub build: &'m str,
 }
 
 /// What a login request says.
@@ -54,8 +54,8 @@ pub fn login_request(message: &[u8]) -> Result<LoginRequest<'_>, Refusal> {
     Ok(LoginRequest {
         version: n[0] as u8,
         hash_version: (n[1] == 1).then_some(n[2] as u8),
-        service: part(message, n[3], n[4])?,
-        user: part(message, n[5], n[6])?,
+        service: text(message, n[3], n[4])?,
+        user: text(message, n[5], n[6])?,
         hash: part(message, n[7], n[8])?,
     })
 }
@@ -65,7 +65,7 @@ pub fn login_response(message: &[u8]) -> Result<LoginResponse<'_>, Refusal> {
     let mut n = [0; 9];
     // SAFETY: as above.
     found(unsafe { foreign::chaloenpik_login_response(message.as_ptr(), message.len(), &mut n) })?;
-    let build = part(message, n[7], n[8])?;
+    let build = text(message, n[7], n[8])?;
     let leader = (n[5] as u32).to_be_bytes();
     let welcome = Welcome { host: n[2] as i32, connection: n[3] as i64, start: n[4] as i64, leader, build };
     Ok(LoginResponse { version: n[0] as u8, result: n[1] as i8, welcome: (n[6] == 1).then_some(welcome) })
@@ -78,7 +78,7 @@ pub fn login_response(message: &[u8]) -> Result<LoginResponse<'_>, Refusal> {
 /// ```
 /// use chaloenpik::{login_request, write_login_request, LoginRequest};
 ///
-/// let login = LoginRequest { version: 1, hash_version: Some(0), service: b"database", user: b"harbour", hash: &[7; 20] };
+/// let login = LoginRequest { version: 1, hash_version: Some(0), service: "database", user: "harbour", hash: &[7; 20] };
 /// let mut out = [0; 100];
 /// let message = write_login_request(&mut out, login)?;
 /// assert_eq!(login_request(message)?, login);

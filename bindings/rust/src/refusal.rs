@@ -55,13 +55,16 @@ pub enum Cause {
     BadCard = 12,
     /// A step of a writer comes at a stage that doesn't permit it: at the writer's position.
     WrongStage = 13,
+    /// A text isn't well-formed UTF-8: at the first byte that begins no well-formed sequence. Only what is read is refused so: writers take
+    /// `&str`.
+    BadText = 20,
     /// The archive answered what its header doesn't describe. The proved functions never do; it means that another archive was linked
     /// than this crate is written for. The paper has no number for it.
     UnknownAnswer = 0,
 }
 
-/// The paper's causes in the order of their numbers, from 1.
-const CAUSES: [Cause; 13] = [
+/// The paper's causes. Its numbers have gaps.
+const CAUSES: [Cause; 14] = [
     Cause::NoRoom,
     Cause::Negative,
     Cause::OverLimit,
@@ -75,17 +78,17 @@ const CAUSES: [Cause; 13] = [
     Cause::PastEnd,
     Cause::BadCard,
     Cause::WrongStage,
+    Cause::BadText,
 ];
 
 impl Cause {
-    /// The paper's number, 1 to 13; 0 for [`Cause::UnknownAnswer`].
+    /// The paper's number, 1 to 13 or 20; 0 for [`Cause::UnknownAnswer`].
     pub fn number(self) -> u8 {
         self as u8
     }
 
     fn from_number(number: u8) -> Cause {
-        let before = usize::from(number).wrapping_sub(1);
-        CAUSES.get(before).copied().unwrap_or(Cause::UnknownAnswer)
+        CAUSES.into_iter().find(|cause| cause.number() == number).unwrap_or(Cause::UnknownAnswer)
     }
 
     fn words(self) -> &'static str {
@@ -103,6 +106,7 @@ impl Cause {
             Cause::PastEnd => "what is asked for is past the end",
             Cause::BadCard => "the card breaks its form",
             Cause::WrongStage => "the writer's stage doesn't permit this step",
+            Cause::BadText => "a text isn't well-formed UTF-8",
             Cause::UnknownAnswer => "the linked archive gave an answer that its header doesn't describe",
         }
     }
@@ -156,11 +160,11 @@ mod tests {
     #[test]
     fn every_answer_is_taken_apart() {
         assert_eq!(found(30 << 8), Ok(30));
-        for number in 1..=13 {
+        for number in (1..=13).chain([20]) {
             let refusal = found(30 << 8 | u64::from(number)).unwrap_err();
             assert_eq!((refusal.number(), refusal.place), (number, 30));
         }
-        for number in 14..=255 {
+        for number in (14..=19).chain(21..=255) {
             assert_eq!(found(number).map_err(|no| no.cause), Err(Cause::UnknownAnswer));
         }
     }
@@ -173,5 +177,6 @@ mod tests {
         assert_eq!(words(Cause::NoColumn), "no column has that name (refusal 9)");
         assert_eq!(words(Cause::BadCard), "the card breaks its form (refusal 12) at byte 30 of the card");
         assert_eq!(words(Cause::WrongStage), "the writer's stage doesn't permit this step (refusal 13) at position 30");
+        assert_eq!(words(Cause::BadText), "a text isn't well-formed UTF-8 (refusal 20) at byte 30");
     }
 }

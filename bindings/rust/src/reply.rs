@@ -3,7 +3,7 @@
 use crate::foreign::{self, State, Types};
 use crate::refusal::{found, Refusal};
 use crate::table::Column;
-use crate::value::{part, Form, Value, WireType};
+use crate::value::{part, text, Form, Value, WireType};
 use crate::written;
 use std::fmt;
 
@@ -15,8 +15,8 @@ pub enum Optional<'m> {
     Absent,
     /// It has one, and that is null.
     Null,
-    /// It has one. Text isn't checked as UTF-8.
-    There(&'m [u8]),
+    /// It has one.
+    There(&'m str),
 }
 
 /// All that a response has before its table count. The flag byte says which strings, and whether an exception, are there, and so it
@@ -65,19 +65,26 @@ pub fn response(message: &[u8]) -> Result<Response<'_>, Refusal> {
         app_status: n[7] as i8,
         app_string: optional(message, n[8], n[9], n[10])?,
         round_trip: n[11] as i32,
-        exception: match optional(message, n[12], n[13], n[14])? {
-            Optional::There(bytes) => Some(bytes),
-            Optional::Absent | Optional::Null => None,
+        exception: match n[12] {
+            ABSENT => None,
+            THERE => Some(part(message, n[13], n[14])?),
+            _ => return Err(Refusal::UNKNOWN_ANSWER),
         },
     };
     Ok(Response { head, tables: n[15] as usize, tables_at: n[16] as usize })
 }
 
+/// The forms of a string or an exception in numbers: none, a null, one that is there.
+const ABSENT: u64 = 0;
+const NULL: u64 = 1;
+const THERE: u64 = 2;
+
 fn optional(message: &[u8], form: u64, start: u64, size: u64) -> Result<Optional<'_>, Refusal> {
     match form {
-        0 => Ok(Optional::Absent),
-        1 => Ok(Optional::Null),
-        _ => part(message, start, size).map(Optional::There),
+        ABSENT => Ok(Optional::Absent),
+        NULL => Ok(Optional::Null),
+        THERE => text(message, start, size).map(Optional::There),
+        _ => Err(Refusal::UNKNOWN_ANSWER),
     }
 }
 
@@ -85,7 +92,7 @@ impl<'m> Optional<'m> {
     /// Whether it is null, and its bytes, as the foreign function takes them.
     fn parts(self) -> (bool, &'m [u8]) {
         match self {
-            Optional::There(bytes) => (false, bytes),
+            Optional::There(text) => (false, text.as_bytes()),
             Optional::Absent | Optional::Null => (true, &[]),
         }
     }
@@ -124,7 +131,7 @@ pub struct ColumnEntry {
 /// ```
 /// use chaloenpik::{Decimal, Optional, ReplyHead, ReplyWriter, Table, Value, WireType};
 ///
-/// let head = ReplyHead { status: 1, status_string: Optional::There(b"ok"), ..ReplyHead::default() };
+/// let head = ReplyHead { status: 1, status_string: Optional::There("ok"), ..ReplyHead::default() };
 /// let limits = [(1, 850_000_000_000), (2, 800_000_000_000)];
 ///
 /// let mut out = [0; 200];

@@ -1,7 +1,7 @@
 //! Wire types and values.
 
 use crate::refusal::Refusal;
-use std::fmt;
+use std::{fmt, str};
 
 /// A wire type, by the paper's number.
 #[derive(Clone, Copy, Debug, PartialEq, Eq, Hash)]
@@ -21,7 +21,7 @@ pub enum WireType {
     Bigint = 6,
     /// 8 bytes of IEEE 754.
     Float = 8,
-    /// Text with its length.
+    /// Text, which is UTF-8, with its length.
     String = 9,
     /// Microseconds, in 8 bytes.
     Timestamp = 11,
@@ -74,7 +74,7 @@ pub(crate) fn answered_type(number: u64) -> Result<WireType, Refusal> {
     u8::try_from(number).ok().and_then(WireType::from_byte).ok_or(Refusal::UNKNOWN_ANSWER)
 }
 
-/// A value, by its wire type. Text and binary values read from a message are parts of it. Text isn't checked as UTF-8.
+/// A value, by its wire type. Text and binary values read from a message are parts of it.
 ///
 /// A boat whose plotter is off has a null for its position:
 ///
@@ -102,7 +102,7 @@ pub enum Value<'m> {
     /// A float, with every bit as in the message, those of a NaN too.
     Float(f64),
     /// A string, or its null.
-    Text(Option<&'m [u8]>),
+    Text(Option<&'m str>),
     /// Microseconds.
     Timestamp(i64),
     /// A decimal, or its null.
@@ -173,7 +173,8 @@ impl<'m> Value<'m> {
             Value::Decimal(decimal) => Form::Fixed(decimal.map_or(Decimal::NULL, Decimal::units) as u128),
             Value::Point { longitude, latitude } => Form::Fixed(u128::from(longitude.to_bits()) << 64 | u128::from(latitude.to_bits())),
             Value::NullPoint => Form::Fixed(NULL_POINT),
-            Value::Text(bytes) | Value::Binary(bytes) | Value::Geography(bytes) => Form::Body(bytes),
+            Value::Text(text) => Form::Body(text.map(str::as_bytes)),
+            Value::Binary(bytes) | Value::Geography(bytes) => Form::Body(bytes),
         }
     }
 
@@ -223,7 +224,7 @@ impl<'m> Value<'m> {
     /// A text or binary value.
     fn counted(wire_type: WireType, body: Option<&'m [u8]>) -> Option<Self> {
         match wire_type {
-            WireType::String => Some(Value::Text(body)),
+            WireType::String => Some(Value::Text(body.map(str::from_utf8).transpose().ok()?)),
             WireType::Varbinary => Some(Value::Binary(body)),
             WireType::Geography => Some(Value::Geography(body)),
             _ => None,
@@ -242,7 +243,7 @@ impl fmt::Display for Value<'_> {
             Value::Float(x) => x.fmt(f),
             Value::Decimal(Some(decimal)) => decimal.fmt(f),
             Value::Point { longitude, latitude } => write!(f, "{longitude} {latitude}"),
-            Value::Text(Some(bytes)) => write!(f, "{:?}", String::from_utf8_lossy(bytes)),
+            Value::Text(Some(text)) => write!(f, "{text:?}"),
             Value::Binary(Some(bytes)) | Value::Geography(Some(bytes)) => bytes.iter().try_for_each(|byte| write!(f, "{byte:02x}")),
             Value::Text(None) | Value::Decimal(None) | Value::Binary(None) | Value::NullPoint | Value::Geography(None) => f.pad("null"),
         }
@@ -253,6 +254,11 @@ impl fmt::Display for Value<'_> {
 pub(crate) fn part(message: &[u8], start: u64, size: u64) -> Result<&[u8], Refusal> {
     let (start, size) = (start as usize, size as usize);
     message.get(start..).and_then(|rest| rest.get(..size)).ok_or(Refusal::UNKNOWN_ANSWER)
+}
+
+/// A text of the message, by its start and size. An accepted message has only well-formed ones.
+pub(crate) fn text(message: &[u8], start: u64, size: u64) -> Result<&str, Refusal> {
+    str::from_utf8(part(message, start, size)?).map_err(|_| Refusal::UNKNOWN_ANSWER)
 }
 
 impl From<i8> for Value<'_> {
@@ -287,7 +293,7 @@ impl From<f64> for Value<'_> {
 
 impl<'m> From<&'m str> for Value<'m> {
     fn from(text: &'m str) -> Self {
-        Value::Text(Some(text.as_bytes()))
+        Value::Text(Some(text))
     }
 }
 
@@ -394,6 +400,9 @@ mod tests {
         assert_eq!(Value::from_numbers(&[], [7, 0, 0, 0]), Err(Refusal::UNKNOWN_ANSWER));
         assert_eq!(Value::from_numbers(&[1], [9, BYTES, 1, 1]), Err(Refusal::UNKNOWN_ANSWER));
         assert_eq!(Value::from_numbers(&[1], [9, BYTES, u64::MAX, u64::MAX]), Err(Refusal::UNKNOWN_ANSWER));
+        assert_eq!(Value::from_numbers(&[0xc3], [9, BYTES, 0, 1]), Err(Refusal::UNKNOWN_ANSWER));
+        assert_eq!(Value::from_bytes(WireType::String, &[0, 0, 0, 1, 0xc3]), None);
+        assert_eq!(text(&[0xc3], 0, 1), Err(Refusal::UNKNOWN_ANSWER));
         for (wire_type, form) in [(26, BYTES), (9, FIXED), (22, NONE), (9, 4)] {
             assert_eq!(Value::from_numbers(&[], [wire_type, form, 0, 0]), Err(Refusal::UNKNOWN_ANSWER));
         }

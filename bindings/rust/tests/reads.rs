@@ -133,22 +133,22 @@ fn a_card_fits_while_its_column_stays() {
 #[test]
 fn records() {
     let login = login_request(LOGIN).unwrap();
-    assert_eq!((login.version, login.hash_version, login.service, login.user), (1, Some(0), &b"database"[..], &b"harbour"[..]));
+    assert_eq!((login.version, login.hash_version, login.service, login.user), (1, Some(0), "database", "harbour"));
     assert_eq!(login.hash.len(), 20);
 
     let reply = login_response(LOGIN_REPLY).unwrap();
-    let welcome = Welcome { host: 3, connection: 12, start: 1_760_000_000_000, leader: [10, 0, 0, 1], build: b"6.0 harbour" };
+    let welcome = Welcome { host: 3, connection: 12, start: 1_760_000_000_000, leader: [10, 0, 0, 1], build: "6.0 harbour" };
     assert_eq!((reply.version, reply.result, reply.welcome), (1, 0, Some(welcome)));
     let failed = login_response(&[0, 0, 0, 2, 0, 253]).unwrap();
     assert_eq!((failed.version, failed.result, failed.welcome), (0, -3, None));
 
     let call = invocation(CALL).unwrap();
-    assert_eq!((call.procedure, call.client, call.parameters), (&b"EngineLimits"[..], 42u64.to_be_bytes(), 4));
+    assert_eq!((call.procedure, call.client, call.parameters), ("EngineLimits", 42u64.to_be_bytes(), 4));
 
     let reply = response(REPLY).unwrap();
     let head = reply.head;
     assert_eq!((head.version, head.client, head.status, head.app_status, head.round_trip), (0, 42u64.to_be_bytes(), 1, -128, 2));
-    assert_eq!((head.status_string, head.app_string, head.exception), (Optional::There(b"ok"), Optional::Absent, None));
+    assert_eq!((head.status_string, head.app_string, head.exception), (Optional::There("ok"), Optional::Absent, None));
     assert_eq!(reply.tables, 1);
     assert_eq!(response(LOGIN), Err(accept(Kind::Response, LOGIN).unwrap_err()));
 }

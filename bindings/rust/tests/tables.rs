@@ -108,7 +108,7 @@ fn values_by_type() -> [[Value<'static>; 4]; 11] {
         [i32::MIN, i32::MAX, 0, -70_000].map(Value::Integer),
         [i64::MIN, i64::MAX, 0, -1].map(Value::Bigint),
         [f64::NAN, f64::from_bits(0xfff4_0000_0000_0001), -0.0, f64::NEG_INFINITY].map(Value::Float),
-        [None, Some(&b""[..]), Some(&[255, 0]), Some(b"Bodil")].map(Value::Text),
+        [None, Some(""), Some("\u{10ffff}\0"), Some("Bodil")].map(Value::Text),
         [i64::MIN, i64::MAX, 0, -1].map(Value::Timestamp),
         [most, -most, i128::MIN, -1].map(decimal),
         [None, Some(&b""[..]), Some(&[255; 4]), Some(&[0, 255])].map(Value::Binary),
@@ -169,7 +169,7 @@ fn fifty_thousand_rows() -> Result<(), Refusal> {
     let mut w = ReplyWriter::begin(&mut out, ReplyHead::default())?;
     w.open_table(0, [("ENGINE_ID", WireType::Integer), ("VESSEL", WireType::String)])?;
     let names = ["Bodil", "", "Karen"];
-    let vessel = |number: usize| Value::Text(names.get(number % 4).map(|name| name.as_bytes()));
+    let vessel = |number: usize| Value::Text(names.get(number % 4).copied());
     for number in 0..50_000 {
         w.row([Value::Integer(number as i32), vessel(number)])?;
     }
