@@ -23,6 +23,15 @@ WALK counted(reader *r, size_t end, bool nullable, lister *l, unsigned field, si
     return true;
 }
 
+/* A text or null. It isn't looked at again where it is listed: what is listed was accepted. */
+WALK text(reader *r, size_t end, lister *l, unsigned field, size_t i, size_t j, size_t k) {
+    size_t body = r->at + 4;
+    if (!counted(r, end, true, l, field, i, j, k)) return false;
+    if (l != NULL) return true;
+    size_t size = r->at - body, fine = well_formed(r->m + body, size);
+    return fine == size || refuse(r, BAD_TEXT, body + fine);
+}
+
 WALK count(reader *r, size_t end, uint32_t most, lister *l, unsigned field, size_t i, size_t *is) {
     size_t at = r->at;
     if (!block(r, end, 2, l, field, i, 0, 0)) return false;
@@ -54,6 +63,7 @@ WALK cell(reader *r, size_t end, uint8_t type, lister *l, size_t i, size_t j, si
     case PLAIN_POINT:
         if (!block(r, end, 16, l, 51, i, j, k)) return false;
         return point_fine(load64(r->m + at), load64(r->m + at + 8)) || refuse(r, BAD_VALUE, at);
+    case PLAIN_STRING: return text(r, end, l, 50, i, j, k);
     default:
         if (!counted(r, end, true, l, 50, i, j, k)) return false;
         return type != PLAIN_GEOGRAPHY || load32(r->m + at) != 0 || refuse(r, BAD_VALUE, at);
@@ -109,9 +119,9 @@ WALK head(reader *r, size_t end, lister *l, size_t *tables) {
     uint8_t flags = r->m[13];
     if (flags & OTHER_FLAGS) return refuse(r, BAD_VALUE, 13);
     if (!block(r, end, 1, l, 31, 0, 0, 0)) return false;
-    if (flags & FLAG_STATUS && !counted(r, end, true, l, 32, 0, 0, 0)) return false;
+    if (flags & FLAG_STATUS && !text(r, end, l, 32, 0, 0, 0)) return false;
     if (!block(r, end, 1, l, 34, 0, 0, 0)) return false;
-    if (flags & FLAG_APPLICATION && !counted(r, end, true, l, 35, 0, 0, 0)) return false;
+    if (flags & FLAG_APPLICATION && !text(r, end, l, 35, 0, 0, 0)) return false;
     if (!block(r, end, 4, l, 37, 0, 0, 0)) return false;
     if (flags & FLAG_EXCEPTION && !counted(r, end, false, l, 38, 0, 0, 0)) return false;
     return count(r, end, MOST_ITEMS, l, 40, 0, tables);

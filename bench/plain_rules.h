@@ -3,7 +3,7 @@
 #include "plain.h"
 #include <string.h>
 
-enum { NO_ROOM = 1, BAD_SIGN = 2, LIMIT = 3, LEFT_OVER = 4, BAD_VERSION = 5, BAD_TYPE = 6, BAD_VALUE = 7, OUTPUT = 8, NO_COLUMN = 9, STALE = 10, PAST_END = 11, CARD_FORM = 12, STAGE = 13 };
+enum { NO_ROOM = 1, BAD_SIGN = 2, LIMIT = 3, LEFT_OVER = 4, BAD_VERSION = 5, BAD_TYPE = 6, BAD_VALUE = 7, OUTPUT = 8, NO_COLUMN = 9, STALE = 10, PAST_END = 11, CARD_FORM = 12, STAGE = 13, BAD_TEXT = 20 };
 
 enum { MOST_MESSAGE = 4194304, MOST_BODY = 1048576, MOST_ROW = 2097152, MOST_COLUMNS = 64, MOST_ITEMS = 32767 };
 
@@ -81,4 +81,55 @@ static inline bool point_fine(uint64_t first, uint64_t second) {
     double longitude = float_of(first), latitude = float_of(second);
     bool is_position = -180.0 <= longitude && longitude <= 180.0 && -90.0 <= latitude && latitude <= 90.0;
     return is_position || is_null_point(first, second);
+}
+
+/* The high bits of eight bytes: none if all are ASCII. */
+static inline uint64_t high_bits(const uint8_t *p) {
+    uint64_t bits;
+    memcpy(&bits, p, 8);
+    return bits & 0x8080808080808080;
+}
+
+static inline size_t first_high(uint64_t bits) { return (size_t)__builtin_ctzll(bits) / 8; }
+
+/* How many bytes of ASCII a text begins with. Eight are looked at together, the last eight too, though some of these were seen before. */
+static inline size_t ascii_run(const uint8_t *text, size_t size) {
+    size_t at = 0;
+    if (size < 8) {
+        while (at < size && text[at] < 0x80) at++;
+        return at;
+    }
+    for (; size - at >= 8; at += 8) {
+        uint64_t high = high_bits(text + at);
+        if (high != 0) return at + first_high(high);
+    }
+    uint64_t high = high_bits(text + size - 8);
+    return high == 0 ? size : size - 8 + first_high(high);
+}
+
+static inline bool continues(uint8_t byte) { return (byte & 0xc0) == 0x80; }
+
+/* The size of the well-formed sequence of several bytes that a text begins with; 0 if there is none. Its first two bytes tell overlong forms,
+   surrogates and what is above U+10FFFF. */
+static inline size_t sequence(const uint8_t *text, size_t size) {
+    uint8_t lead = text[0];
+    if (lead < 0xc2 || lead > 0xf4) return 0;
+    if (lead < 0xe0) return size >= 2 && continues(text[1]) ? 2 : 0;
+    if (lead < 0xf0) {
+        if (size < 3 || !continues(text[1]) || !continues(text[2])) return 0;
+        return (lead == 0xe0 && text[1] < 0xa0) || (lead == 0xed && text[1] > 0x9f) ? 0 : 3;
+    }
+    if (size < 4 || !continues(text[1]) || !continues(text[2]) || !continues(text[3])) return 0;
+    return (lead == 0xf0 && text[1] < 0x90) || (lead == 0xf4 && text[1] > 0x8f) ? 0 : 4;
+}
+
+/* How many bytes of a text, from its first on, are well-formed UTF-8 by RFC 3629. */
+static inline size_t well_formed(const uint8_t *text, size_t size) {
+    size_t at = 0;
+    while (at < size) {
+        size_t passed = text[at] < 0x80 ? ascii_run(text + at, size - at) : sequence(text + at, size - at);
+        if (passed == 0) return at;
+        at += passed;
+    }
+    return at;
 }

@@ -1,6 +1,7 @@
 /* The plain reader and writer over frames, to be held against the second reader: standard input is a row of frames (4 bytes
    of size, big-endian, then one byte of kind, 4, and a message). For each it prints the field list, or `refused NUMBER PLACE`,
-   and a line with a dot. It also asks for each cell and column, and writes each accepted message anew, and says where either differs.
+   and a line with a dot. It also asks for each cell and column, and writes each accepted message anew, and says where either differs, or
+   where a torn text is written.
    With kind 27, the wire type of a geography, it is an area: behind its field list stands what it is with its holes turned. */
 #include "plain_rules.h"
 #include <stdio.h>
@@ -113,8 +114,7 @@ static size_t offset_of(size_t count, unsigned field, size_t i) {
     return 0;
 }
 
-static bool written_alike(size_t size, size_t count) {
-    plain_writer w;
+static plain_opening opening(size_t count) {
     plain_opening o = {.flags = message[13], .status = message[14]};
     bool no_null;
     memcpy(o.client, message + 5, 8);
@@ -123,11 +123,44 @@ static bool written_alike(size_t size, size_t count) {
     take_text(0, count, 38, &no_null, &o.exception, &o.exception_size);
     o.app_status = message[offset_of(count, 34, 0)];
     o.round_trip = (int32_t)load32(message + offset_of(count, 37, 0));
+    return o;
+}
+
+static bool written_alike(size_t size, size_t count) {
+    plain_writer w;
+    plain_opening o = opening(count);
     size_t tables = load16(message + offset_of(count, 40, 0));
     if (plain_begin(&w, again, size, message[4], &o).number != 0) return false;
     for (size_t i = 0; i < tables; i++)
         if (!put_table(&w, size, i, offset_of(count, 41, i))) return false;
     return plain_finish(&w).number == 0 && w.at == size && memcmp(message, again, size) == 0;
+}
+
+/* A name cut in mid-letter. */
+static const uint8_t torn[] = {'B', 'j', 0xc3};
+
+static bool is_torn(plain_refusal no, size_t place) { return no.number == BAD_TEXT && no.place == place; }
+
+/* It is refused as each text of the opening that the flags ask for, and otherwise ignored. */
+static bool torn_opening_refused(size_t count) {
+    plain_writer w;
+    plain_opening status = opening(count), app = status;
+    status.status_null = false, status.status_string = torn, status.status_size = sizeof torn;
+    app.app_null = false, app.app_string = torn, app.app_size = sizeof torn;
+    return is_torn(plain_begin(&w, again, MOST_FRAME, message[4], &status), 0) == ((status.flags & FLAG_STATUS) != 0)
+        && is_torn(plain_begin(&w, again, MOST_FRAME, message[4], &app), 0) == ((app.flags & FLAG_APPLICATION) != 0);
+}
+
+/* It is refused as a string, at the writer's position, and is a fine varbinary. */
+static bool torn_cell_refused(size_t count) {
+    const plain_column columns[] = {{PLAIN_VARBINARY, 0, 0}, {PLAIN_STRING, 0, 0}};
+    plain_writer w;
+    plain_opening o = opening(count);
+    if (plain_begin(&w, again, MOST_FRAME, message[4], &o).number != 0) return false;
+    if (plain_open_table(&w, 0, columns, 2, message, 0).number != 0 || plain_open_row(&w).number != 0) return false;
+    if (plain_put_body(&w, PLAIN_VARBINARY, false, torn, sizeof torn).number != 0) return false;
+    size_t at = w.at;
+    return is_torn(plain_put_body(&w, PLAIN_STRING, false, torn, sizeof torn), at) && w.at == at;
 }
 
 static bool area_written_alike(size_t size) {
@@ -161,6 +194,7 @@ static void one(size_t size) {
     if (!cells_agree(size, count)) printf("a cell differs from the list\n");
     if (!columns_agree(size, count)) printf("a column differs from the list\n");
     if (!written_alike(size, count)) printf("written anew, the message differs\n");
+    if (!torn_opening_refused(count) || !torn_cell_refused(count)) printf("a torn text is written\n");
 }
 
 static void one_area(size_t size) {

@@ -12,6 +12,7 @@ ROOT = pathlib.Path(__file__).resolve().parents[1]
 sys.path.insert(0, str(ROOT / "tests" / "second"))
 
 import areas
+import generate_texts
 from frames import frame
 from generate import messages
 from generate_areas import bodies, edges
@@ -22,11 +23,18 @@ from wire import GEOGRAPHY, REPLY
 
 def main(count=4000, seed=1):
     replies = [message for kind, message in messages(count, seed) if kind == REPLY]
-    accepted = compared(REPLY, replies, lambda message: listing(bytes([REPLY]) + message))
+    accepted = compared(REPLY, replies, listing_of_reply)
     print("plain C agrees on %d replies, %d of them accepted and written anew" % (len(replies), accepted))
+    texts = [message for kind, message, _ in generate_texts.messages() if kind == REPLY]
+    accepted = compared(REPLY, texts, listing_of_reply)
+    print("plain C agrees on %d replies with text at the edges of its rule, %d of them accepted and written anew" % (len(texts), accepted))
     inside = [*edges(), *bodies(count, seed)]
     accepted = compared(GEOGRAPHY, inside, listing_and_turned)
     print("plain C agrees on %d bodies of geographies, %d of them areas, written anew and turned" % (len(inside), accepted))
+
+
+def listing_of_reply(message):
+    return listing(bytes([REPLY]) + message)
 
 
 def listing_and_turned(body):

@@ -46,14 +46,22 @@ static void put_counted(plain_writer *w, bool null, const uint8_t *bytes, size_t
 
 static size_t counted_size(bool there, bool null, size_t size) { return !there ? 0 : null ? 4 : 4 + size; }
 
+/* What is wrong with a text, if it is there and anything is. */
+static uint32_t text_fault(bool there, bool null, const uint8_t *text, size_t size) {
+    if (!there || null) return 0;
+    if (size > MOST_BODY) return LIMIT;
+    return well_formed(text, size) == size ? 0 : BAD_TEXT;
+}
+
 plain_refusal plain_begin(plain_writer *w, uint8_t *buffer, size_t size, uint8_t version, const plain_opening *o) {
     bool status = o->flags & FLAG_STATUS, app = o->flags & FLAG_APPLICATION, exception = o->flags & FLAG_EXCEPTION;
     plain_writer begun = {.buffer = buffer, .size = size, .stage = PLAIN_REPLY};
     if (version > 1) return refused(BAD_VERSION, 0);
     if (o->flags & OTHER_FLAGS) return refused(BAD_VALUE, 0);
-    if (status && !o->status_null && o->status_size > MOST_BODY) return refused(LIMIT, 0);
-    if (app && !o->app_null && o->app_size > MOST_BODY) return refused(LIMIT, 0);
-    if (exception && o->exception_size > MOST_BODY) return refused(LIMIT, 0);
+    uint32_t fault = text_fault(status, o->status_null, o->status_string, o->status_size);
+    if (fault == 0) fault = text_fault(app, o->app_null, o->app_string, o->app_size);
+    if (fault == 0 && exception && o->exception_size > MOST_BODY) fault = LIMIT;
+    if (fault != 0) return refused(fault, 0);
     size_t taken = 4 + 1 + 8 + 1 + 1 + counted_size(status, o->status_null, o->status_size) + 1
                  + counted_size(app, o->app_null, o->app_size) + 4 + counted_size(exception, false, o->exception_size) + 2;
     plain_refusal no = room_for(&begun, taken);
@@ -173,6 +181,7 @@ plain_refusal plain_put_body(plain_writer *w, uint8_t type, bool null, const uin
     if (!is_counted(type)) return refused(BAD_TYPE, w->at);
     if (!null && size > MOST_BODY) return refused(LIMIT, w->at);
     if (!null && size == 0 && type == PLAIN_GEOGRAPHY) return refused(BAD_VALUE, w->at);
+    if (!null && type == PLAIN_STRING && well_formed(bytes, size) != size) return refused(BAD_TEXT, w->at);
     no = cell_room(w, null ? 4 : 4 + size);
     if (no.number != 0) return no;
     put_counted(w, null, bytes, size);

@@ -53,6 +53,53 @@ static plain_refusal put_of_boat(plain_writer *w, uint8_t type, uint64_t *state)
     return type == PLAIN_POINT || (type == PLAIN_DECIMAL && chance % 2) ? put_edge(w, type, &chance) : put_any(w, type, state);
 }
 
+/* Puts a letter, made up by chance, behind a text, and gives where the text then ends. */
+typedef uint8_t *put_letter(uint8_t *end, uint64_t chance);
+
+static uint8_t *ascii_letter(uint8_t *end, uint64_t chance) {
+    *end = letters[chance % 27];
+    return end + 1;
+}
+
+static uint8_t *two_byte_letter(uint8_t *end, uint64_t chance) {
+    static const uint8_t of_two[] = "æøåÆØÅ";
+    memcpy(end, of_two + chance % 6 * 2, 2);
+    return end + 2;
+}
+
+/* Any of twenty thousand Chinese ones. */
+static uint8_t *three_byte_letter(uint8_t *end, uint64_t chance) {
+    uint32_t letter = 0x4e00 + (uint32_t)(chance % 20000);
+    end[0] = (uint8_t)(0xe0 | letter >> 12), end[1] = (uint8_t)(0x80 | (letter >> 6 & 0x3f)), end[2] = (uint8_t)(0x80 | (letter & 0x3f));
+    return end + 3;
+}
+
+/* Of Danish: one in five has two bytes in names, and one in forty in prose. */
+static uint8_t *letter_of_name(uint8_t *end, uint64_t chance) { return chance % 5 == 0 ? two_byte_letter(end, chance / 5) : ascii_letter(end, chance / 5); }
+
+static uint8_t *letter_of_prose(uint8_t *end, uint64_t chance) { return chance % 40 == 0 ? two_byte_letter(end, chance / 40) : ascii_letter(end, chance / 40); }
+
+/* A string with as many letters as any has, and null where that one is. */
+static plain_refusal put_letters(put_letter *put, plain_writer *w, uint8_t type, uint64_t *state) {
+    uint8_t text[40 * 3], *end = text;
+    uint64_t n = made_up(state), chance = n;
+    for (size_t k = 0; k < n % 40; k++) end = put(end, made_up(&chance));
+    return plain_put_body(w, type, n % 8 == 0, text, (size_t)(end - text));
+}
+
+static plain_refusal put_name(plain_writer *w, uint8_t type, uint64_t *state) { return put_letters(letter_of_name, w, type, state); }
+
+static plain_refusal put_three_byte(plain_writer *w, uint8_t type, uint64_t *state) { return put_letters(three_byte_letter, w, type, state); }
+
+/* A string of 64 KB, or of so much that four have room. */
+static plain_refusal put_prose(plain_writer *w, uint8_t type, uint64_t *state) {
+    static uint8_t text[64 * 1024];
+    size_t each = w->size / 4 - 32;
+    uint8_t *end = text, *last = text + (each < sizeof text ? each : sizeof text) - 1;
+    while (end < last) end = letter_of_prose(end, made_up(state));
+    return plain_put_body(w, type, false, text, (size_t)(end - text));
+}
+
 /* Rows of some types until the buffer is full. The row that doesn't fit any more is taken back. */
 static size_t fill_with(put_value *put, uint8_t *buffer, size_t size, const uint8_t *types, size_t count) {
     plain_writer w;
@@ -81,9 +128,20 @@ static size_t bigints(uint8_t *buffer, size_t size) {
     return fill(buffer, size, types, sizeof types);
 }
 
-static size_t strings(uint8_t *buffer, size_t size) {
+static size_t four_strings(put_value *put, uint8_t *buffer, size_t size) {
     const uint8_t types[] = {PLAIN_STRING, PLAIN_STRING, PLAIN_STRING, PLAIN_STRING};
-    return fill(buffer, size, types, sizeof types);
+    return fill_with(put, buffer, size, types, sizeof types);
+}
+
+static size_t strings(uint8_t *buffer, size_t size) { return four_strings(put_any, buffer, size); }
+
+static size_t danish(uint8_t *buffer, size_t size) { return four_strings(put_name, buffer, size); }
+
+static size_t three_byte(uint8_t *buffer, size_t size) { return four_strings(put_three_byte, buffer, size); }
+
+static size_t long_text(uint8_t *buffer, size_t size) {
+    const uint8_t types[] = {PLAIN_STRING};
+    return fill_with(put_prose, buffer, size, types, sizeof types);
 }
 
 static size_t decimals(uint8_t *buffer, size_t size) {
@@ -210,7 +268,10 @@ static size_t end_alike(uint8_t *buffer, size_t size) { return family(buffer, si
 const shape shapes[] = {
     {"bigints", "rows of 8 bigints", bigints},
     {"tinyints", "rows of one tinyint", tinyints},
-    {"strings", "rows of 4 strings, some null", strings},
+    {"strings", "rows of 4 strings of ASCII, some null", strings},
+    {"danish", "the same, but one letter in five, by chance, has two bytes", danish},
+    {"three-byte", "the same, but every letter has three bytes", three_byte},
+    {"long text", "rows of one string of up to 64 KB, in which one letter in forty, by chance, has two bytes", long_text},
     {"decimals", "rows of 4 decimals", decimals},
     {"points", "rows of 4 points", points},
     {"edges", "rows of a null decimal and points that are null or at 180 and 90 degrees", edges},
