@@ -1,4 +1,4 @@
-/* A plain reader and writer of invocation responses (kind 4), by paper 01, and of areas, the bodies of geographies, as one would write them
+/* A plain reader and writer of invocation responses (kind 4), by paper 01 and the requests that followed it, and of areas, the bodies of geographies, as one would write them
    in C without proofs. They are what the proved library is held against: same answers, same order of refusals. */
 #pragma once
 #include <stdbool.h>
