@@ -14,10 +14,13 @@ abbrev pub packedNo : Fault → ℕ → ℕ
 packedNo f p = above p + numberOf f
 
 module _ {A : Type 0} where
-  -- by what an accepted thing is told
+  -- by the numbers that faults have, and by what an accepted thing is told
+  abbrev pub packedBy : (Fault → ℕ) → (A → ℕ) → Res A → ℕ
+  packedBy numbering told (ok a) = above (told a)
+  packedBy numbering told (no f p) = above p + numbering f
+
   abbrev pub packed : (A → ℕ) → Res A → ℕ
-  packed told (ok a) = above (told a)
-  packed told (no f p) = packedNo f p
+  packed = packedBy numberOf
 
   abbrev pub nothing : A → ℕ
   nothing a = 0

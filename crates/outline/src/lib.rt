@@ -166,7 +166,7 @@ pub fn finish(out: &mut [u8], st: State, kept: &[u8; format::AREA_KEPT]) -> Outc
     }
 }
 
-// The answer of a step that writes so many bytes at a place: 13, 7 for too few rings or vertices, 3 for one too many, then 8.
+// The answer of a step that writes so many bytes at a place: 13, 25 for too few rings or vertices, 3 for one too many, then 8.
 fn judge(permitted: bool, enough: bool, more: bool, at: usize, bytes: usize, size: usize) -> Answer
     requires { ⌜ (permitted ≡ true → at ≤ size) × (bytes ≤ 38) × (size + 38 < 2 ^ 64) ⌝ }
     ensures { λ r. ⌜ r ≡ shownAnswer (answerWithin (at + bytes) permitted (test enough Geography at) more at bytes size) ⌝ }
