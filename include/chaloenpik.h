@@ -20,9 +20,9 @@
 #include <string.h>
 
 #define CHALOENPIK_VERSION_MAJOR 0
-#define CHALOENPIK_VERSION_MINOR 1
+#define CHALOENPIK_VERSION_MINOR 2
 #define CHALOENPIK_VERSION_PATCH 0
-#define CHALOENPIK_VERSION "0.1.0"
+#define CHALOENPIK_VERSION "0.2.0"
 
 #ifdef __cplusplus
 extern "C" {
@@ -34,9 +34,12 @@ static inline unsigned chaloenpik_refusal(uint64_t answer) { return (unsigned)(a
 /* The refusal's place, or what was found. */
 static inline uint64_t chaloenpik_value(uint64_t answer) { return answer >> 8; }
 
-/* ---- Names for numbers. chaloenpik_words.h says them in words. */
+/* ---- Names for numbers. chaloenpik_words.h says them in words. docs/NUMBERS.md has all refusals and fields in two tables: when each refusal is
+   given, where, and by which calls; of each field its size and its indices. */
 
-/* Refusals, and their places. */
+/* Refusals, and their places in what is read. Writing refuses at the position before the step, which is 0 for a login and a begin; 8 and 11 have
+   the same places as in reading. Up to version 0.1.0 the causes from CHALOENPIK_BAD_DECIMAL to CHALOENPIK_BAD_GEOGRAPHY shared the number 7,
+   which is no longer given. */
 enum {
     CHALOENPIK_NO_ROOM = 1,       /* a field, or a counted body, doesn't fit its room: the field; for a body, its length field */
     CHALOENPIK_NEGATIVE = 2,      /* a length or count is negative and not a permitted -1, or the message length is 0: that field */
@@ -44,17 +47,19 @@ enum {
     CHALOENPIK_LEFT_OVER = 4,     /* bytes are left in a room after its last field: the first such byte */
     CHALOENPIK_BAD_VERSION = 5,   /* the version or the hash version is not 0 or 1: that byte */
     CHALOENPIK_BAD_TYPE = 6,      /* the wire type is unknown or not permitted there: that byte; or no such kind: 0 */
-    CHALOENPIK_BAD_VALUE = 7,     /* a decimal, point, flag byte, column name or empty geography breaks its rule: the value; a name's first
-                                     byte above 127; an empty geography's length field. In an area: the third byte, or a count of too few
-                                     rings or vertices */
-    CHALOENPIK_OUTPUT_SHORT = 8,  /* the output is too short: bytes needed; in the writer, the position the step would reach */
+    CHALOENPIK_OUTPUT_SHORT = 8,  /* the output is too short: bytes needed, which in writing is the position that the step would reach */
     CHALOENPIK_NO_COLUMN = 9,     /* no column has that name: 0 */
     CHALOENPIK_CARD_STALE = 10,   /* a well-formed card doesn't fit the table: 0 */
     CHALOENPIK_PAST_END = 11,     /* a table, row, column, ring, vertex, entry or byte past the end, or a column's name past its buffer: 0 */
     CHALOENPIK_CARD_BROKEN = 12,  /* a card breaks its form: the first wrong byte; for a wrong size, the smaller of the sizes */
     CHALOENPIK_BAD_STAGE = 13,    /* a step of writing comes at a stage, or with a state, that doesn't permit it: the position */
-    CHALOENPIK_BAD_TEXT = 20      /* a text isn't well-formed UTF-8: the first byte that begins no well-formed sequence; in the writer, the
-                                     position */
+    CHALOENPIK_BAD_TEXT = 20,     /* a text isn't well-formed UTF-8: the first byte that begins no well-formed sequence */
+    CHALOENPIK_BAD_DECIMAL = 21,  /* a decimal is out of its range and isn't null: its first byte */
+    CHALOENPIK_BAD_POINT = 22,    /* a point is neither a position nor null: its first byte */
+    CHALOENPIK_BAD_FLAGS = 23,    /* the flag byte has a bit set other than 32, 64 and 128: that byte */
+    CHALOENPIK_BAD_NAME = 24,     /* a column's name has a byte above 127: the first such byte */
+    CHALOENPIK_BAD_GEOGRAPHY = 25 /* a geography is empty: its length field. In an area, the third byte isn't 0 or 1 or doesn't fit the ring
+                                     count, or there are too few rings or vertices: that byte or count */
 };
 
 /* Text is well-formed UTF-8 by RFC 3629, without surrogates and overlong forms: service, user, procedure, build, the status string, the
@@ -199,7 +204,7 @@ static inline double chaloenpik_float_value(uint64_t bits) {
 
 /* The bits of 360.0. A point is a position, from -180 to 180 and from -90 to 90 degrees, or it is null: then its upper and its lower 64
    bits are both these. By them a null is written, as any value of a fixed size, and told apart at its entry of the field list, which has
-   16 bytes as a position's has. Any other point breaks its rule. */
+   16 bytes as a position's has. Any other point is refused 22. */
 #define CHALOENPIK_DEGREES_360 0x4076800000000000U
 
 /* A parameter of an invocation (kind 3), counted from 0; 11 at 0: there is no such one. */
@@ -269,11 +274,11 @@ uint64_t chaloenpik_begin_call(uint8_t *out, size_t size, uint64_t state[CHALOEN
 uint64_t chaloenpik_null_param(uint8_t *out, size_t size, uint64_t state[CHALOENPIK_STATE]);
 
 /* A parameter of a fixed size, by its upper and lower 64 bits; one of at most 8 bytes stands in the lower, and a null point is
-   CHALOENPIK_DEGREES_360 in both. 6: the type has no fixed size, or not so many bits. */
+   CHALOENPIK_DEGREES_360 in both. 6: the type has no fixed size, or not so many bits; 21: no such decimal; 22: no such point. */
 uint64_t chaloenpik_fixed_param(uint8_t *out, size_t size, uint64_t state[CHALOENPIK_STATE], uint8_t type,
                                 uint64_t upper, uint64_t lower);
 
-/* A text or binary parameter, or a null of its type. 6: the type is none of theirs. */
+/* A text or binary parameter, or a null of its type. 6: the type is none of theirs; 25: an empty geography. */
 uint64_t chaloenpik_body_param(uint8_t *out, size_t size, uint64_t state[CHALOENPIK_STATE], uint8_t type,
                                bool null, const uint8_t *bytes, size_t length);
 
@@ -299,14 +304,14 @@ uint64_t chaloenpik_close_array(uint8_t *out, size_t size, uint64_t state[CHALOE
 uint64_t chaloenpik_finish_call(uint8_t *out, size_t size, uint64_t state[CHALOENPIK_STATE]);
 
 /* Begins a response with all fields before its table count; `client` has 8 bytes. A string, or an exception, whose flag isn't
-   set is ignored. */
+   set is ignored. 23: a flag that there isn't. */
 uint64_t chaloenpik_begin_reply(uint8_t *out, size_t size, uint64_t state[CHALOENPIK_STATE], uint8_t version,
                                 const uint8_t client[8], uint8_t flags, uint8_t status, bool status_null, const uint8_t *status_string,
                                 size_t status_length, uint8_t app_status, bool app_null, const uint8_t *app_string, size_t app_length,
                                 uint32_t round_trip, const uint8_t *exception, size_t exception_length);
 
 /* Opens a table. `columns` has `numbers` numbers, three for each column: its wire type, and its name's start and size in `names`;
-   one or two left over are ignored. 11 at 0: a name that is no part of `names`. */
+   one or two left over are ignored. 11 at 0: a name that is no part of `names`; 24: one with a byte above 127. */
 uint64_t chaloenpik_open_table(uint8_t *out, size_t size, uint64_t state[CHALOENPIK_STATE], uint8_t types[CHALOENPIK_TYPES], uint8_t status,
                                const uint64_t *columns, size_t numbers, const uint8_t *names, size_t names_length);
 
@@ -382,10 +387,10 @@ uint64_t chaloenpik_area_open_ring(uint8_t *out, size_t size, uint64_t state[CHA
 /* The next vertex of the open ring, by the bits of its x, y and z. */
 uint64_t chaloenpik_area_add_vertex(uint8_t *out, size_t size, uint64_t state[CHALOENPIK_AREA_STATE], uint64_t x, uint64_t y, uint64_t z);
 
-/* Closes the ring. 7 at the position: it has fewer than three vertices. */
+/* Closes the ring. 25 at the position: it has fewer than three vertices. */
 uint64_t chaloenpik_area_close_ring(uint8_t *out, size_t size, uint64_t state[CHALOENPIK_AREA_STATE], const uint8_t kept[CHALOENPIK_RING_KEPT]);
 
-/* Finishes the area. 7 at the position: it has no ring. */
+/* Finishes the area. 25 at the position: it has no ring. */
 uint64_t chaloenpik_area_finish(uint8_t *out, size_t size, uint64_t state[CHALOENPIK_AREA_STATE], const uint8_t kept[CHALOENPIK_AREA_KEPT]);
 
 #ifdef __cplusplus

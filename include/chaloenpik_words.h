@@ -14,7 +14,6 @@ static inline const char *chaloenpik_refusal_text(unsigned refusal) {
     case CHALOENPIK_LEFT_OVER: return "bytes are left in a room after its last field";
     case CHALOENPIK_BAD_VERSION: return "the version byte or the hash version is not 0 or 1";
     case CHALOENPIK_BAD_TYPE: return "the wire type is unknown or not permitted there, or there is no such kind";
-    case CHALOENPIK_BAD_VALUE: return "a decimal, point, flag byte, column name or empty geography breaks its rule";
     case CHALOENPIK_OUTPUT_SHORT: return "the output is too short";
     case CHALOENPIK_NO_COLUMN: return "no column has that name";
     case CHALOENPIK_CARD_STALE: return "a well-formed card doesn't fit the table";
@@ -22,13 +21,18 @@ static inline const char *chaloenpik_refusal_text(unsigned refusal) {
     case CHALOENPIK_CARD_BROKEN: return "a card breaks its form";
     case CHALOENPIK_BAD_STAGE: return "a writer step comes at a stage, or with a saved state, that doesn't permit it";
     case CHALOENPIK_BAD_TEXT: return "a text isn't well-formed UTF-8";
+    case CHALOENPIK_BAD_DECIMAL: return "a decimal is out of its range and isn't null";
+    case CHALOENPIK_BAD_POINT: return "a point is neither a position nor null";
+    case CHALOENPIK_BAD_FLAGS: return "the flag byte has a bit set other than 32, 64 and 128";
+    case CHALOENPIK_BAD_NAME: return "a column's name has a byte above 127";
+    case CHALOENPIK_BAD_GEOGRAPHY: return "a geography is empty";
     default: return "unknown";
     }
 }
 
-/* When a refusal of an area is given, which has a 7 of its own. */
+/* When a refusal of an area is given: what its body says has rules that a message doesn't look at. */
 static inline const char *chaloenpik_area_refusal_text(unsigned refusal) {
-    if (refusal == CHALOENPIK_BAD_VALUE) return "the third byte doesn't fit the ring count, or there are too few rings or vertices";
+    if (refusal == CHALOENPIK_BAD_GEOGRAPHY) return "the third byte doesn't fit the ring count, or there are too few rings or vertices";
     return chaloenpik_refusal_text(refusal);
 }
 
