@@ -40,7 +40,7 @@ pub struct Ring {
 /// let (longitude, latitude) = (y.atan2(x).to_degrees(), z.atan2(x.hypot(y)).to_degrees());
 /// assert_eq!((longitude, latitude), (90.0, 0.0));
 ///
-/// assert_eq!(Area::new(&body[1..]).unwrap_err().cause, Cause::BadValue);
+/// assert_eq!(Area::new(&body[1..]).unwrap_err().cause, Cause::BadGeography);
 /// # Ok::<(), chaloenpik::Refusal>(())
 /// ```
 #[derive(Clone, Copy, PartialEq, Eq)]
@@ -258,7 +258,7 @@ impl<'b> AreaWriter<'b> {
         self.reached(answer)
     }
 
-    /// Closes the open ring, with the bytes that are kept of it. Refused 7: it has fewer than three vertices.
+    /// Closes the open ring, with the bytes that are kept of it. Refused 25: it has fewer than three vertices.
     pub fn close_ring(&mut self, kept: &[u8; RING_KEPT]) -> Result<&mut Self, Refusal> {
         // SAFETY: as above; the kept bytes are only read.
         let answer = unsafe { foreign::chaloenpik_area_close_ring(self.out.as_mut_ptr(), self.out.len(), &mut self.state, kept) };
@@ -267,7 +267,7 @@ impl<'b> AreaWriter<'b> {
 
     /// Finishes the area, with the bytes that are kept of it, and gives its body, which stands in front of the buffer.
     ///
-    /// Refused 13: a ring is open; 7: there is none. The writer is consumed then too, and what it wrote is no area.
+    /// Refused 13: a ring is open; 25: there is none. The writer is consumed then too, and what it wrote is no area.
     pub fn finish(mut self, kept: &[u8; AREA_KEPT]) -> Result<&'b [u8], Refusal> {
         // SAFETY: as above.
         let answer = unsafe { foreign::chaloenpik_area_finish(self.out.as_mut_ptr(), self.out.len(), &mut self.state, kept) };

@@ -24,7 +24,7 @@ pub struct Refusal {
     pub place: usize,
 }
 
-/// The paper's causes of a refusal, by its numbers.
+/// The paper's causes of a refusal, by its numbers. `docs/NUMBERS.md` in the repository says of each which calls give it.
 #[derive(Clone, Copy, Debug, PartialEq, Eq, Hash)]
 #[repr(u8)]
 pub enum Cause {
@@ -40,9 +40,6 @@ pub enum Cause {
     Version = 5,
     /// A wire type is unknown, or not permitted there, or not that of the column or array that a value is written to: at that byte.
     WireType = 6,
-    /// A decimal, point, flag byte, column name or empty geography breaks its rule: at the value, at a name's first byte above 127, at
-    /// an empty geography's length field. In an area the third byte does, or there are too few rings or vertices: at that byte or count.
-    BadValue = 7,
     /// The output is too short: the place is how many bytes are needed, by a writer to carry out this step.
     ShortOutput = 8,
     /// No column has that name.
@@ -58,20 +55,31 @@ pub enum Cause {
     /// A text isn't well-formed UTF-8: at the first byte that begins no well-formed sequence. Only what is read is refused so: writers take
     /// `&str`.
     BadText = 20,
+    /// A decimal is neither from -(10^38 - 1) to 10^38 - 1 units nor null: at its first byte.
+    BadDecimal = 21,
+    /// A point is neither a position, from -180 to 180 and from -90 to 90 degrees, nor null: at its first byte.
+    BadPoint = 22,
+    /// The flag byte of a response has a bit set other than 32, 64 and 128: at that byte. Only what is read is refused so: the flags that
+    /// are written follow from [`ReplyHead`](crate::ReplyHead).
+    BadFlags = 23,
+    /// The name of a column has a byte above 127: at the first such byte.
+    BadName = 24,
+    /// A geography is empty: at its length field. In an area the third byte isn't 0 or 1 or doesn't fit the ring count, or there are too
+    /// few rings or vertices: at that byte or count.
+    BadGeography = 25,
     /// The archive answered what its header doesn't describe. The proved functions never do; it means that another archive was linked
     /// than this crate is written for. The paper has no number for it.
     UnknownAnswer = 0,
 }
 
 /// The paper's causes. Its numbers have gaps.
-const CAUSES: [Cause; 14] = [
+const CAUSES: [Cause; 18] = [
     Cause::NoRoom,
     Cause::Negative,
     Cause::OverLimit,
     Cause::LeftOver,
     Cause::Version,
     Cause::WireType,
-    Cause::BadValue,
     Cause::ShortOutput,
     Cause::NoColumn,
     Cause::CardMisfit,
@@ -79,10 +87,15 @@ const CAUSES: [Cause; 14] = [
     Cause::BadCard,
     Cause::WrongStage,
     Cause::BadText,
+    Cause::BadDecimal,
+    Cause::BadPoint,
+    Cause::BadFlags,
+    Cause::BadName,
+    Cause::BadGeography,
 ];
 
 impl Cause {
-    /// The paper's number, 1 to 13 or 20; 0 for [`Cause::UnknownAnswer`].
+    /// The paper's number, 1 to 6, 8 to 13 or 20 to 25; 0 for [`Cause::UnknownAnswer`].
     pub fn number(self) -> u8 {
         self as u8
     }
@@ -99,7 +112,6 @@ impl Cause {
             Cause::LeftOver => "bytes are left after the last field",
             Cause::Version => "a version or hash version is not 0 or 1",
             Cause::WireType => "a wire type is unknown or not permitted there",
-            Cause::BadValue => "a value, flag byte or column name breaks its rule",
             Cause::ShortOutput => "the output is too short",
             Cause::NoColumn => "no column has that name",
             Cause::CardMisfit => "the card doesn't fit the table",
@@ -107,6 +119,11 @@ impl Cause {
             Cause::BadCard => "the card breaks its form",
             Cause::WrongStage => "the writer's stage doesn't permit this step",
             Cause::BadText => "a text isn't well-formed UTF-8",
+            Cause::BadDecimal => "a decimal is out of its range and isn't null",
+            Cause::BadPoint => "a point is neither a position nor null",
+            Cause::BadFlags => "the flag byte has a bit set other than 32, 64 and 128",
+            Cause::BadName => "a column's name has a byte above 127",
+            Cause::BadGeography => "a geography is empty, or has too few rings or vertices or a wrong third byte",
             Cause::UnknownAnswer => "the linked archive gave an answer that its header doesn't describe",
         }
     }
@@ -160,11 +177,11 @@ mod tests {
     #[test]
     fn every_answer_is_taken_apart() {
         assert_eq!(found(30 << 8), Ok(30));
-        for number in (1..=13).chain([20]) {
+        for number in (1..=6).chain(8..=13).chain(20..=25) {
             let refusal = found(30 << 8 | u64::from(number)).unwrap_err();
             assert_eq!((refusal.number(), refusal.place), (number, 30));
         }
-        for number in (14..=19).chain(21..=255) {
+        for number in [7].into_iter().chain(14..=19).chain(26..=255) {
             assert_eq!(found(number).map_err(|no| no.cause), Err(Cause::UnknownAnswer));
         }
     }
@@ -178,5 +195,6 @@ mod tests {
         assert_eq!(words(Cause::BadCard), "the card breaks its form (refusal 12) at byte 30 of the card");
         assert_eq!(words(Cause::WrongStage), "the writer's stage doesn't permit this step (refusal 13) at position 30");
         assert_eq!(words(Cause::BadText), "a text isn't well-formed UTF-8 (refusal 20) at byte 30");
+        assert_eq!(words(Cause::BadDecimal), "a decimal is out of its range and isn't null (refusal 21) at byte 30");
     }
 }

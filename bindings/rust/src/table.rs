@@ -92,13 +92,6 @@ pub struct Cell<'m> {
     pub place: Range<usize>,
 }
 
-/// The paper's numbers of the fields that a table is read from.
-const COLUMN_TYPE: u8 = 45;
-const COLUMN_NAME: u8 = 47;
-const ROW_LENGTH: u8 = 49;
-const CELL_LENGTH: u8 = 50;
-const CELL: u8 = 51;
-
 impl<'m> Table<'m> {
     /// A table of a response, by its number from 0.
     pub fn new(message: &'m [u8], number: usize) -> Result<Self, Refusal> {
@@ -152,13 +145,13 @@ impl<'m> Table<'m> {
     fn take(&mut self, field: Field) -> Result<(), Refusal> {
         let [_, row, column] = field.indices;
         match field.number {
-            COLUMN_TYPE => {
+            Field::COLUMN_TYPE => {
                 let wire_type = self.bytes(field.place())?.first().copied().and_then(WireType::from_byte);
                 self.columns.push(Column { name: &[], wire_type: wire_type.ok_or(Refusal::UNKNOWN_ANSWER)? });
             }
-            COLUMN_NAME => self.columns.get_mut(column).ok_or(Refusal::UNKNOWN_ANSWER)?.name = self.bytes(field.place())?,
-            ROW_LENGTH => self.rows += 1,
-            CELL_LENGTH | CELL => self.take_cell(row * self.columns.len() + column, field.place()),
+            Field::COLUMN_NAME => self.columns.get_mut(column).ok_or(Refusal::UNKNOWN_ANSWER)?.name = self.bytes(field.place())?,
+            Field::ROW_LENGTH => self.rows += 1,
+            Field::CELL_LENGTH | Field::CELL => self.take_cell(row * self.columns.len() + column, field.place()),
             _ => {}
         }
         Ok(())

@@ -319,7 +319,7 @@ impl Decimal {
     const NULL: i128 = i128::MIN;
 
     /// The decimal of so many units of 10^-12; `None` for -2^127, which in a message is the null. One of more than 38 digits can't be
-    /// written: that is refused 7.
+    /// written: that is refused 21.
     pub fn from_units(units: i128) -> Option<Decimal> {
         (units != Decimal::NULL).then_some(Decimal(units))
     }

@@ -1,6 +1,6 @@
 //! Areas: read, turned and written, held against bytes that are put together here.
 
-use chaloenpik::{turn_holes, Area, AreaWriter, Cause, Refusal, Ring, Table, Value, Vertex, AREA_KEPT, RING_KEPT};
+use chaloenpik::{turn_holes, Area, AreaWriter, Cause, Field, Refusal, Ring, Table, Value, Vertex, AREA_KEPT, RING_KEPT};
 
 const REPLY: &[u8] = include_bytes!("../../../samples/4-areas.bin");
 
@@ -82,9 +82,9 @@ fn every_byte_has_one_owner() -> Result<(), Refusal> {
     assert_eq!(next, body.len());
     assert_eq!(area.owner(next), Err(PAST_END));
 
-    let counts = (60..=68).map(|number| list.iter().filter(|field| field.number == number).count());
+    let counts = (Field::AREA_EDITION..=Field::AREA_KEPT).map(|number| list.iter().filter(|field| field.number == number).count());
     assert_eq!(counts.collect::<Vec<_>>(), [1, 1, 1, 1, 2, 2, 21, 2, 1]);
-    let last_number = list.iter().rfind(|field| field.number == 66).unwrap();
+    let last_number = list.iter().rfind(|field| field.number == Field::COORDINATE).unwrap();
     assert_eq!((last_number.size, last_number.indices), (8, [1, 3, 2]));
     Ok(())
 }
@@ -106,13 +106,13 @@ fn a_body_that_is_cut_has_no_room() -> Result<(), Refusal> {
 #[test]
 fn counts_and_the_third_byte() {
     let (one, two) = (body(&[3]), body(&[3, 3]));
-    assert_eq!(refused(&with(&one, 2, &[2])), (Cause::BadValue, 2));
-    assert_eq!(refused(&with(&one, 2, &[1])), (Cause::BadValue, 2));
-    assert_eq!(refused(&with(&two, 2, &[0])), (Cause::BadValue, 2));
-    assert_eq!(refused(&with(&one, 2, &[1, 0, 0, 0, 0])), (Cause::BadValue, 3)); // the count's own fault comes first
+    assert_eq!(refused(&with(&one, 2, &[2])), (Cause::BadGeography, 2));
+    assert_eq!(refused(&with(&one, 2, &[1])), (Cause::BadGeography, 2));
+    assert_eq!(refused(&with(&two, 2, &[0])), (Cause::BadGeography, 2));
+    assert_eq!(refused(&with(&one, 2, &[1, 0, 0, 0, 0])), (Cause::BadGeography, 3)); // the count's own fault comes first
     assert_eq!(refused(&with(&one, 3, &[255; 4])), (Cause::Negative, 3));
     assert_eq!(refused(&with(&one, VERTEX_COUNT, &[128, 0, 0, 0])), (Cause::Negative, VERTEX_COUNT));
-    assert_eq!(refused(&with(&one, VERTEX_COUNT, &[0, 0, 0, 2])), (Cause::BadValue, VERTEX_COUNT));
+    assert_eq!(refused(&with(&one, VERTEX_COUNT, &[0, 0, 0, 2])), (Cause::BadGeography, VERTEX_COUNT));
     // Too large a count ends where a field doesn't fit any more.
     let room = (one.len() - FIRST - 5) / 8 * 8;
     assert_eq!(refused(&with(&one, VERTEX_COUNT, &[127, 255, 255, 255])), (Cause::NoRoom, FIRST + 5 + room));
@@ -182,18 +182,18 @@ fn refused_steps_change_nothing() -> Result<(), Refusal> {
     let mut out = vec![0; wanted.len()];
     let refusal = |cause, place| Some(Refusal { cause, place });
     assert_eq!(AreaWriter::begin(&mut out[..6], 0, 1).err(), refusal(Cause::ShortOutput, 7));
-    assert_eq!(AreaWriter::begin(&mut out, 0, 1)?.finish(&[9; AREA_KEPT]).err(), refusal(Cause::BadValue, 7));
+    assert_eq!(AreaWriter::begin(&mut out, 0, 1)?.finish(&[9; AREA_KEPT]).err(), refusal(Cause::BadGeography, 7));
 
     let mut w = AreaWriter::begin(&mut out, 0, 1)?;
     assert_eq!(w.add_vertex(corner(0, 0)).err(), refusal(Cause::WrongStage, 7));
     assert_eq!(w.close_ring(&kept).err(), refusal(Cause::WrongStage, 7));
-    assert_eq!(w.ring(0, [corner(0, 0); 2], &kept).err(), refusal(Cause::BadValue, 60));
+    assert_eq!(w.ring(0, [corner(0, 0); 2], &kept).err(), refusal(Cause::BadGeography, 60));
     assert_eq!(w.ring(0, [corner(0, 0); 9], &kept).err(), refusal(Cause::ShortOutput, 12 + 6 * 24));
     assert_eq!(w.position(), 7);
     w.open_ring(100)?;
     assert_eq!(w.open_ring(100).err(), refusal(Cause::WrongStage, 12));
     w.add_vertex(corner(0, 0))?.add_vertex(corner(0, 1))?;
-    assert_eq!(w.close_ring(&kept).err(), refusal(Cause::BadValue, 60));
+    assert_eq!(w.close_ring(&kept).err(), refusal(Cause::BadGeography, 60));
     w.add_vertex(corner(0, 2))?.close_ring(&kept)?;
     assert_eq!(w.ring(0, [corner(0, 0); 3], &kept).err(), refusal(Cause::ShortOutput, 122 + 5 + 2 * 24));
     assert_eq!(w.finish(&[9; AREA_KEPT])?, wanted);
@@ -224,6 +224,6 @@ fn the_sample_s_areas() -> Result<(), Refusal> {
             _ => Ok(None),
         });
     }
-    assert_eq!(rings, [Ok(Some(2)), Ok(Some(1)), Ok(None), Err(Refusal { cause: Cause::BadValue, place: 2 })]);
+    assert_eq!(rings, [Ok(Some(2)), Ok(Some(1)), Ok(None), Err(Refusal { cause: Cause::BadGeography, place: 2 })]);
     Ok(())
 }

@@ -1,13 +1,14 @@
 use chaloenpik::{
     accept, cell, cell_place, column_name, column_type, columns, element, field, fields, find_column, invocation, login_request,
-    login_response, make_card, open_card, owner, parameter, response, rows, tables, Cause, Decimal, Kind, Optional, Parameter, Refusal,
-    Value, Welcome, WireType,
+    login_response, make_card, open_card, owner, parameter, response, rows, tables, Cause, Decimal, Field, Kind, Optional, Parameter,
+    Refusal, Value, Welcome, WireType,
 };
 
 const LOGIN: &[u8] = include_bytes!("../../../samples/1-login.bin");
 const LOGIN_REPLY: &[u8] = include_bytes!("../../../samples/2-login-reply.bin");
 const CALL: &[u8] = include_bytes!("../../../samples/3-engine-limits.bin");
 const REPLY: &[u8] = include_bytes!("../../../samples/4-engines.bin");
+const AREAS: &[u8] = include_bytes!("../../../samples/4-areas.bin");
 const WITHOUT_VESSEL: &[u8] = include_bytes!("../../../samples/4-engines-without-vessel.bin");
 const PAST_END: Refusal = Refusal { cause: Cause::PastEnd, place: 0 };
 const NO_COLUMN: Refusal = Refusal { cause: Cause::NoColumn, place: 0 };
@@ -103,8 +104,33 @@ fn a_point_is_a_position_or_null() {
     assert_eq!(fields(Kind::Response, &null), fields(Kind::Response, REPLY));
     assert_eq!(cell(&with_berth(180.0, -90.0), 0, 1, 5), Ok(Value::Point { longitude: 180.0, latitude: -90.0 }));
     for (longitude, latitude) in [(360.0, 0.0), (0.0, 360.0), (-360.0, -360.0), (360.0, -360.0), (-360.0, 360.0)] {
-        assert_eq!(accept(Kind::Response, &with_berth(longitude, latitude)), refused(Cause::BadValue, BERTH));
+        assert_eq!(accept(Kind::Response, &with_berth(longitude, latitude)), refused(Cause::BadPoint, BERTH));
     }
+}
+
+/// Whether a reply is accepted with other bytes at a place.
+fn accept_with(reply: &[u8], place: usize, bytes: &[u8]) -> Result<(), Refusal> {
+    let mut changed = reply.to_vec();
+    changed[place..place + bytes.len()].copy_from_slice(bytes);
+    accept(Kind::Response, &changed)
+}
+
+/// Where a reply's first field of a number starts.
+fn first(reply: &[u8], number: u8) -> usize {
+    fields(Kind::Response, reply).unwrap().iter().find(|field| field.number == number).unwrap().offset
+}
+
+#[test]
+fn each_value_that_breaks_its_rule_has_its_own_cause() {
+    let limit = cell_place(REPLY, 0, 0, 3).unwrap().start;
+    assert_eq!(accept_with(REPLY, limit, &[0x7f]), refused(Cause::BadDecimal, limit));
+    assert_eq!(accept_with(REPLY, limit, &[0x80]), refused(Cause::BadDecimal, limit)); // beside the null
+    let flags = first(REPLY, Field::FLAGS);
+    assert_eq!(accept_with(REPLY, flags, &[33]), refused(Cause::BadFlags, flags));
+    let name = first(REPLY, Field::COLUMN_NAME);
+    assert_eq!(accept_with(REPLY, name, &[127, 128]), refused(Cause::BadName, name + 1));
+    let area = cell_place(AREAS, 0, 0, find_column(AREAS, 0, "AREA").unwrap()).unwrap().start;
+    assert_eq!(accept_with(AREAS, area, &[0; 4]), refused(Cause::BadGeography, area));
 }
 
 #[test]

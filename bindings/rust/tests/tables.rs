@@ -12,9 +12,9 @@ const CALL: &[u8] = include_bytes!("../../../samples/3-engine-limits.bin");
 const REPLY: &[u8] = include_bytes!("../../../samples/4-engines.bin");
 const WITHOUT_VESSEL: &[u8] = include_bytes!("../../../samples/4-engines-without-vessel.bin");
 
-/// The bytes that the field list has for a cell: the entries 50 and 51 with its indices.
+/// The bytes that the field list has for a cell: the entries of its length and its body, which have its indices.
 fn listed(list: &[Field], indices: [usize; 3]) -> Range<usize> {
-    let mut own = list.iter().filter(|field| field.indices == indices && (field.number == 50 || field.number == 51));
+    let mut own = list.iter().filter(|field| field.indices == indices && matches!(field.number, Field::CELL_LENGTH | Field::CELL));
     let first = own.next().unwrap().place();
     first.start..own.next().map_or(first.end, |body| body.place().end)
 }

@@ -111,7 +111,7 @@ fn other_bytes_may_be_any() -> Result<(), Refusal> {
 fn names_of_columns_are_no_text() -> Result<(), Refusal> {
     let mut out = [0; 100];
     let mut w = ReplyWriter::begin(&mut out, head())?;
-    assert_eq!(w.open_table(0, [("\u{c6}", WireType::Integer)]).unwrap_err().cause, Cause::BadValue);
+    assert_eq!(w.open_table(0, [("\u{c6}", WireType::Integer)]).unwrap_err().cause, Cause::BadName);
     w.open_table(0, [("A", WireType::Integer)])?.close_table()?;
     let message = w.finish()?;
     assert_eq!(find_column(message, 0, [0xc3]).unwrap_err().cause, Cause::NoColumn);

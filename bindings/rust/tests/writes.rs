@@ -156,7 +156,7 @@ fn null_points() -> Result<(), Refusal> {
     let place = w.position();
     for (longitude, latitude) in [(360.0, 0.0), (0.0, 360.0), (-360.0, -360.0)] {
         let step = w.cell(Value::Point { longitude, latitude }).map(|_| ());
-        assert_eq!(step, Err(Refusal { cause: Cause::BadValue, place }));
+        assert_eq!(step, Err(Refusal { cause: Cause::BadPoint, place }));
     }
     w.cell(Value::NullPoint)?.close_row()?.close_table()?;
     let table = Table::new(w.finish()?, 0)?;
@@ -241,8 +241,8 @@ fn values_of_every_type() -> Result<(), Refusal> {
     for value in values {
         w.param(value)?;
     }
-    assert_eq!(cause(w.param(Decimal::from_units(10i128.pow(38)).unwrap())), Cause::BadValue);
-    assert_eq!(cause(w.param(Value::Geography(Some(b"")))), Cause::BadValue);
+    assert_eq!(cause(w.param(Decimal::from_units(10i128.pow(38)).unwrap())), Cause::BadDecimal);
+    assert_eq!(cause(w.param(Value::Geography(Some(b"")))), Cause::BadGeography);
     let message = w.finish()?;
     for (number, value) in values.into_iter().enumerate() {
         assert_eq!(parameter(message, number), Ok(Parameter::One(value)));
