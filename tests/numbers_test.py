@@ -1,0 +1,152 @@
+"""Tests that docs/NUMBERS.md says what all others say that have these numbers too: the headers, the Rust wrapper, the proved code and its definition, explain, the second reader. They read the
+sources, and need nothing built. Run: python3 tests/numbers_test.py"""
+
+import itertools
+import pathlib
+import re
+import sys
+import unittest
+
+sys.dont_write_bytecode = True
+ROOT = pathlib.Path(__file__).resolve().parents[1]
+sys.path.insert(0, str(ROOT / "tools"))
+
+from explain import paper
+
+
+def source(path):
+    return (ROOT / path).read_text()
+
+
+def part(text, start, end):
+    """What stands between two marks, of which the first stands once."""
+    _, rest = text.split(start)
+    return rest[:rest.index(end)]
+
+
+def numbered(pattern, text):
+    """The pairs of a name and its number, in their order."""
+    return [(name, int(number)) for name, number in re.findall(pattern, text, re.MULTILINE)]
+
+
+PAGE = source("docs/NUMBERS.md")
+HEADER = source("include/chaloenpik.h")
+WORDS = source("include/chaloenpik_words.h")
+
+
+def table(*header):
+    """The rows of the page's only table with a header."""
+    _, below = PAGE.split("| %s |\n" % " | ".join(header))
+    rows = itertools.takewhile(lambda line: line.startswith("|"), below.splitlines()[1:])
+    return [[cell.strip() for cell in row.strip("|").split("|")] for row in rows]
+
+
+def plain(cell):
+    """A name that stands in a cell alone."""
+    return re.fullmatch("`([A-Z_]+)`", cell).group(1)
+
+
+REFUSALS = table("No.", "Name", "Given exactly if", "Place", "Calls")
+FIELDS = table("No.", "Name", "What it is", "Indices")
+NAMED_REFUSALS = [(plain(row[1]), int(row[0])) for row in REFUSALS]
+NAMED_FIELDS = [(plain(row[1]), int(row[0])) for row in FIELDS]
+GROUPS = {group: re.fullmatch("`(.+)`", calls).group(1).split("`, `") for group, calls in table("Group", "Calls")}
+GROUPS_OF = {int(row[0]): row[4].split("; ") for row in REFUSALS}
+
+
+def given_by(call):
+    return sorted(number for number, groups in GROUPS_OF.items() if any(call in GROUPS[group] for group in groups))
+
+
+class Refusals(unittest.TestCase):
+    def test_their_order_and_their_gaps(self):
+        self.assertEqual([number for _, number in NAMED_REFUSALS], [*range(1, 7), *range(8, 14), *range(20, 26)])
+        self.assertEqual(len(dict(NAMED_REFUSALS)), len(NAMED_REFUSALS))
+
+    def test_the_header_has_them(self):
+        self.assertEqual(numbered(r"CHALOENPIK_(\w+) = (\d+)", part(HEADER, "/* Refusals, and their places", "};")), NAMED_REFUSALS)
+
+    def test_each_has_a_sentence(self):
+        told = re.findall(r'case CHALOENPIK_(\w+): return "(.+)";', part(WORDS, "chaloenpik_refusal_text(unsigned refusal) {\n    switch", "default"))
+        self.assertEqual([name for name, _ in told], [name for name, _ in NAMED_REFUSALS])
+        self.assertEqual(len({words for _, words in told}), len(told))
+
+    def test_rust_has_them(self):
+        others = {int(number): name for number, name in re.findall(r"(\d+) `(\w+)`", part(PAGE, "Seven have another name in Rust: ", "\n"))}
+        self.assertEqual(len(others), 7)
+        wanted = [(others.get(number, name.title().replace("_", "")), number) for name, number in NAMED_REFUSALS]
+        rust = source("bindings/rust/src/refusal.rs")
+        self.assertEqual(numbered(r"^    (\w+) = (\d+),", part(rust, "pub enum Cause {", "\n}")), [*wanted, ("UnknownAnswer", 0)])
+        self.assertEqual(re.findall(r"Cause::(\w+),", part(rust, "const CAUSES: ", "];")), [name for name, _ in wanted])
+
+    def test_the_proved_code_and_its_definition_give_them(self):
+        code = numbered(r"Fault::(\w+) => (\d+),", part(source("crates/format/src/lib.rt"), "pub fn number_of(", "\n}"))
+        self.assertEqual(numbered(r"^numberOf (\w+) = (\d+)$", source("crates/format/specs/Result.antt")), code)
+        self.assertEqual(sorted(number for _, number in code), [number for _, number in NAMED_REFUSALS])
+
+    def test_explain_has_those_of_reading(self):
+        self.assertEqual(sorted(paper.REFUSALS), given_by("accept"))
+
+    def test_the_second_reader_has_those_of_reading(self):
+        names_and_numbers = part(source("tests/second/wire.py"), "# Refusal numbers of reading.", "\n\n")
+        self.assertEqual(sorted(map(int, re.findall(r"\b\d+\b", names_and_numbers))), given_by("accept"))
+
+
+class Calls(unittest.TestCase):
+    def test_every_function_of_the_header_is_in_a_group(self):
+        functions = re.findall(r"^(?:static inline )?\w+ chaloenpik_(\w+)\(", HEADER, re.MULTILINE)
+        self.assertEqual(sorted({call for calls in GROUPS.values() for call in calls}), sorted(functions))
+
+    def test_those_of_the_archive_can_be_refused_and_the_others_not(self):
+        for call in re.findall(r"^uint64_t chaloenpik_(\w+)\(", HEADER, re.MULTILINE):
+            self.assertTrue(given_by(call), call)
+        for call in re.findall(r"^static inline \w+ chaloenpik_(\w+)\(", HEADER, re.MULTILINE):
+            self.assertEqual(given_by(call), [], call)
+
+    def test_groups_are_named_where_they_are_and_no_call_twice(self):
+        self.assertEqual({group for groups in GROUPS_OF.values() for group in groups} | {"never refused"}, set(GROUPS))
+        self.assertEqual(len(GROUPS), len(table("Group", "Calls")))
+        for listed in (*GROUPS.values(), *GROUPS_OF.values()):
+            self.assertEqual(len(set(listed)), len(listed), listed)
+
+
+class Fields(unittest.TestCase):
+    def test_their_order_and_their_gaps(self):
+        self.assertEqual([number for _, number in NAMED_FIELDS], [*range(1, 9), *range(10, 17), *range(20, 29), *range(30, 52), *range(60, 69)])
+        self.assertEqual(len(dict(NAMED_FIELDS)), len(NAMED_FIELDS))
+
+    def test_the_header_has_them(self):
+        self.assertEqual(numbered(r"CHALOENPIK_FIELD_(\w+) = (\d+)", HEADER), NAMED_FIELDS)
+        self.assertEqual(re.findall(r"case CHALOENPIK_FIELD_(\w+):", WORDS), [name for name, _ in NAMED_FIELDS])
+
+    def test_rust_has_them(self):
+        self.assertEqual(numbered(r"^    pub const (\w+): u8 = (\d+);", source("bindings/rust/src/field.rs")), NAMED_FIELDS)
+
+    def test_explain_has_them_in_the_same_words(self):
+        self.assertEqual([int(row[0]) for row in FIELDS], sorted(paper.FIELDS))
+        for number, _, what, _ in FIELDS:
+            self.assertRegex(what, "^%s[, ]" % re.escape(paper.FIELDS[int(number)][0]))
+
+    def test_each_has_three_indices(self):
+        groups = {paper.PARAMETER_FIELDS: "parameter", paper.TABLE_FIELDS: "table", paper.RING_FIELDS: "ring"}
+        for number, _, _, indices in FIELDS:
+            first, _, _ = indices.split(":")[0].split(", ")
+            self.assertEqual(first, next((name for fields, name in groups.items() if int(number) in fields), "0"), number)
+
+
+class Seven(unittest.TestCase):
+    """It is no longer given, nor told: a name or an expected answer that still has it was forgotten. The notes on requests say what was."""
+
+    FOLDERS = ("bench", "bindings", "crates", "docs", "examples", "include", "samples", "tests", "tools")
+    TOLD = re.compile(r"\brefus(?:ed|al) 7\b|BAD[_]VALUE|Cause::Bad[V]alue")
+
+    def test_nothing_tells_it(self):
+        files = [path for folder in self.FOLDERS for path in (ROOT / folder).rglob("*") if path.is_file()] + [ROOT / "README.md"]
+        self.assertGreater(len(files), 100)
+        told = [str(path.relative_to(ROOT)) for path in files
+                if ROOT / "docs" / "requests" not in path.parents and self.TOLD.search(path.read_bytes().decode(errors="replace"))]
+        self.assertEqual(told, [])
+
+
+if __name__ == "__main__":
+    unittest.main()
