@@ -1,7 +1,8 @@
 #!/usr/bin/env python3
 """Makes samples/: messages of a made-up harbour whose engine control asks a database for the limits of its engines, a reply that lacks
-a column, one with the positions of boats, one with no-wake areas, and one in which a name is torn; and, for the program `limit`, its input and what it prints: the
-sample reply, the same with a row more, three in which the limit's column is no longer what it was, and one that lacks a later column."""
+a column, one with the positions of boats, one with no-wake areas, and two that are refused, one in which a name is torn and one in which a limit is no decimal; and, for
+the program `limit`, its input and what it prints: the sample reply, the same with a row more, three in which the limit's column is no longer what it was, and one that
+lacks a later column."""
 
 import pathlib
 import struct
@@ -102,6 +103,12 @@ def changed(table, column, **changes):
     return dict(table, rows=rows, **{key: table[key][:at] + [new] + table[key][at + 1:] for key, new in changes.items() if key in table})
 
 
+def with_cell(table, row, column, value):
+    """The table with one cell changed."""
+    at, rows = table["names"].index(column), table["rows"]
+    return dict(table, rows=rows[:row] + [rows[row][:at] + [value] + rows[row][at + 1:]] + rows[row + 1:])
+
+
 MESSAGES = {
     "1-login": (LOGIN, {"version": 1, "hash_version": 0, "service": b"database", "user": b"harbour", "hash": bytes(range(20))}),
     "2-login-reply": (LOGIN_REPLY, {"version": 1, "result": 0, "host": 3, "connection": 12, "start": 1_760_000_000_000,
@@ -114,15 +121,23 @@ MESSAGES = {
     "4-areas": (REPLY, reply(NO_WAKE)),
 }
 
+# Replies that are refused, by the numbers.
+REFUSED = {
+    "4-berths-torn": (BERTHS, BAD_TEXT),
+    # Somebody meant that engine 2 has no limit, and sent the greatest number that fits.
+    "4-engines-limit-broken": (with_cell(ENGINES, 1, b"THROTTLE_LIMIT", 2**127 - 1), BAD_DECIMAL),
+}
+
 
 def samples():
-    """The files and their bytes. All say their records but the last, which is refused."""
+    """The files and their bytes. Those of the messages say their records."""
     made = {}
     for name, (kind, record) in MESSAGES.items():
         made[name + ".bin"] = encode(kind, record)
         assert read(kind, made[name + ".bin"])[0] == record
-    made["4-berths-torn.bin"] = encode(REPLY, reply(BERTHS))
-    assert refusal(REPLY, made["4-berths-torn.bin"]) == BAD_TEXT
+    for name, (table, number) in REFUSED.items():
+        made[name + ".bin"] = encode(REPLY, reply(table))
+        assert refusal(REPLY, made[name + ".bin"]) == number
     return made
 
 
