@@ -15,10 +15,11 @@ sys.path[:0] = [str(ROOT / "tools"), str(ROOT / "tests" / "page")]
 
 import browser
 import messages
-from explain import page
+from explain import page, paper
 from explain.fields import Explained
+from explain.refusals import Refusal
 
-SAMPLES = {path.read_bytes(): int(path.name[0]) for path in sorted((ROOT / "samples").glob("*.bin")) if not path.stem.endswith("-torn")}
+SAMPLES = {path.read_bytes(): int(path.name[0]) for path in sorted((ROOT / "samples").glob("*.bin")) if path.stem not in messages.harbour.REFUSED}
 SAMPLES[(ROOT / "tests" / "explain" / "engines.reply").read_bytes()] = 4
 REPLY = (ROOT / "samples" / "4-engines.bin").read_bytes()
 LIMIT_OF_ENGINE_2 = 238  # where the cell stands in the sample reply
@@ -37,7 +38,8 @@ def page_of(kind, message, entries, **more):
 def refused_page(message, place, **more):
     """A page of a message refused at a place, with the fields that the sample reply has before it."""
     before = [entry for entry in messages.listed(4, REPLY) if entry[0] < place]
-    return page_of(4, message, before, refusal=(7, place), words=("refused 7 at %d: <b>the headline</b>" % place, "a sentence"), **more)
+    refusal = paper.BAD_DECIMAL, place
+    return page_of(4, message, before, refusal=refusal, words=("refused %d at %d: <b>the headline</b>" % refusal, "a sentence"), **more)
 
 
 class Text(unittest.TestCase):
@@ -69,6 +71,22 @@ class Text(unittest.TestCase):
 
     def test_ids_grow_with_the_number_of_templates(self):
         self.assertEqual([page.smallest_type(count) for count in (0, 256, 257, 65536, 65537)], ["B", "B", "H", "H", "I"])
+
+    def test_a_value_that_breaks_its_rule(self):
+        """Each cause has its number, its words are on the page, and none has the number that they had together."""
+        numbers = set()
+        for number, kind, message in messages.breaking():
+            with self.assertRaises(messages.Refused) as stopped:
+                messages.read(kind, message)
+            no = stopped.exception
+            refusal, words = (no.number, no.place), Refusal(kind, message, (no.number, no.place)).words
+            text = page_of(kind, message, no.fields, refusal=refusal, words=words)
+            self.assertEqual(no.number, number)
+            self.assertIn('<div id="words"><p>refused %d at %d: ' % refusal, text)
+            self.assertIn(page.paragraphs(words), text)
+            self.assertNotIn("refused %d " % 7, text)
+            numbers.add(number)
+        self.assertEqual(numbers, set(range(paper.BAD_TEXT, paper.BAD_GEOGRAPHY + 1)))
 
     def test_a_message_of_nothing(self):
         self.assertIn("0 bytes, 0 fields up to the refusal", page_of(2, b"", [], refusal=(1, 0), words=("refused 1 at 0",)))
@@ -288,7 +306,7 @@ class Seen(unittest.TestCase):
             self.open(refused_page(REPLY, LIMIT_OF_ENGINE_2))
             self.assertEqual(self.marked("place"), [LIMIT_OF_ENGINE_2])
             self.assertTrue(self.is_in_view("#grid .place", "#grid"))
-            self.assertEqual(self.paragraphs("words"), "refused 7 at 238: <b>the headline</b>\na sentence")
+            self.assertEqual(self.paragraphs("words"), "refused 21 at 238: <b>the headline</b>\na sentence")
             self.assertIn("byte 238 (0xee) is hex 00, decimal 0", self.told())
             for key, text in (("ArrowLeft", '"starboard"'), ("n", "the place of the refusal"), ("ArrowRight", "byte 239"), ("p", "starboard")):
                 self.browser.key(key)

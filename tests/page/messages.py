@@ -27,7 +27,10 @@ NO_TEXTS = [b"cut \xc3", b"\x80\xbf\xc0\xaf", b"\xc0\xaf", b"\xed\xa0\x80", b"\x
             b"x" * 60 + b"\xc3"]
 BINARIES = [None, b"", b"\0", bytes(60), bytes(61), bytes(range(256))]
 POINTS = [None, (0.0, -0.0), (-0.0, 0.0), (180.0, 90.0), (-180.0, -90.0), (12.5683, -1e-7), (-122.0264, 36.90719)]
-NO_POINTS = [(float("nan"), 0.0), (360.0, 0.0), (0.0, 360.0), (360.0, -360.0), (-360.0, -360.0)]
+NO_POINTS = [(float("nan"), 0.0), (360.0, 0.0), (0.0, 360.0), (360.0, -360.0), (-360.0, -360.0), (float("inf"), 90.00000000000001)]
+NO_DECIMALS = [MOST_DECIMAL + 1, -(MOST_DECIMAL + 1), 2**127 - 1, NULL_DECIMAL + 1]
+NO_FLAGS = [1, 0x21, 0xFF]
+NO_NAMES = ["LÆNGDE".encode(), b"L\xc6NGDE", b"CUT\xc3", b"\x80", b"x" * 60 + b"\xff", "é".encode() * 61]
 NAMES = [b"A", b"", b"two words", b"_", b"_x1", b"a-b", b'"', b"x" * 60, b"</script>", b"0", b"end"]
 
 
@@ -101,12 +104,22 @@ def listed(kind, message):
     return read(kind, message)[1]
 
 
+def breaking():
+    """(number, kind, message) for each value that breaks its rule, as a cell, a parameter and an element, and for flag bytes and names that do."""
+    for number, wire_type, them in ((BAD_TEXT, STRING, NO_TEXTS), (BAD_DECIMAL, DECIMAL, NO_DECIMALS), (BAD_POINT, POINT, NO_POINTS), (BAD_GEOGRAPHY, GEOGRAPHY, [b""])):
+        for it in them:
+            yield number, *reply([{"status": 0, "types": [TINYINT, wire_type], "names": [b"N", b"V"], "rows": [[1, it]]}])
+            for parameter in ((wire_type, it), (ARRAY, (wire_type, [it]))):
+                yield number, INVOCATION, encode(INVOCATION, {"version": 0, "procedure": b"", "client_data": bytes(8), "parameters": [parameter]})
+    for flags in NO_FLAGS:
+        yield BAD_FLAGS, *reply([], flags=flags, status_string=b"", application_string=b"", exception=b"")
+    for name in NO_NAMES:
+        yield BAD_NAME, *reply([{"status": 0, "types": [TINYINT, DECIMAL], "names": [b"N", name], "rows": []}])
+
+
 def refused(count):
-    """(kind, message, fields up to the fault) of made-up messages that are refused, and of some for a point that is no number or nearly null, or for a text that
-    isn't UTF-8."""
-    nowhere = [reply([{"status": 0, "types": [POINT], "names": [b"P"], "rows": [[point]]}]) for point in NO_POINTS]
-    torn = [reply([{"status": 0, "types": [STRING], "names": [b"T"], "rows": [[text]]}]) for text in NO_TEXTS]
-    for kind, message in itertools.chain(generate.messages(count, 5), nowhere, torn):
+    """(kind, message, fields up to the fault) of made-up messages that are refused, and of those in which a value breaks its rule."""
+    for kind, message in itertools.chain(generate.messages(count, 5), (case[1:] for case in breaking())):
         try:
             read(kind, message)
         except Refused as no:

@@ -5,9 +5,9 @@ import array
 import math
 import struct
 
-from . import building, paper, values
+from . import building, paper, rules, second, values
 from .building import Missing
-from .fields import Explained
+from .fields import Explained, area_place
 from .listing import NUMBERS, check_tiling, from_numbers, run
 
 VERTEX_SIZE = 24
@@ -45,15 +45,32 @@ class Area(Explained):
 class NoArea:
     """A body that isn't one."""
 
-    def __init__(self, start, size, refusal):
-        self.start, self.size, (self.number, self.place) = start, size, refusal
+    def __init__(self, message, start, size, refusal):
+        self.body, self.start, self.refusal = message[start:start + size], start, refusal
+        self.number, self.place = refusal
 
     def summary(self):
-        return "%s, %s" % (values.count_of(self.size, "byte"), self.why())
+        return "%s, %s" % (values.count_of(len(self.body), "byte"), self.why())
 
     def why(self):
-        words = paper.NO_AREA.get((self.number, self.place), paper.NO_AREA[self.number])
+        words = self.rule() if self.number == paper.BAD_GEOGRAPHY else paper.NO_AREA[self.number]
         return "no area by document 000: refused %d at %d of the body, byte %d of the message: %s" % (self.number, self.place, self.start + self.place, words)
+
+    def rule(self):
+        """The one that the field at the place breaks: the third byte, the ring count, or the vertex count of a ring."""
+        if self.place == paper.HOLES_AT:
+            return rules.holes(self.body[paper.HOLES_AT], self.count_at(paper.RING_COUNT_AT))
+        if self.place == paper.RING_COUNT_AT:
+            return rules.few_rings(self.count_at(self.place))
+        return rules.few_vertices(self.count_at(self.place), self.ring())
+
+    def count_at(self, place):
+        return values.signed(self.body[place:place + paper.COUNT_SIZE])
+
+    def ring(self):
+        """Which ring the vertex count at the place is of, if the second reader refuses the body there too."""
+        no = second.same(second.of_body(self.body)[0], self.refusal)
+        return area_place(paper.VERTEX_COUNT, *no.index) if no else ""
 
 
 class Opaque:
@@ -80,7 +97,7 @@ class Inside(Opaque):
         told = asked([explained.message[offset:offset + size] for offset, size in found])
         for (offset, size), (refusal, numbers, _) in zip(found, told):
             if refusal:
-                self.others[offset] = NoArea(offset, size, refusal)
+                self.others[offset] = NoArea(explained.message, offset, size, refusal)
             else:
                 self.areas[offset] = Area(explained.message, offset, size, numbers)
 
@@ -176,4 +193,4 @@ def vertex_text(raw):
     place = place_of(raw)
     if place is None:
         return "the vertex is nowhere"
-    return "the vertex is at longitude %s, latitude %s" % (values.degrees(place[0], "E", "W"), values.degrees(place[1], "N", "S"))
+    return "the vertex is at longitude %s, latitude %s" % (values.degrees(place[0], *values.EAST_WEST), values.degrees(place[1], *values.NORTH_SOUTH))

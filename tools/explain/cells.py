@@ -36,7 +36,7 @@ class Cell:
     def raw(self):
         """The bytes of the value, without a length; None for a text or binary null."""
         last = self.own[-1]
-        return last.raw if last.number == paper.CELL else None if values.signed(last.raw) == -1 else b""
+        return last.raw if last.number == paper.CELL else None if values.signed(last.raw) == paper.NULL_LENGTH else b""
 
     def value(self):
         return "null" if self.raw is None else values.value_text(self.wire_type, self.raw)
@@ -155,7 +155,7 @@ def key_cells(explained, table, column):
     for offset, size, number, i, j, k in explained.entries():
         if number in CELL_FIELDS and i == table and k == column:
             raw = explained.message[offset:offset + size]
-            cells[j] = raw if number == paper.CELL else None if values.signed(raw) == -1 else b""
+            cells[j] = raw if number == paper.CELL else None if values.signed(raw) == paper.NULL_LENGTH else b""
     return cells
 
 
@@ -167,7 +167,7 @@ def plain_value(wire_type, raw):
         return raw
     number = values.signed(raw)
     if wire_type == paper.DECIMAL:
-        return None if number == values.NULL_DECIMAL else fractions.Fraction(number, 10**values.DECIMAL_PLACES)
+        return None if number == paper.NULL_DECIMAL else fractions.Fraction(number, 10**paper.DECIMAL_PLACES)
     return number
 
 

@@ -39,7 +39,7 @@ class Collection:
             return None, "null"
         (offset, size), (refusal, numbers, body) = self.bodies[place], self.told[place]
         if refusal:
-            return None, areas.NoArea(offset, size, refusal).why()
+            return None, areas.NoArea(self.explained.message, offset, size, refusal).why()
         rings = rings_of(numbers, body)
         if None in itertools.chain(*rings):
             return None, "a coordinate of a vertex isn't finite"
@@ -78,7 +78,7 @@ def rows_of(explained, tables):
     for offset, size, number, i, j, k in explained.entries() if tables else ():
         if i in tables and number in (paper.CELL_LENGTH, paper.CELL):
             raw = explained.message[offset:offset + size]
-            rows.setdefault((i, j), {})[k] = raw if number == paper.CELL else None if values.signed(raw) == -1 else b""
+            rows.setdefault((i, j), {})[k] = raw if number == paper.CELL else None if values.signed(raw) == paper.NULL_LENGTH else b""
     return rows
 
 
@@ -107,7 +107,7 @@ def plain(wire_type, raw):
         return "0x" + raw.hex()
     if wire_type == paper.POINT:
         point = struct.unpack(">dd", raw)
-        return None if point == (values.NULL_DEGREES,) * 2 else list(point)
+        return None if point == (paper.NULL_DEGREES,) * 2 else list(point)
     if wire_type == paper.DECIMAL:
-        return None if values.signed(raw) == values.NULL_DECIMAL else values.decimal(raw)
+        return None if values.signed(raw) == paper.NULL_DECIMAL else values.decimal(raw)
     return values.utc(values.signed(raw)) if wire_type == paper.TIMESTAMP else values.signed(raw)

@@ -119,7 +119,7 @@ def paper_words():
         "flags": list(paper.FLAGS.items()),
         "parameter_fields": [paper.PARAMETER_FIELDS[0], paper.PARAMETER_FIELDS[-1]],
         "table_fields": [paper.TABLE_FIELDS[0], paper.TABLE_FIELDS[-1]],
-        "decimal_places": values.DECIMAL_PLACES,
+        "decimal_places": paper.DECIMAL_PLACES,
         "most_shown": values.MOST_SHOWN,
         **{name: getattr(paper, name) for name in NUMBERS},
     }

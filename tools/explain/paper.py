@@ -71,7 +71,7 @@ MESSAGE_LENGTH, FLAG_BYTE, STATUS_LENGTH, APPLICATION_LENGTH, EXCEPTION_LENGTH =
 PARAMETER_COUNT, PARAMETER_TYPE, ELEMENT_TYPE, ELEMENT_COUNT, VALUE_LENGTH, VALUE = 23, 24, 25, 26, 27, 28
 TABLE_COUNT, TABLE_LENGTH, METADATA_LENGTH, TABLE_STATUS, COLUMN_COUNT = 40, 41, 42, 43, 44
 COLUMN_TYPE, COLUMN_NAME_LENGTH, COLUMN_NAME, ROW_COUNT, ROW_LENGTH, CELL_LENGTH, CELL = 45, 46, 47, 48, 49, 50, 51
-RING_COUNT, RING_MARK, COORDINATE = 63, 64, 66
+RING_COUNT, RING_MARK, VERTEX_COUNT, COORDINATE = 63, 64, 65, 66
 AXES = "xyz"
 
 ARRAY, NULL, TINYINT, STRING, DECIMAL, FLOAT, TIMESTAMP, VARBINARY, POINT, GEOGRAPHY = -99, 1, 3, 9, 22, 8, 11, 25, 26, 27
@@ -86,27 +86,43 @@ STATUSES = {1: "success", -1: "user abort", -2: "graceful failure", -3: "unexpec
 HASHES = {0: "SHA-1", 1: "SHA-256"}
 HOLES = {0: "none", 1: "there are some"}
 
+# The rules of values. Null is a length of its own, one decimal that is out of the range, or a point with these degrees twice.
+NULL_LENGTH = -1
+DECIMAL_PLACES, DECIMAL_DIGITS, DECIMAL_BITS = 12, 38, 128
+MOST_DECIMAL, NULL_DECIMAL = 10**DECIMAL_DIGITS - 1, -(2**(DECIMAL_BITS - 1))  # in units; the least decimal is the greatest one with a minus
+MOST_LONGITUDE, MOST_LATITUDE, NULL_DEGREES = 180, 90, 360
+MOST_IN_NAME = 127  # a byte of a column's name
+SHORTEST_GEOGRAPHY = 1
+
+# The rules of an area, and where in its body the fields stand that some of them are about.
+FEWEST_RINGS, FEWEST_VERTICES = 1, 3
+HOLES_AT, RING_COUNT_AT, COUNT_SIZE = 2, 3, 4
+
+# Refusal numbers of reading. From 21 on each is one of the causes that had the number 7 together.
+NO_ROOM, BAD_SIGN, LIMIT, LEFT_OVER, BAD_VERSION, BAD_TYPE, BAD_TEXT = 1, 2, 3, 4, 5, 6, 20
+BAD_DECIMAL, BAD_POINT, BAD_FLAGS, BAD_NAME, BAD_GEOGRAPHY = 21, 22, 23, 24, 25
+
 # Refusal number: when it is given, and what its place is.
 REFUSALS = {
-    1: ("a field, or a counted body, doesn't fit its room", "the field; for a body, its length field"),
-    2: ("a length or count is negative and not a permitted -1, or the message length is 0", "that length or count"),
-    3: ("a limit is passed", "that length or count"),
-    4: ("bytes are left in a room after its last field", "the first such byte"),
-    5: ("the version byte or the hash version is not 0 or 1", "that byte"),
-    6: ("the wire type is unknown or not permitted there, or there is no such kind", "that byte; 0 for a kind"),
-    7: ("a decimal, point, flag byte, column name or empty geography breaks its rule",
-        "the value; a name's first byte above 127; an empty geography's length field"),
-    20: ("a text isn't well-formed UTF-8", "the first byte that begins no well-formed sequence"),
+    NO_ROOM: ("a field, or a counted body, doesn't fit its room", "the field; for a body, its length field"),
+    BAD_SIGN: ("a length or count is negative and not a permitted -1, or the message length is 0", "that length or count"),
+    LIMIT: ("a limit is passed", "that length or count"),
+    LEFT_OVER: ("bytes are left in a room after its last field", "the first such byte"),
+    BAD_VERSION: ("the version byte or the hash version is not 0 or 1", "that byte"),
+    BAD_TYPE: ("the wire type is unknown or not permitted there, or there is no such kind", "that byte; 0 for a kind"),
+    BAD_TEXT: ("a text isn't well-formed UTF-8", "the first byte that begins no well-formed sequence"),
+    BAD_DECIMAL: ("a decimal is out of its range and isn't null", "its first byte"),
+    BAD_POINT: ("a point is neither a position nor null", "its first byte"),
+    BAD_FLAGS: ("the flag byte has a bit set other than %d, %d and %d" % tuple(FLAGS), "that byte"),
+    BAD_NAME: ("a column's name has a byte above %d" % MOST_IN_NAME, "the first such byte"),
+    BAD_GEOGRAPHY: ("a geography is empty", "its length field"),
 }
 
-# Why the body of a geography is no area, by the refusal's number, or by that and its place in the body.
+# Why the body of a geography is no area, if no rule above says it.
 NO_AREA = {
-    1: "a field doesn't fit",
-    2: "a count is negative",
-    4: "bytes are left after the last field",
-    7: "a ring has at least 3 vertices",
-    (7, 2): "the third byte is 0 for one ring and 1 for more",
-    (7, 3): "an area has at least 1 ring",
+    NO_ROOM: "a field doesn't fit",
+    BAD_SIGN: "a count is negative",
+    LEFT_OVER: "bytes are left after the last field",
 }
 
 # The longest message, its length field included, and the longest that the listing program takes.

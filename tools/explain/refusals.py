@@ -1,18 +1,16 @@
-"""Why a message is refused, in words: which field, what it says, the rule that it breaks, what the bytes say.
+"""Why a message is refused, in words: which field, what it says, the rule that it breaks, what the bytes say, and how the row begins that it stands in.
 
 That it is refused, the number and the place are the proved library's. Of a refused message the library lists no fields, so the fields up to the place are the
-second reader's (tests/second), which was written from the paper by itself and is held against the library by tests/compare. They are told only if it refuses the
-message with the same number at the same place.
+second reader's (second.py). They are told only if it refuses the message with the same number at the same place.
 """
 
 import functools
-import sys
 
-from . import lines, paper, texts, values
-from .building import ROOT
-from .fields import Explained
+from . import cells, lines, paper, rules, second, texts, values
+from .fields import Explained, shown_name
 
 MOST_FIELDS = 40  # the last ones before the place that are shown as text
+MOST_CELLS = 4    # the first ones of a row, which tell people whose row it is
 
 # Which count says how many of a field there are.
 COUNTS = {paper.PARAMETER_TYPE: paper.PARAMETER_COUNT, paper.VALUE_LENGTH: paper.ELEMENT_COUNT, paper.VALUE: paper.ELEMENT_COUNT,
@@ -25,7 +23,7 @@ class Refusal:
 
     def __init__(self, kind, message, refusal, accepting=()):
         self.message, (self.number, self.place) = message, refusal
-        self.second = second_refusal(kind, message, refusal)
+        self.second = second.same(second.of_message(kind, message)[0], refusal)
         self.explained = Explained(message, self.fields_up_to(kind) if self.second else [])
         self.words = [self.headline(), *(self.particular() if self.second else self.general())] + [
             "As %d, %s, the same bytes are accepted." % (other, paper.KINDS[other]) for other in accepting]
@@ -41,15 +39,19 @@ class Refusal:
                 "The second reader (tests/second) doesn't refuse this message so: one of the two is wrong, and no more can be said. Please report it."]
 
     def particular(self):
-        told = {1: self.no_room, 2: self.bad_sign, 3: self.limit, 4: self.left_over, 5: self.bad_version, 6: self.bad_type, 7: self.bad_value, 20: self.bad_text}
-        return [*self.field_words(), *told[self.number]()]
+        told = {
+            paper.NO_ROOM: self.no_room, paper.BAD_SIGN: self.bad_sign, paper.LIMIT: self.limit, paper.LEFT_OVER: self.left_over,
+            paper.BAD_VERSION: self.bad_version, paper.BAD_TYPE: self.bad_type, paper.BAD_TEXT: self.bad_text, paper.BAD_DECIMAL: self.bad_decimal,
+            paper.BAD_POINT: self.bad_point, paper.BAD_FLAGS: self.bad_flags, paper.BAD_NAME: self.bad_name, paper.BAD_GEOGRAPHY: rules.empty_geography,
+        }
+        return [*self.field_words(), *told[self.number](), *self.row_words()]
 
     def fields_up_to(self, kind):
         """Those that were read; of a file that goes on behind its message, whose bytes weren't looked at for that, those of the message by itself."""
-        return read_by_second(kind, self.message[:self.place])[1] if self.goes_on() else self.second.fields
+        return second.of_message(kind, self.message[:self.place])[1] if self.goes_on() else self.second.fields
 
     def goes_on(self):
-        return self.number == 4 and self.place == 4 + values.signed(self.message[:4]) and self.second.room == len(self.message)
+        return self.number == paper.LEFT_OVER and self.place == 4 + values.signed(self.message[:4]) and self.second.room == len(self.message)
 
     # -- The field
 
@@ -60,13 +62,20 @@ class Refusal:
         return found if found and found.number == self.second.field else None
 
     def field_words(self):
-        if self.number == 4:
+        if self.number == paper.LEFT_OVER:
             return []
         where = self.explained.where(self.second.field, *self.second.index)
         name = "The field is: %s%s" % (paper.FIELDS[self.second.field][0], ", " + where if where else "")
         if not self.field:
             return ["%s, at %d; the message has %s." % (name, self.place, values.count_of(len(self.message), "byte"))]
-        return ["%s. Its bytes are %s: %s." % (name, lines.short_hex(self.field.raw), self.said() if self.number == 2 else self.field.value)]
+        return ["%s. Its bytes are %s: %s." % (name, lines.short_hex(self.field.raw), self.said() if self.number == paper.BAD_SIGN else self.field.value)]
+
+    def row_words(self):
+        """Of a cell: the first cells of its row, as far as they were read before it."""
+        table, row, column = self.second.index
+        before = range(min(column, MOST_CELLS) if self.second.field in cells.CELL_FIELDS else 0)
+        told = ["%s %s" % (shown_name(self.explained.column_name(table, other)), cells.Cell(self.explained, table, row, other).value()) for other in before]
+        return ["Its row begins with %s." % ", ".join(told)] if told else []
 
     def said(self):
         return values.signed(self.field.raw)
@@ -105,7 +114,7 @@ class Refusal:
     def bad_sign(self):
         if self.said() == 0:
             return ["A message has at least its version byte, so its length isn't 0."]
-        null = " -1 stands for null only in the two status strings and in string, varbinary and geography values." if self.said() == -1 else ""
+        null = " -1 stands for null only in the two status strings and in string, varbinary and geography values." if self.said() == paper.NULL_LENGTH else ""
         return ["A length or a count isn't negative, and this one is %d.%s" % (self.said(), null)]
 
     def limit(self):
@@ -136,37 +145,19 @@ class Refusal:
             return ["A column or an element of an array can't be %s." % paper.TYPES[self.said()]]
         return ["There is no wire type %d. They are: %s." % (self.said(), ", ".join("%d %s" % pair for pair in sorted(paper.TYPES.items())))]
 
-    def bad_value(self):
-        number, byte = self.second.field, self.message[self.place]
-        if number == paper.FLAG_BYTE:
-            return ["Only the bits %s have a meaning; %d must not be set." % (", ".join("%d (%s)" % pair for pair in paper.FLAGS.items()), byte & ~sum(paper.FLAGS))]
-        if number == paper.COLUMN_NAME:
-            return ["A column's name has bytes from 0 to 127, and this one, number %d of %d, is %d." % (self.place - self.field.offset + 1, self.field.size, byte)]
-        if number in (paper.CELL_LENGTH, paper.VALUE_LENGTH):
-            return ["A geography isn't empty: its length is at least 1, or -1 for null."]
-        if self.field.value.startswith("longitude"):
-            return ["A point's longitude is from -180 to 180 and its latitude from -90 to 90, and neither is NaN; or both are 360, which is null: one of them alone isn't."]
-        return ["A decimal counts units of 10^-12, here %d; it is from -(10^38 - 1) to 10^38 - 1, or -2^127, which is null." % self.said()]
+    def bad_decimal(self):
+        return rules.decimal(self.field.raw)
+
+    def bad_point(self):
+        return rules.point(self.field.raw)
+
+    def bad_flags(self):
+        return rules.flags(self.field.raw[0])
+
+    def bad_name(self):
+        return rules.name(self.field.raw, self.place - self.field.offset)
 
     def bad_text(self):
         raw, at = self.field.raw, self.place - self.field.offset
         return ["Around byte %d, number %d of the text's %d, stands %s: no character of UTF-8 begins there." % (self.place, at + 1, len(raw), texts.around(raw, at)),
                 texts.fault(raw[at:])]
-
-
-def second_refusal(kind, message, refusal):
-    """The second reader's refusal of a message, if it is the same."""
-    no, _ = read_by_second(kind, message)
-    return no if no and (no.number, no.place) == refusal else None
-
-
-def read_by_second(kind, message):
-    """The second reader's refusal, if it refuses, and the fields that it read."""
-    folder = str(ROOT / "tests" / "second")
-    if folder not in sys.path:
-        sys.path.append(folder)
-    import reader
-    try:
-        return None, reader.read(kind, message)[1]
-    except reader.Refused as no:
-        return no, no.fields

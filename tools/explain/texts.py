@@ -23,6 +23,14 @@ def around(raw, at):
     return " ".join(filter(None, shown))
 
 
+def character(raw):
+    """The character that these bytes begin with; None if they begin with none."""
+    try:
+        return raw[:SIZES.get(raw[0], 1)].decode("utf-8")
+    except UnicodeDecodeError:
+        return None
+
+
 def fault(raw):
     """Why no character begins with these bytes, which go on to the text's end."""
     first, second = raw[0], raw[1] if len(raw) > 1 else None

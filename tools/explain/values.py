@@ -6,9 +6,7 @@ import struct
 
 from . import paper
 
-DECIMAL_PLACES = 12
-NULL_DECIMAL = -(2**127)
-NULL_DEGREES = 360.0  # both numbers of a null point
+EAST_WEST, NORTH_SOUTH = ("E", "W"), ("N", "S")  # where degrees are above 0, and where below
 MOST_SHOWN = 60  # characters of a text, and bytes of a binary value, before they are cut
 
 EPOCH = datetime.datetime(1970, 1, 1)
@@ -39,7 +37,7 @@ def raw_text(wire_type, raw):
         paper.FLOAT: lambda r: "the bits 0x%s" % r.hex(),
         paper.STRING: lambda r: count_of(len(r), "byte"),
         paper.TIMESTAMP: lambda r: "%d microseconds since 1970-01-01 00:00 UTC" % signed(r),
-        paper.DECIMAL: lambda r: "%d x 10^-%d" % (signed(r), DECIMAL_PLACES),
+        paper.DECIMAL: lambda r: "%d x 10^-%d" % (signed(r), paper.DECIMAL_PLACES),
         paper.VARBINARY: lambda r: count_of(len(r), "byte"),
         paper.POINT: lambda r: "the bits 0x%s and 0x%s" % (r[:8].hex(), r[8:].hex()),
         paper.GEOGRAPHY: lambda r: count_of(len(r), "byte"),
@@ -67,10 +65,12 @@ def one_character(character):
 
 def decimal(raw):
     units = signed(raw)
-    if units == NULL_DECIMAL:
-        return "null"
-    whole, rest = divmod(abs(units), 10**DECIMAL_PLACES)
-    return "%s%d.%0*d" % ("-" if units < 0 else "", whole, DECIMAL_PLACES, rest)
+    return "null" if units == paper.NULL_DECIMAL else decimal_digits(units)
+
+
+def decimal_digits(units):
+    whole, rest = divmod(abs(units), 10**paper.DECIMAL_PLACES)
+    return "%s%d.%0*d" % ("-" if units < 0 else "", whole, paper.DECIMAL_PLACES, rest)
 
 
 def utc(microseconds):
@@ -89,9 +89,9 @@ def float_text(raw):
 
 def point(raw):
     longitude, latitude = struct.unpack(">dd", raw)
-    if longitude == latitude == NULL_DEGREES:
+    if longitude == latitude == paper.NULL_DEGREES:
         return "null"
-    return "longitude %s, latitude %s" % (degrees(longitude, "E", "W"), degrees(latitude, "N", "S"))
+    return "longitude %s, latitude %s" % (degrees(longitude, *EAST_WEST), degrees(latitude, *NORTH_SOUTH))
 
 
 def degrees(number, positive, negative):
@@ -116,7 +116,7 @@ def opaque(raw):
 
 
 def length(number):
-    return "null" if number == -1 else count_of(number, "byte")
+    return "null" if number == paper.NULL_LENGTH else count_of(number, "byte")
 
 
 def count_of(number, thing):
