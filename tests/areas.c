@@ -1,7 +1,7 @@
 /* Carries out calls on the bodies of geographies, and steps of writing them, with the exported functions, to be held against the second
    reader and writer. Standard input is a row of frames, a call each; each answer is a line. tests/second/area_calls.py says which. */
+#include "ask.h"
 #include "frame.h"
-#include <chaloenpik.h>
 #include <string.h>
 
 /* The calls, by the byte that names them. */
@@ -66,23 +66,23 @@ static void print_list(size_t written, size_t numbers) {
 
 static void told(uint64_t answer, size_t numbers) { print_list(answered(answer) ? numbers : 0, numbers); }
 
-static void ring(void) { told(chaloenpik_area_ring(body, length, number(), lent(3)), 3); }
+static void ring(void) { told(ASK(area_ring, body, length, number(), lent(3)), 3); }
 
 static void vertex(void) {
     size_t r = number(), v = number();
-    told(chaloenpik_area_vertex(body, length, r, v, lent(3)), 3);
+    told(ASK(area_vertex, body, length, r, v, lent(3)), 3);
 }
 
 static void fields(void) {
     size_t first = number(), numbers = number();
     if (numbers > CHALOENPIK_ENTRY * MOST_ENTRIES) fail("a list is too long");
-    uint64_t answer = chaloenpik_area_fields(body, length, first, lent(numbers), numbers);
+    uint64_t answer = ASK(area_fields, body, length, first, lent(numbers), numbers);
     size_t written = answered(answer) ? CHALOENPIK_ENTRY * chaloenpik_value(answer) : 0;
     print_list(written < numbers ? written : numbers, numbers);
 }
 
 static void turn(void) {
-    answered(chaloenpik_area_turn_holes(body, length));
+    answered(ASK(area_turn_holes, body, length));
     putchar(' ');
     print_bytes(body, length);
     check_marked(body + length, SPARE);
@@ -93,15 +93,15 @@ static void turn(void) {
 static uint64_t stepped(uint8_t name) {
     if (name == BEGIN) {
         uint8_t edition = byte(), internal = byte();
-        return chaloenpik_area_begin(out, size, state, edition, internal);
+        return ASK(area_begin, out, size, state, edition, internal);
     }
-    if (name == OPEN_RING) return chaloenpik_area_open_ring(out, size, state, byte());
+    if (name == OPEN_RING) return ASK(area_open_ring, out, size, state, byte());
     if (name == ADD_VERTEX) {
         uint64_t x = number(), y = number(), z = number();
-        return chaloenpik_area_add_vertex(out, size, state, x, y, z);
+        return ASK(area_add_vertex, out, size, state, x, y, z);
     }
-    if (name == CLOSE_RING) return chaloenpik_area_close_ring(out, size, state, block(CHALOENPIK_RING_KEPT));
-    return chaloenpik_area_finish(out, size, state, block(CHALOENPIK_AREA_KEPT));
+    if (name == CLOSE_RING) return ASK(area_close_ring, out, size, state, block(CHALOENPIK_RING_KEPT));
+    return ASK(area_finish, out, size, state, block(CHALOENPIK_AREA_KEPT));
 }
 
 static void step(uint8_t name) {
@@ -146,14 +146,14 @@ static bool silent(uint8_t name) {
 static void call(uint8_t name) {
     if (silent(name)) return;
     switch (name) {
-    case RINGS: answered(chaloenpik_area_rings(body, length)); break;
+    case RINGS: answered(ASK(area_rings, body, length)); break;
     case RING: ring(); break;
     case VERTEX: vertex(); break;
-    case RING_KEPT: told(chaloenpik_area_ring_kept(body, length, number(), lent(2)), 2); break;
-    case KEPT: told(chaloenpik_area_kept(body, length, lent(2)), 2); break;
-    case FIELD_COUNT: answered(chaloenpik_area_field_count(body, length)); break;
+    case RING_KEPT: told(ASK(area_ring_kept, body, length, number(), lent(2)), 2); break;
+    case KEPT: told(ASK(area_kept, body, length, lent(2)), 2); break;
+    case FIELD_COUNT: answered(ASK(area_field_count, body, length)); break;
     case FIELDS: fields(); break;
-    case OWNER: answered(chaloenpik_area_owner(body, length, number())); break;
+    case OWNER: answered(ASK(area_owner, body, length, number())); break;
     case TURN: turn(); break;
     case SHOW: print_bytes(out, size); break;
     default: step(name); break;

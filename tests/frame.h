@@ -1,5 +1,4 @@
-/* What the programs share that carry out a row of calls from standard input: a frame for each call, its arguments one after the other, and the sum
-   of some bytes. */
+/* What the programs share that carry out a row of calls from standard input: a frame for each call, and its arguments one after the other. */
 #ifndef FRAME_H
 #define FRAME_H
 
@@ -41,19 +40,6 @@ static size_t next_frame(uint8_t *frame, size_t most) {
     if (bytes == 0 || bytes > most || fread(frame, 1, bytes, stdin) != bytes) fail("a frame is empty, too long or cut short");
     next = frame, end = frame + bytes;
     return bytes;
-}
-
-/* The CRC-32 of some bytes, as zip files have it. */
-static uint32_t checksum(const uint8_t *bytes, size_t count) {
-    static uint32_t sums[256];
-    for (uint32_t b = 0; sums[255] == 0 && b < 256; b++) {
-        uint32_t sum = b;
-        for (int i = 0; i < 8; i++) sum = sum >> 1 ^ (sum & 1 ? 0xedb88320 : 0);
-        sums[b] = sum;
-    }
-    uint32_t sum = UINT32_MAX;
-    for (size_t i = 0; i < count; i++) sum = sum >> 8 ^ sums[(sum ^ bytes[i]) & 255];
-    return ~sum;
 }
 
 #endif

@@ -1,7 +1,7 @@
 /* Carries out scripts of writer steps with the exported steps, to be held against the second writer. Standard input is a row of
    frames, a step each; each answer is a line. tests/second/steps.py says which. */
+#include "ask.h"
 #include "frame.h"
-#include <chaloenpik.h>
 #include <string.h>
 
 /* The steps, by the byte that names them. */
@@ -33,44 +33,28 @@ static part counted(void) {
     return p;
 }
 
+/* A value by its bits, or by its bytes. */
+typedef struct {
+    uint8_t type;
+    bool is_body;
+    part body;
+    uint64_t upper, lower;
+} value;
+
+static value taken_value(void) {
+    value v = {.type = *take(1)};
+    v.is_body = *take(1) == 1;
+    if (v.is_body) v.body = counted();
+    else v.upper = big_endian(8), v.lower = big_endian(8);
+    return v;
+}
+
 /* ---- Steps. */
-
-typedef uint64_t simple_step(uint8_t *, size_t, uint64_t *);
-typedef uint64_t fixed_step(uint8_t *, size_t, uint64_t *, uint8_t, uint64_t, uint64_t);
-typedef uint64_t body_step(uint8_t *, size_t, uint64_t *, uint8_t, bool, const uint8_t *, size_t);
-
-static uint64_t simple(simple_step *step) { return step(out, size, state); }
-
-/* Those of a table are lent the types of its columns too. */
-static uint64_t open_row(uint8_t *o, size_t n, uint64_t *s) { return chaloenpik_open_row(o, n, s, types); }
-
-static uint64_t close_row(uint8_t *o, size_t n, uint64_t *s) { return chaloenpik_close_row(o, n, s, types); }
-
-static uint64_t close_table(uint8_t *o, size_t n, uint64_t *s) { return chaloenpik_close_table(o, n, s, types); }
-
-static uint64_t fixed_cell(uint8_t *o, size_t n, uint64_t *s, uint8_t type, uint64_t upper, uint64_t lower) {
-    return chaloenpik_fixed_cell(o, n, s, types, type, upper, lower);
-}
-
-static uint64_t body_cell(uint8_t *o, size_t n, uint64_t *s, uint8_t type, bool null, const uint8_t *bytes, size_t count) {
-    return chaloenpik_body_cell(o, n, s, types, type, null, bytes, count);
-}
-
-/* A value by the step for its form, whatever its type. */
-static uint64_t value(fixed_step *fixed, body_step *body) {
-    uint8_t type = *take(1);
-    if (*take(1) == 1) {
-        part p = counted();
-        return body(out, size, state, type, p.null, p.bytes, p.size);
-    }
-    uint64_t upper = big_endian(8), lower = big_endian(8);
-    return fixed(out, size, state, type, upper, lower);
-}
 
 static uint64_t login(void) {
     uint8_t version = byte(), hash_version = byte();
     part service = counted(), user = counted(), hash = counted();
-    return chaloenpik_write_login_request(out, size, version, hash_version, service.bytes, service.size, user.bytes, user.size, hash.bytes, hash.size);
+    return ASK(write_login_request, out, size, version, hash_version, service.bytes, service.size, user.bytes, user.size, hash.bytes, hash.size);
 }
 
 static uint64_t login_reply(void) {
@@ -80,13 +64,13 @@ static uint64_t login_reply(void) {
     big_endian(4); /* the leader's size, always 4 */
     uint32_t leader = (uint32_t)big_endian(4);
     part build = counted();
-    return chaloenpik_write_login_response(out, size, version, result, host, connection, start, leader, build.bytes, build.size);
+    return ASK(write_login_response, out, size, version, result, host, connection, start, leader, build.bytes, build.size);
 }
 
 static uint64_t begin_invocation(void) {
     uint8_t version = byte();
     part procedure = counted(), client = counted();
-    return chaloenpik_begin_call(out, size, state, version, procedure.bytes, procedure.size, client.bytes);
+    return ASK(begin_call, out, size, state, version, procedure.bytes, procedure.size, client.bytes);
 }
 
 static uint64_t begin_reply(void) {
@@ -98,17 +82,33 @@ static uint64_t begin_reply(void) {
     part application_string = counted();
     uint32_t round_trip = (uint32_t)number();
     part exception = counted();
-    return chaloenpik_begin_reply(out, size, state, version, client.bytes, flags, status, status_string.null, status_string.bytes,
-                                  status_string.size, application, application_string.null, application_string.bytes,
-                                  application_string.size, round_trip, exception.bytes, exception.size);
+    return ASK(begin_reply, out, size, state, version, client.bytes, flags, status, status_string.null, status_string.bytes, status_string.size,
+               application, application_string.null, application_string.bytes, application_string.size, round_trip, exception.bytes, exception.size);
 }
 
 static uint64_t add_byte_array(void) {
     part body = counted();
-    return chaloenpik_bytes_param(out, size, state, body.bytes, body.size);
+    return ASK(bytes_param, out, size, state, body.bytes, body.size);
 }
 
-static uint64_t open_array(void) { return chaloenpik_open_array(out, size, state, byte()); }
+/* Values go to the step for their form, whatever their type. */
+
+static uint64_t add_value(value v) {
+    if (v.is_body) return ASK(body_param, out, size, state, v.type, v.body.null, v.body.bytes, v.body.size);
+    return ASK(fixed_param, out, size, state, v.type, v.upper, v.lower);
+}
+
+static uint64_t add_element(value v) {
+    if (v.is_body) return ASK(body_element, out, size, state, v.type, v.body.null, v.body.bytes, v.body.size);
+    return ASK(fixed_element, out, size, state, v.type, v.upper, v.lower);
+}
+
+static uint64_t add_cell(value v) {
+    if (v.is_body) return ASK(body_cell, out, size, state, types, v.type, v.body.null, v.body.bytes, v.body.size);
+    return ASK(fixed_cell, out, size, state, types, v.type, v.upper, v.lower);
+}
+
+static uint64_t open_array(void) { return ASK(open_array, out, size, state, byte()); }
 
 static uint64_t open_table(void) {
     static uint64_t columns[3 * MOST_COLUMNS];
@@ -121,7 +121,7 @@ static uint64_t open_table(void) {
         columns[3 * k + 2] = number();
     }
     part names = counted();
-    return chaloenpik_open_table(out, size, state, types, status, columns, 3 * count, names.bytes, names.size);
+    return ASK(open_table, out, size, state, types, status, columns, 3 * count, names.bytes, names.size);
 }
 
 /* ---- What is no step. */
@@ -171,19 +171,19 @@ static uint64_t stepped(uint8_t name) {
     case LOGIN_REPLY: return login_reply();
     case BEGIN_INVOCATION: return begin_invocation();
     case BEGIN_REPLY: return begin_reply();
-    case ADD_NULL: return simple(chaloenpik_null_param);
-    case ADD_VALUE: return value(chaloenpik_fixed_param, chaloenpik_body_param);
+    case ADD_NULL: return ASK(null_param, out, size, state);
+    case ADD_VALUE: return add_value(taken_value());
     case ADD_BYTE_ARRAY: return add_byte_array();
     case OPEN_ARRAY: return open_array();
-    case ADD_ELEMENT: return value(chaloenpik_fixed_element, chaloenpik_body_element);
-    case CLOSE_ARRAY: return simple(chaloenpik_close_array);
-    case FINISH_INVOCATION: return simple(chaloenpik_finish_call);
+    case ADD_ELEMENT: return add_element(taken_value());
+    case CLOSE_ARRAY: return ASK(close_array, out, size, state);
+    case FINISH_INVOCATION: return ASK(finish_call, out, size, state);
     case OPEN_TABLE: return open_table();
-    case OPEN_ROW: return simple(open_row);
-    case ADD_CELL: return value(fixed_cell, body_cell);
-    case CLOSE_ROW: return simple(close_row);
-    case CLOSE_TABLE: return simple(close_table);
-    case FINISH_REPLY: return simple(chaloenpik_finish_reply);
+    case OPEN_ROW: return ASK(open_row, out, size, state, types);
+    case ADD_CELL: return add_cell(taken_value());
+    case CLOSE_ROW: return ASK(close_row, out, size, state, types);
+    case CLOSE_TABLE: return ASK(close_table, out, size, state, types);
+    case FINISH_REPLY: return ASK(finish_reply, out, size, state);
     default: exit(1);
     }
 }

@@ -1,15 +1,14 @@
 /* Prints what messages say, by the exported functions, to be held against the second reader. Standard input is a row of frames: 4 bytes
-   of size, big-endian, one byte of kind, a message. tests/second/compare_shown.py says what is printed. */
-#include <chaloenpik.h>
-#include <stdio.h>
+   of size, big-endian, one byte of kind, a message; or instead of a kind the byte CARD_FRAME, and a card for the message before it.
+   tests/second/compare_shown.py says what is printed. */
+#include "ask.h"
 #include <stdlib.h>
 #include <string.h>
 
-enum { MOST_FRAME = 1 << 23, MOST_NUMBERS = 17, MOST_ENTRIES = 1 << 16, NAME_LENGTH = 46, MARK = 85, SPARE = 4 };
+enum { MOST_SIZE = 1 << 23, MOST_NUMBERS = 17, MOST_ENTRIES = 1 << 16, NAME_LENGTH = 46, MARK = 85, SPARE = 4, CARD_FRAME = 100 };
 
-static uint8_t frame[MOST_FRAME], card[CHALOENPIK_CARD + SPARE];
-static const uint8_t *message = frame + 1;
-static uint64_t numbers[MOST_NUMBERS], entries[6 * MOST_ENTRIES];
+static uint8_t message[MOST_SIZE], given_card[MOST_SIZE], card[CHALOENPIK_CARD + SPARE];
+static uint64_t numbers[MOST_NUMBERS], entries[CHALOENPIK_ENTRY * MOST_ENTRIES];
 static size_t length, entry_count;
 
 /* Numbers to be written into, marked. */
@@ -30,6 +29,13 @@ static bool refused(uint64_t answer) {
     return true;
 }
 
+/* Prints what was found, or the refusal; and gives it, or 0. */
+static size_t found(uint64_t answer) {
+    if (refused(answer)) return 0;
+    printf("%lu\n", chaloenpik_value(answer));
+    return chaloenpik_value(answer);
+}
+
 /* Prints so many numbers, or the refusal; and says if anything else was written. */
 static bool told(uint64_t answer, size_t count) {
     bool no = refused(answer);
@@ -38,40 +44,49 @@ static bool told(uint64_t answer, size_t count) {
     return !no;
 }
 
+/* The field list, by its length and its sum; and from its end on, where there is none. */
+static void fields(uint8_t kind) {
+    memset(entries, MARK, sizeof *entries);
+    uint64_t answer = ASK(fields, kind, message, length, 0, entries, CHALOENPIK_ENTRY * MOST_ENTRIES);
+    entry_count = chaloenpik_refusal(answer) == 0 ? chaloenpik_value(answer) : 0;
+    if (!refused(answer)) printf("%lu %08x\n", entry_count, checksum((uint8_t *)entries, entry_count * CHALOENPIK_ENTRY * sizeof *entries));
+    else if (!all_marked(entries, entries + 1)) printf("written on a refusal\n");
+    refused(ASK(fields, kind, message, length, entry_count, numbers, MOST_NUMBERS));
+}
+
+/* What can be asked of any message. */
+static void any(uint8_t kind) {
+    found(ASK(accept, kind, message, length));
+    found(ASK(field_count, kind, message, length));
+    fields(kind);
+    found(ASK(owner, kind, message, length, 0));
+    found(ASK(owner, kind, message, length, length / 2));
+    found(ASK(owner, kind, message, length, length));
+}
+
+/* A parameter, and its elements, one more than it has. */
 static void parameter(size_t p) {
-    if (!told(chaloenpik_parameter(message, length, p, fresh()), 4)) return;
-    size_t count = numbers[1] == CHALOENPIK_MANY ? numbers[3] : 0;
-    for (size_t e = 0; e <= count; e++) told(chaloenpik_element(message, length, p, e, fresh()), 4);
+    bool is_array = told(ASK(parameter, message, length, p, fresh()), 4) && numbers[1] == CHALOENPIK_MANY;
+    size_t count = is_array ? numbers[3] : 0;
+    for (size_t e = 0; e <= count; e++) told(ASK(element, message, length, p, e, fresh()), 4);
 }
 
 static void invocation(void) {
-    if (!told(chaloenpik_invocation(message, length, fresh()), 6)) {
-        parameter(0);
-        return;
-    }
-    size_t count = numbers[4];
+    size_t count = told(ASK(invocation, message, length, fresh()), 6) ? numbers[4] : 0;
     for (size_t p = 0; p <= count; p++) parameter(p);
 }
 
-static void open_card(size_t table) {
-    uint64_t answer = chaloenpik_open_card(message, length, table, card, CHALOENPIK_CARD);
-    if (!refused(answer)) printf("%lu\n", chaloenpik_value(answer));
-}
-
-static void find(size_t table, const uint8_t *bytes, size_t size) {
-    uint64_t answer = chaloenpik_find_column(message, length, table, bytes, size);
-    if (!refused(answer)) printf("%lu\n", chaloenpik_value(answer));
-}
+static void open_card(size_t table) { found(ASK(open_card, message, length, table, card, CHALOENPIK_CARD)); }
 
 /* The columns that have a name in its own table and in the next; its card, made in too little room and then in enough; and the columns that this opens in
    both tables. */
 static void name(size_t table, const uint8_t *bytes, size_t size) {
-    find(table, bytes, size);
-    find(table + 1, bytes, size);
+    found(ASK(find_column, message, length, table, bytes, size));
+    found(ASK(find_column, message, length, table + 1, bytes, size));
     memset(card, MARK, sizeof card);
-    refused(chaloenpik_make_card(message, length, table, bytes, size, card, CHALOENPIK_CARD - 1));
+    refused(ASK(make_card, message, length, table, bytes, size, card, CHALOENPIK_CARD - 1));
     if (!all_marked(card, card + sizeof card)) printf("written on a refusal\n");
-    uint64_t answer = chaloenpik_make_card(message, length, table, bytes, size, card, sizeof card);
+    uint64_t answer = ASK(make_card, message, length, table, bytes, size, card, sizeof card);
     if (refused(answer)) return;
     printf("%lu ", chaloenpik_value(answer));
     for (size_t i = 0; i < CHALOENPIK_CARD; i++) printf("%02x", card[i]);
@@ -90,48 +105,49 @@ static void names(size_t table) {
 
 /* A cell, and where its bytes stand. */
 static void cell(size_t table, size_t row, size_t column) {
-    told(chaloenpik_cell(message, length, table, row, column, fresh()), 4);
-    told(chaloenpik_cell_place(message, length, table, row, column, fresh()), 2);
+    told(ASK(cell, message, length, table, row, column, fresh()), 4);
+    told(ASK(cell_place, message, length, table, row, column, fresh()), 2);
 }
 
+/* All of a table, or of one that isn't there. */
 static void table(size_t t) {
     static const uint8_t torn[] = {0xc3}; /* no column has this name, and it is no text: it is searched for all the same */
-    uint64_t answer = chaloenpik_rows(message, length, t);
-    if (refused(answer)) return;
-    size_t rows = chaloenpik_value(answer), columns = chaloenpik_value(chaloenpik_columns(message, length, t));
+    size_t rows = found(ASK(rows, message, length, t)), columns = found(ASK(columns, message, length, t));
     names(t);
     name(t, torn, sizeof torn);
-    for (size_t c = 0; c <= columns; c++) told(chaloenpik_column_name(message, length, t, c, fresh()), 2);
+    open_card(t); /* what isn't even a card */
+    for (size_t c = 0; c <= columns; c++) {
+        found(ASK(column_type, message, length, t, c));
+        told(ASK(column_name, message, length, t, c, fresh()), 2);
+    }
     for (size_t r = 0; r <= rows; r++)
         for (size_t c = 0; c <= columns; c++) cell(t, r, c);
 }
 
 static void response(void) {
-    if (!told(chaloenpik_response(message, length, fresh()), 17)) {
-        told(chaloenpik_column_name(message, length, 0, 0, fresh()), 2);
-        cell(0, 0, 0);
-        name(0, message, 0);
-        open_card(0);
-        return;
-    }
-    size_t tables = numbers[15];
-    entry_count = chaloenpik_value(chaloenpik_fields(CHALOENPIK_RESPONSE, message, length, 0, entries, 6 * MOST_ENTRIES));
+    told(ASK(response, message, length, fresh()), 17);
+    size_t tables = found(ASK(tables, message, length));
     for (size_t t = 0; t <= tables; t++) table(t);
 }
 
+static void shown(uint8_t kind) {
+    any(kind);
+    switch (kind) {
+    case CHALOENPIK_LOGIN_REQUEST: told(ASK(login_request, message, length, fresh()), 9); break;
+    case CHALOENPIK_LOGIN_RESPONSE: told(ASK(login_response, message, length, fresh()), 9); break;
+    case CHALOENPIK_INVOCATION: invocation(); break;
+    case CHALOENPIK_RESPONSE: response(); break;
+    }
+}
+
 int main(void) {
-    uint8_t head[4];
+    uint8_t head[5];
     while (fread(head, 1, sizeof head, stdin) == sizeof head) {
-        size_t size = (size_t)head[0] << 24 | (size_t)head[1] << 16 | (size_t)head[2] << 8 | head[3];
-        if (size == 0 || size > MOST_FRAME || fread(frame, 1, size, stdin) != size) return 1;
-        length = size - 1;
-        switch (frame[0]) {
-        case CHALOENPIK_LOGIN_REQUEST: told(chaloenpik_login_request(message, length, fresh()), 9); break;
-        case CHALOENPIK_LOGIN_RESPONSE: told(chaloenpik_login_response(message, length, fresh()), 9); break;
-        case CHALOENPIK_INVOCATION: invocation(); break;
-        case CHALOENPIK_RESPONSE: response(); break;
-        default: return 1;
-        }
+        size_t size = ((size_t)head[0] << 24 | (size_t)head[1] << 16 | (size_t)head[2] << 8 | head[3]) - 1;
+        bool is_card = head[4] == CARD_FRAME;
+        if (size > MOST_SIZE || fread(is_card ? given_card : message, 1, size, stdin) != size) return 1;
+        if (is_card) found(ASK(open_card, message, length, 0, given_card, size));
+        else length = size, shown(head[4]);
         printf(".\n");
     }
     return 0;

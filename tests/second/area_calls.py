@@ -14,7 +14,8 @@ A script is a list of calls, each (name, arguments):
 
 What is answered, a line a call: `fine`, what the answer says was found, and the numbers that were lent; or `refused NUMBER PLACE`. After
 that, for `turn`, the body; for a step, the state and the buffer's checksum. `show` gives bytes alone; `body`, `buffer`, `forge` and `take`
-give no line. Bytes are hexadecimal, or if they are many a checksum; a checksum of a large buffer is left to `show`.
+give no line. Bytes are hexadecimal, or if they are many a checksum; a checksum of a large buffer is left to `show`. A program prints the name of
+the exported function before its answer (`named`).
 
 For a program, `packed` makes each call a frame (frames.py): a byte that names it (its place in NAMES), then its arguments: a number as 8
 bytes; bytes as a length of 4 bytes and the bytes.
@@ -63,7 +64,7 @@ class Second:
         try:
             self.area, self.listed = read(body)
         except Refused as no:
-            self.refusal = "refused %d %d" % (no.number, no.place)
+            self.refusal = refused(no.number, no.place)
         self.offsets = [field[0] for field in self.listed]
         self.places = {field[2:]: field[:2] for field in self.listed}
 
@@ -74,7 +75,7 @@ class Second:
         try:
             return " ".join(map(str, ("fine", *getattr(self, name)(*arguments))))
         except LookupError:
-            return "refused 11 0"
+            return refused(PAST_END, 0)
 
     def rings(self):
         return (len(self.area["rings"]),)
@@ -133,8 +134,18 @@ class Second:
             answer = "fine %d" % self.state.position
         except No as no:
             number, place = no.answer
-            answer = "refused %d %d" % (number, place % PLACES)
+            answer = refused(number, place % PLACES)
         return "%s %s%s" % (answer, " ".join(map(str, self.state)), " " + checksum(self.out) if len(self.out) <= MOST_SHOWN else "")
+
+
+def named(script, lines):
+    """The lines of a script as a program prints them."""
+    answering = [name for name, _ in script if name not in SILENT]
+    return [line if name == "show" else "%s %s" % (function(name), line) for name, line in zip(answering, lines)]
+
+
+def function(name):
+    return "area_" + {"turn": "turn_holes"}.get(name, name)
 
 
 def shown(data):

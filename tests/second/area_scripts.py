@@ -129,7 +129,7 @@ def at_every_edge(maker):
     rings = [(RING_OPEN, position, rings, ring_at, vertices) for position in positions for rings in counts
              for ring_at in (HEAD - 1, HEAD, position - RING_HEAD, position - RING_HEAD + 1) for vertices in (2, 3, *counts[3:])]
     rings += [(stage, 100, 1, HEAD, 3) for stage in (3, 256 + RING_OPEN, HUGE)]
-    script = [("buffer", (size,))]
+    script = [step for room in (0, HEAD - 1, HEAD) for step in (("buffer", (room,)), step_of(maker, "begin"))] + [("buffer", (size,))]
     for states, names in ((areas, ("open_ring", "finish", "add_vertex")), (rings, ("add_vertex", "close_ring", "finish"))):
         for state, name in itertools.product(states, names):
             script += [("forge", tuple(number % 2**64 for number in state)), step_of(maker, name)]

@@ -8,7 +8,7 @@ import struct
 from collections import namedtuple
 
 from wire import *
-from writer import OUTPUT_SHORT, WRONG_STAGE, No
+from writer import No
 
 # What is open: nothing, an area, a ring in it. The numbers are those of the state; any other one counts as CLOSED.
 CLOSED, AREA_OPEN, RING_OPEN = range(3)
@@ -77,7 +77,7 @@ def check_ring(state, buffer):
 
 def check_enough(count, fewest, state):
     if count < fewest:
-        raise No(BAD_VALUE, state.position)
+        raise No(BAD_GEOGRAPHY, state.position)
 
 
 def check_count(count, state):

@@ -1,4 +1,4 @@
-"""The second reader of a geography's body: what document 000 and request 2 say of it, in plain Python.
+"""The second reader of a geography's body: what document 000 and requests 2 and 5 say of it, in plain Python.
 
     read(body)    ->  (area, fields), or Refused is raised; a place is counted from the body's first byte
     encode(area)  ->  the body of an area; it checks nothing
@@ -28,11 +28,11 @@ def read_area(reading, end):
     at = reading.at
     holes = byte(reading, F_HOLES, end)
     if holes not in (0, 1):
-        raise Refused(BAD_VALUE, at, F_HOLES)
+        raise Refused(BAD_GEOGRAPHY, at, F_HOLES)
     count = at_least(FEWEST_RINGS, reading, F_RING_COUNT, end)
     # Only now, when the count has passed its own checks, is the byte before it held against it.
     if holes != (count > 1):
-        raise Refused(BAD_VALUE, at, F_HOLES)
+        raise Refused(BAD_GEOGRAPHY, at, F_HOLES)
     area["rings"] = [read_ring(reading, r, end) for r in range(count)]
     area["kept"] = reading.block(AREA_KEPT, F_AREA_KEPT, end)
     reading.finish(end, F_AREA_KEPT)
@@ -59,7 +59,7 @@ def at_least(fewest, reading, field, end, index=(0, 0, 0)):
     at = reading.at
     count = reading.count(4, MOST_COUNT, field, end, index)
     if count < fewest:
-        raise Refused(BAD_VALUE, at, field, index)
+        raise Refused(BAD_GEOGRAPHY, at, field, index)
     return count
 
 

@@ -1,7 +1,8 @@
 #!/usr/bin/env python3
 """The hand-written cases of tests/cases.txt: cases.py [--write]
 
-Holds each verdict against the second reader, and crates/samples/stdin and stdout against the file. With --write it makes those two.
+Holds each verdict against the second reader, and crates/samples/stdin and stdout against the file. With --write it makes those two. The refusals of
+stdout are counted (tally.py): it is what the proved program `samples` must print, and prints wherever it is run.
 """
 
 import pathlib
@@ -10,6 +11,8 @@ import sys
 
 from frames import frame
 from reader import Refused, read
+from tally import Tally
+from wire import *
 
 HERE = pathlib.Path(__file__).resolve().parent
 CASES = HERE.parent / "cases.txt"
@@ -34,8 +37,10 @@ def main():
         elif not path.exists() or path.read_bytes() != content:
             wrong += 1
             print("%s is not what cases.txt says: run cases.py --write" % path.name)
-    print("%d cases, %d wrong" % (len(cases), wrong))
-    return wrong != 0
+    tally = Tally("cases", must=OF_READING)
+    for line in (PROGRAM / "stdout").read_text().splitlines():
+        tally.add(line)
+    return not tally.settled("%d cases, %d wrong" % (len(cases), wrong)) or wrong != 0
 
 
 def load():
@@ -74,7 +79,7 @@ def verdict(kind, message):
         read(kind, message)
         return "accepted"
     except Refused as refusal:
-        return "refused %d %d" % (refusal.number, refusal.place)
+        return refused(refusal.number, refusal.place)
 
 
 if __name__ == "__main__":

@@ -70,7 +70,7 @@ def verdict(at, body):
     try:
         return "area at %d, rings %d" % (at, len(areas.read(body)[0]["rings"]))
     except Refused as no:
-        return "refused %d %d" % (no.number, at + no.place)
+        return refused(no.number, at + no.place)
 
 
 def holes(area):

@@ -1,16 +1,21 @@
 #!/usr/bin/env python3
-"""Runs `sweep` and the second reader over the same frames, made-up ones and those at the edges of a frame's size and of text: compare.py N SEED"""
+"""Runs `sweep` and the second reader over the same frames: compare.py N SEED
+
+N made-up ones, the hand-written cases, and those at the edges of a frame's size, of text and of values' own rules.
+"""
 
 import pathlib
 import subprocess
 import sys
-from collections import Counter
 
+import cases
 import generate_texts
+import generate_values
 from encoder import encode
 from frames import frame, split
 from generate import messages
 from listing import listing
+from tally import Tally
 from wire import *
 
 RUN = pathlib.Path(__file__).resolve().parent.parent / "run"
@@ -19,22 +24,26 @@ RUN = pathlib.Path(__file__).resolve().parent.parent / "run"
 def main():
     count, seed = int(sys.argv[1]), int(sys.argv[2])
     print("compare: %d messages, seed %d" % (count, seed), flush=True)
-    texts = b"".join(frame(kind, message) for kind, message, _ in generate_texts.messages())
-    data = edges() + texts + b"".join(frame(kind, message) for kind, message in messages(count, seed)) + broken(seed)
+    data = edges() + b"".join(frame(kind, message) for kind, message in given(count, seed)) + broken(seed)
     found = subprocess.run([RUN, "sweep"], input=data, stdout=subprocess.PIPE, check=True).stdout.decode()
     frames, _ = split(data)
-    verdicts = Counter()
+    tally = Tally("compare", must=OF_READING)
     at = 0
     for number, one in enumerate(frames):
         expected = listing(one) + ".\n"
         if not found.startswith(expected, at):
             return report(number, one, expected, found[at:at + len(expected) + 200])
-        verdicts[expected.split()[1] if expected.startswith("refused") else "accepted"] += 1
+        tally.add(found[at:found.index("\n", at)])
         at += len(expected)
     if found[at:] != "broken\n":
         return report(len(frames), b"", "broken\n", found[at:at + 200])
-    print("compare: no difference. %s" % ", ".join("%s %d" % pair for pair in sorted(verdicts.items(), reverse=True)))
-    return 0
+    return 0 if tally.settled("no difference") else 1
+
+
+def given(count, seed):
+    yield from ((kind, message) for _, kind, message, _ in cases.load())
+    yield from ((kind, message) for kind, message, _ in (*generate_texts.messages(), *generate_values.messages()))
+    yield from messages(count, seed)
 
 
 def edges():

@@ -11,26 +11,26 @@ import pathlib
 import random
 import subprocess
 import sys
-from collections import Counter
 
-from area_calls import SILENT, Second, packed, spelled, text
+from area_calls import SILENT, Second, named, packed, spelled, text
 from area_scripts import asking, at_every_edge, spelling, step_of, wild
 from generate_areas import AreaMaker, bodies, edges, large, of_size
+from tally import Tally
 from wire import *
 
 ROOT = pathlib.Path(__file__).resolve().parents[2]
 RUN = [ROOT / "tools" / "c" / "kit", "run", ROOT / "target" / "tests" / "areas"]
+MUST = (NO_ROOM, BAD_SIGN, LIMIT, LEFT_OVER, OUTPUT_SHORT, PAST_END, WRONG_STAGE, BAD_GEOGRAPHY)
 
 
 def main():
     count, seed = int(sys.argv[1]), int(sys.argv[2])
     print("compare_areas: %d bodies and as many scripts, seed %d" % (count, seed), flush=True)
-    counts = Counter()
+    tally = Tally("compare_areas", must=MUST)
     for name, scripts in (("bodies", asked(count, seed)), ("scripts", written(count, seed)), ("large ones", large_ones(seed))):
-        if differs(name, list(scripts), counts):
+        if differs(name, list(scripts), tally):
             return 1
-    print("compare_areas: no difference. %s" % ", ".join("%s %d" % pair for pair in sorted(counts.items())))
-    return 0
+    return 0 if tally.settled("no difference") else 1
 
 
 def asked(count, seed):
@@ -67,17 +67,19 @@ def at_the_end(maker, room):
     return script
 
 
-def differs(name, scripts, counts):
-    """Whether the program prints anything else for these scripts; the first difference is shown."""
+def differs(name, scripts, tally):
+    """Whether the program prints anything else for these scripts; the first difference is shown. What it answered is counted."""
     data = b"".join(map(packed, scripts))
     found = subprocess.run(RUN, input=data, stdout=subprocess.PIPE, check=True).stdout.decode().splitlines()
     second, at = Second(), 0
     for script in scripts:
-        expected = second.lines(script)
-        if found[at:at + len(expected)] != expected:
-            report(script, expected, found[at:at + len(expected)])
+        expected = named(script, second.lines(script))
+        answers = found[at:at + len(expected)]
+        if answers != expected:
+            report(script, expected, answers)
             return True
-        counts.update(line.split()[1] if line.startswith("refused") else "fine" for line in expected)
+        for line in answers:
+            tally.add(line, other="fine")
         at += len(expected)
     if found[at:]:
         print("compare_areas: DIFFERENCE: %d lines too many after the %s" % (len(found[at:]), name))

@@ -2,8 +2,9 @@
 """Runs tools/explain/fields.c, which asks the exported functions, and the second reader over messages at the limits.
 
 The longest reply, the longest row and the most elements, with null points among the values, and each with its last null point spoiled; a reply
-and a row with one byte more; the longest texts, of ASCII and of the longest characters, and each torn at its end. Answers and field lists must be
-equal.
+and a row with one byte more; the longest texts, of ASCII and of the longest characters, and each torn at its end; the longest name, and one with its
+last byte above 127; the longest reply with a flag too many, and with its last decimal or its last geography spoiled. Answers and field lists must
+be equal.
 """
 
 import array
@@ -14,6 +15,7 @@ import sys
 
 from encoder import encode
 from reader import Refused, read
+from tally import Tally
 from wire import *
 
 ROOT = pathlib.Path(__file__).resolve().parents[2]
@@ -23,33 +25,45 @@ POINTS = (None, (180.0, -90.0), (-180.0, 90.0))
 
 
 def main():
+    tally = Tally("compare_large", must=(LIMIT, BAD_TEXT, *CAUSES))
     for what, kind, message in messages():
         expected, found = by_reader(kind, message), by_library(kind, message)
         if expected != found:
             print("compare_large: DIFFERENCE in %s: second reader: %s; library: %s" % (what, str(expected)[:200], str(found)[:200]))
             return 1
-        answer = "refused %d at %d" % expected if isinstance(expected, tuple) else "%d fields" % (len(expected) // 6)
+        answer = refused(*found) if isinstance(found, tuple) else "%d fields" % (len(found) // 6)
         print("compare_large: %s, %d bytes: %s" % (what, len(message), answer))
-    return 0
+        tally.add("field_count " + answer)
+    return 0 if tally.settled("no difference") else 1
 
 
 def messages():
-    for what, kind, message in (("the longest reply", REPLY, longest_reply(0)), ("the longest row", REPLY, longest_row(0)), ("the most elements", INVOCATION, most_elements())):
+    for what, kind, message in (("the longest reply", REPLY, longest_reply()), ("the longest row", REPLY, longest_row(0)),
+                                ("the most elements", INVOCATION, most_elements(POINT, [POINTS[k % 3] for k in range(MOST_ITEMS)]))):
         at = message.rindex(NULL_BYTES)
         yield what, kind, message
         yield what + ", its last null point turned", kind, message[:at] + b"\xc0" + message[at + 1:]
-    yield "a longer reply", REPLY, longest_reply(1)
+    yield "a longer reply", REPLY, longest_reply(more=1)
     yield "a longer row", REPLY, longest_row(1)
     text = "😀".encode() * (MOST_BODY // 4)
     yield "the longest text", REPLY, longest_text(text)
     yield "the longest text, its last character cut", REPLY, longest_text(text[:-1])
     yield "the longest ASCII, torn at its end", REPLY, longest_text(b"x" * (MOST_BODY - 1) + b"\xc3")
+    yield "the longest name", REPLY, longest_name(b"\x7f")
+    yield "the longest name, its last byte above 127", REPLY, longest_name(b"\x80")
+    yield "the longest reply, with a flag that is none", REPLY, longest_reply(flags=1)
+    yield "the longest reply, its last decimal out of range", REPLY, longest_reply(last=(None, MOST_DECIMAL + 1, b"g"))
+    yield "the longest reply, its last geography empty", REPLY, longest_reply(last=(None, NULL_DECIMAL, b""))
+    yield "the most elements, the last geography empty", INVOCATION, most_elements(GEOGRAPHY, [b"g"] * (MOST_ITEMS - 1) + [b""])
 
 
-def longest_reply(more):
-    rows = [[POINTS[k % 3], NULL_DECIMAL, b"x" * 1000] for k in range(4000)]
-    rows[-1][2] += b"x" * (MOST_MESSAGE + 4 + more - len(reply([POINT, DECIMAL, STRING], rows)))
-    return reply([POINT, DECIMAL, STRING], rows)
+def longest_reply(more=0, flags=0, last=(None, NULL_DECIMAL, b"g")):
+    """A row has a point, a decimal, a geography and a text; those of the last row are given, and its text fills the message."""
+    types = [POINT, DECIMAL, GEOGRAPHY, STRING]
+    rows = [[POINTS[k % 3], NULL_DECIMAL, b"g", b"x" * 1000] for k in range(4000)]
+    rows[-1][:3] = last
+    rows[-1][3] += b"x" * (MOST_MESSAGE + 4 + more - len(reply(types, rows)))
+    return reply(types, rows, flags)
 
 
 def longest_row(more):
@@ -62,14 +76,17 @@ def longest_text(text):
     return reply([STRING, TINYINT], [[text, -128]])
 
 
-def most_elements():
-    points = [POINTS[k % 3] for k in range(MOST_ITEMS)]
-    return encode(INVOCATION, {"version": 1, "procedure": b"Track", "client_data": bytes(8), "parameters": [(ARRAY, (POINT, points))]})
+def longest_name(end):
+    return reply([TINYINT], [[1]], name=b"C" * (MOST_BODY - 1) + end)
 
 
-def reply(types, rows):
-    tables = [{"status": 0, "types": types, "names": [b"C"] * len(types), "rows": rows}]
-    return encode(REPLY, {"version": 1, "client_data": bytes(8), "flags": 0, "status": 1, "application": -128, "round_trip": 0, "tables": tables})
+def most_elements(wire_type, elements):
+    return encode(INVOCATION, {"version": 1, "procedure": b"Track", "client_data": bytes(8), "parameters": [(ARRAY, (wire_type, elements))]})
+
+
+def reply(types, rows, flags=0, name=b"C"):
+    tables = [{"status": 0, "types": types, "names": [name] * len(types), "rows": rows}]
+    return encode(REPLY, {"version": 1, "client_data": bytes(8), "flags": flags, "status": 1, "application": -128, "round_trip": 0, "tables": tables})
 
 
 def by_reader(kind, message):

@@ -1,60 +1,119 @@
 #!/usr/bin/env python3
-"""Runs tests/shown.c, which asks the exported functions, and the second reader over the same messages, made-up ones, some with texts at the edges
-of their rule, and some with the longest names: compare_shown.py N SEED
+"""Runs tests/shown.c, which asks the exported functions, and the second reader over the same messages: compare_shown.py N SEED
 
-For each message lines of numbers, as include/chaloenpik.h orders them, and a dot:
-- its record, or its refusal;
+N made-up ones, the hand-written cases, some at the edges of text and of values' own rules, and some with the longest names. For each message lines
+of numbers, as include/chaloenpik.h orders them, each behind the name of the function that gave them, and a dot:
+- whether it is accepted; how many fields it has; the length and the checksum of its field list, and the entry behind its last; the owners of its
+  first byte, of one in its middle and of the one behind its last;
+- its record;
 - of an invocation, each parameter and after it each element, one more than there are (and one of what is no array); a parameter more;
-- of a response, for each table: for each column the first of its name in that table and in the next; the answer to making its card in 35
-  bytes; the card's column and bytes; the columns that the card opens in both tables. The same for a name that isn't even text. Then where
-  each column's name stands, one more than there are; and each row's cells, one more than there are, and a row more than there are, after each cell where its bytes stand;
-- of a refused invocation one parameter, of a refused response a name, a cell and its place, a column found, a card made and a card opened.
+- of a response, how many tables it has, and for each one, and one more: how many rows and columns it has; for each column the first of its name in
+  that table and in the next; the answer to making its card in 35 bytes; the card's column and bytes; the columns that the card opens in both tables.
+  The same for a name that isn't even text, and what isn't a card. Then each column's type, and where its name stands, one more than there are; and
+  each row's cells, one more than there are, and a row more than there are, after each cell where its bytes stand.
+A refused message gives its refusal to each of these. Behind some responses stand cards, mostly broken, that are opened in the first table; a line and a
+dot for each.
 """
 
 import pathlib
+import random
+import struct
 import subprocess
 import sys
-from collections import Counter
+import zlib
 
+import cards
+import cases
 import generate_texts
+import generate_values
 from encoder import encode
 from frames import frame
 from generate import messages
 from reader import Refused, read
+from tally import Tally
 from wire import *
 
 ROOT = pathlib.Path(__file__).resolve().parents[2]
 RUN = [ROOT / "tools" / "c" / "kit", "run", ROOT / "target" / "tests" / "shown"]
 MOST_SIZE = 4096
 FIXED, BYTES, NONE, MANY = range(4)
-NO_COLUMN, STALE, PAST_END = "refused 9 0", "refused 10 0", "refused 11 0"
-CARD, MOST_NAME = 36, 32
 TORN_NAME = b"\xc3"
+CARD_FRAME = 100  # stands where a message has its kind
+
+# What is asked, by functions: of any message, and of one of a kind if it is refused.
+ASKED_ANY = ("accept", "field_count", "fields", "fields", "owner", "owner", "owner")
+ASKED_REFUSED = {
+    LOGIN: ("login_request",), LOGIN_REPLY: ("login_response",), INVOCATION: ("invocation", "parameter", "element"),
+    REPLY: ("response", "tables", "rows", "columns", "find_column", "find_column", "make_card", "make_card", "open_card", "column_type", "column_name",
+            "cell", "cell_place"),
+}
+MUST = (*OF_READING, OUTPUT_SHORT, NO_COLUMN, STALE_CARD, PAST_END, BROKEN_CARD)
 
 
 def main():
     count, seed = int(sys.argv[1]), int(sys.argv[2])
     print("compare_shown: %d messages, seed %d" % (count, seed), flush=True)
-    chosen = [(kind, m) for kind, m in messages(count, seed) if kind in KINDS and len(m) <= MOST_SIZE]
-    chosen += [(kind, m) for kind, m, _ in generate_texts.messages(step=7)]
-    chosen += longest_names()
-    data = b"".join(frame(kind, m) for kind, m in chosen)
+    given = list(frames(count, seed))
+    data = b"".join(frame(kind, body) for kind, body in given)
     found = subprocess.run(RUN, input=data, stdout=subprocess.PIPE, check=True).stdout.decode().split(".\n")
-    counts = Counter()
-    for (kind, message), one in zip(chosen, found):
-        expected = shown(kind, message)
-        if one.splitlines() != expected:
-            return report(kind, message, expected, one.splitlines())
-        counts["refused" if expected[0].startswith("refused") else "accepted"] += 1
-        counts["torn text"] += expected[0].startswith("refused %d " % BAD_TEXT)
-        counts["lines"] += len(expected)
-        counts["no such column"] += expected.count(NO_COLUMN)
-        counts["stale card"] += expected.count(STALE)
-    if len(found) != len(chosen) + 1:
-        print("compare_shown: DIFFERENCE: %d answers to %d messages" % (len(found) - 1, len(chosen)))
+    tally, message = Tally("compare_shown", must=MUST), None
+    for (kind, body), one in zip(given, found):
+        if kind != CARD_FRAME:
+            message = Shown(kind, body)
+        expected = message.lines() if kind != CARD_FRAME else [message.card_line(body)]
+        lines = one.splitlines()
+        if lines != expected:
+            return report(message, expected, lines)
+        for line in lines:
+            tally.add(line, other="answered")
+    if len(found) != len(given) + 1:
+        print("compare_shown: DIFFERENCE: %d answers to %d frames" % (len(found) - 1, len(given)))
         return 1
-    print("compare_shown: no difference. %s" % ", ".join("%s %d" % pair for pair in sorted(counts.items())))
-    return 0
+    return 0 if tally.settled("no difference") else 1
+
+
+def frames(count, seed):
+    """What is given to the program: messages, and behind every other response a card."""
+    rng = random.Random(seed)
+    for kind, message in (*fixed_messages(), *messages(count, seed)):
+        if len(message) <= MOST_SIZE:
+            yield kind, message
+            if kind == REPLY and rng.random() < 0.5:
+                yield CARD_FRAME, made_up_card(rng, message)
+    yield from longest_names()
+    yield REPLY, twins()
+    yield from ((CARD_FRAME, card) for card in cards.edges())
+
+
+def fixed_messages():
+    yield from ((kind, message) for _, kind, message, _ in cases.load())
+    yield from ((kind, message) for kind, message, _ in (*generate_texts.messages(step=7), *generate_values.messages()))
+
+
+def made_up_card(rng, message):
+    """The card of a column of the first table, or of one that there isn't; mostly with a byte or two changed, or of another size."""
+    types, names = columns_of(message)
+    at = rng.randrange(len(names)) if names else 0
+    card = bytearray(cards.card_of(at, types[at], names[at][:cards.MOST_NAME]) if names else cards.card_of(0, BIGINT, b"N"))
+    for _ in range(rng.choice((0, 1, 1, 2))):
+        card[rng.choice((0, 1, 2, 3, 4, rng.randrange(cards.SIZE)))] = rng.choice((0, 1, 2, 27, 32, 33, 63, 64, 127, 128, rng.randrange(256)))
+    return bytes(card[:rng.choice((0, 1, 35))] if rng.random() < 0.1 else card)
+
+
+def columns_of(message):
+    """The types and names of a reply's first table; none if it is refused or has no table."""
+    try:
+        tables = read(REPLY, message)[0]["tables"]
+    except Refused:
+        tables = []
+    return (tables[0]["types"], tables[0]["names"]) if tables else ([], [])
+
+
+def twins():
+    """Two tables that differ in a column's type and in a column's name, so that cards of one don't fit the other."""
+    one = generate_values.table([BIGINT, BIGINT, STRING], [b"ID", b"NAME", b"NOTE"])
+    other = generate_values.table([BIGINT, TINYINT, STRING], [b"ID", b"NAME", b"TEXT"])
+    return encode(REPLY, generate_values.reply(0, one, other))
 
 
 def longest_names():
@@ -66,123 +125,162 @@ def longest_names():
         yield REPLY, encode(REPLY, {"version": 1, "client_data": bytes(8), "flags": 0, "status": 1, "application": -128, "round_trip": 0, "tables": tables})
 
 
-def shown(kind, message):
-    try:
-        record, fields = read(kind, message)
-    except Refused as no:
-        return ["refused %d %d" % (no.number, no.place)] * {INVOCATION: 2, REPLY: 9}.get(kind, 1)
-    return Shown(message, record, fields).lines(kind)
-
-
 class Shown:
-    """A message that is accepted, with its fields by number and indices."""
+    """A message: its record, and its fields by number and indices; or its refusal."""
 
-    def __init__(self, message, record, fields):
-        self.message, self.record = message, record
-        self.fields = {field[2:]: field[:2] for field in fields}
+    def __init__(self, kind, message):
+        self.kind, self.message, self.refusal, self.fields = kind, message, None, []
+        try:
+            self.record, self.fields = read(kind, message)
+        except Refused as no:
+            self.refusal = refused(no.number, no.place)
+        self.places = {field[2:]: field[:2] for field in self.fields}
 
-    def lines(self, kind):
-        return {LOGIN: self.login, LOGIN_REPLY: self.login_reply, INVOCATION: self.invocation, REPLY: self.reply}[kind]()
+    def lines(self):
+        if self.refusal:
+            return [line(call, self.refusal) for call in ASKED_ANY + ASKED_REFUSED.get(self.kind, ())]
+        kinds = {LOGIN: self.login, LOGIN_REPLY: self.login_reply, INVOCATION: self.invocation, REPLY: self.reply}
+        return [*self.any(), *kinds[self.kind]()]
+
+    def any(self):
+        count = len(self.fields)
+        packed = struct.pack("<%dQ" % (6 * count), *(number for field in self.fields for number in field))
+        yield line("accept", 0)
+        yield line("field_count", count)
+        yield line("fields", "%d %08x" % (count, zlib.crc32(packed)))
+        yield line("fields", refused(PAST_END, 0))
+        yield line("owner", 0)
+        yield line("owner", self.owner(len(self.message) // 2))
+        yield line("owner", refused(PAST_END, 0))
+
+    def owner(self, offset):
+        return next(n for n, (at, size, *_) in enumerate(self.fields) if at <= offset < at + size)
 
     def login(self):
         it = self.record
-        return [line(it["version"], "hash_version" in it, it.get("hash_version", 0), *self.part(F_SERVICE), *self.part(F_USER),
-                     *self.fields[F_HASH, 0, 0, 0])]
+        yield line("login_request", it["version"], "hash_version" in it, it.get("hash_version", 0), *self.part(F_SERVICE), *self.part(F_USER),
+                   *self.places[F_HASH, 0, 0, 0])
 
     def login_reply(self):
         it = self.record
         leader = int.from_bytes(it.get("leader", b""), "big")
         build = (1, *self.part(F_BUILD)) if "build" in it else (0, 0, 0)
-        return [line(it["version"], it["result"], it.get("host", 0), it.get("connection", 0), it.get("start", 0), leader, *build)]
+        yield line("login_response", it["version"], it["result"], it.get("host", 0), it.get("connection", 0), it.get("start", 0), leader, *build)
 
     def invocation(self):
         it = self.record
-        lines = [line(it["version"], *self.part(F_PROCEDURE), int.from_bytes(it["client_data"], "big"), len(it["parameters"]),
-                      sum(self.fields[F_PARAMETERS, 0, 0, 0]))]
+        yield line("invocation", it["version"], *self.part(F_PROCEDURE), int.from_bytes(it["client_data"], "big"), len(it["parameters"]),
+                   sum(self.places[F_PARAMETERS, 0, 0, 0]))
         for p, (wire_type, value) in enumerate(it["parameters"]):
             if wire_type != ARRAY:
-                lines.append(self.value(wire_type, value, F_VALUE, p, 0, 0))
-                lines.append("refused %d %d" % (BAD_TYPE, self.fields[F_TYPE, p, 0, 0][0]))
-            else:
-                element_type, elements = value
-                lines.append(line(ARRAY % 256, MANY, element_type, len(elements)))
-                lines += [line(TINYINT, FIXED, 0, e) if element_type == TINYINT else self.value(element_type, e, F_VALUE, p, i, 0)
-                          for i, e in enumerate(elements)]
-                lines.append(PAST_END)
-        return lines + [PAST_END]
+                yield line("parameter", *self.value(wire_type, value, F_VALUE, p, 0, 0))
+                yield line("element", refused(BAD_TYPE, self.places[F_TYPE, p, 0, 0][0]))
+                continue
+            element_type, elements = value
+            yield line("parameter", ARRAY % 256, MANY, element_type, len(elements))
+            for i, e in enumerate(elements):
+                yield line("element", *((TINYINT, FIXED, 0, e) if element_type == TINYINT else self.value(element_type, e, F_VALUE, p, i, 0)))
+            yield line("element", refused(PAST_END, 0))
+        yield line("parameter", refused(PAST_END, 0))
+        yield line("element", refused(PAST_END, 0))
 
     def reply(self):
         it = self.record
-        lines = [line(it["version"], int.from_bytes(it["client_data"], "big"), it["flags"], it["status"], *self.optional(F_STATUS_STRING),
-                      it["application"], *self.optional(F_APPLICATION_STRING), it["round_trip"], *self.optional(F_EXCEPTION),
-                      len(it["tables"]), sum(self.fields[F_TABLES, 0, 0, 0]))]
+        yield line("response", it["version"], int.from_bytes(it["client_data"], "big"), it["flags"], it["status"], *self.optional(F_STATUS_STRING),
+                   it["application"], *self.optional(F_APPLICATION_STRING), it["round_trip"], *self.optional(F_EXCEPTION),
+                   len(it["tables"]), sum(self.places[F_TABLES, 0, 0, 0]))
+        yield line("tables", len(it["tables"]))
         for t, table in enumerate(it["tables"]):
-            for name in table["names"]:
-                lines += [self.found(t, name), self.found(t + 1, name), *self.card(t, name)]
-            lines += [self.found(t, TORN_NAME), self.found(t + 1, TORN_NAME)] + [NO_COLUMN] * 2
-            lines += [line(*self.part(F_COLUMN_NAME, t, 0, c)) for c in range(len(table["names"]))] + [PAST_END]
-            for r, row in enumerate(table["rows"]):
-                for c, wire_type in enumerate(table["types"]):
-                    lines += [self.value(wire_type, row[c], F_CELL, t, r, c), self.place(F_CELL, t, r, c)]
-                lines += [PAST_END] * 2
-            lines += [PAST_END] * 2 * (len(table["types"]) + 1)
-        return lines + [PAST_END]
+            yield from self.table(t, table)
+        past = refused(PAST_END, 0)
+        for call in ASKED_REFUSED[REPLY][2:]:  # of a table that there isn't; what isn't a card comes before that
+            yield line(call, past if call != "open_card" else refused(BROKEN_CARD, 0))
+
+    def table(self, t, table):
+        types, names, past = table["types"], table["names"], refused(PAST_END, 0)
+        yield line("rows", len(table["rows"]))
+        yield line("columns", len(types))
+        for name in (*names, TORN_NAME):
+            yield line("find_column", self.found(t, name))
+            yield line("find_column", self.found(t + 1, name))
+            yield from self.card(t, name)
+        yield line("open_card", refused(BROKEN_CARD, 0))
+        for c, wire_type in enumerate(types):
+            yield line("column_type", wire_type)
+            yield line("column_name", *self.part(F_COLUMN_NAME, t, 0, c))
+        yield line("column_type", past)
+        yield line("column_name", past)
+        for r, row in enumerate(table["rows"]):
+            for c, wire_type in enumerate(types):
+                yield line("cell", *self.value(wire_type, row[c], F_CELL, t, r, c))
+                yield line("cell_place", *self.place(F_CELL, t, r, c))
+            yield from (line("cell", past), line("cell_place", past))
+        yield from [line("cell", past), line("cell_place", past)] * (len(types) + 1)
 
     def found(self, t, name):
         if t == len(self.record["tables"]):
-            return PAST_END
+            return refused(PAST_END, 0)
         names = self.record["tables"][t]["names"]
-        return str(names.index(name)) if name in names else NO_COLUMN
+        return names.index(name) if name in names else refused(NO_COLUMN, 0)
 
     def card(self, t, name):
         table = self.record["tables"][t]
+        if name not in table["names"]:
+            return [line("make_card", refused(NO_COLUMN, 0))] * 2
         at = table["names"].index(name)
-        if len(name) > MOST_NAME:
-            return ["refused %d %d" % (LIMIT, self.fields[F_COLUMN_NAME, t, 0, at][0])] * 2
-        card = bytes([1, at, table["types"][at], len(name)]) + name.ljust(MOST_NAME, b"\0")
-        return ["refused 8 %d" % CARD, "%d %s" % (at, card.hex()), str(at), self.opened(t + 1, at, table["types"][at], name)]
+        if len(name) > cards.MOST_NAME:
+            return [line("make_card", refused(LIMIT, self.places[F_COLUMN_NAME, t, 0, at][0]))] * 2
+        card = cards.card_of(at, table["types"][at], name)
+        return [line("make_card", refused(OUTPUT_SHORT, cards.SIZE)), line("make_card", "%d %s" % (at, card.hex())), line("open_card", at),
+                line("open_card", self.opened(t + 1, card))]
 
-    def opened(self, t, at, wire_type, name):
-        if t == len(self.record["tables"]):
-            return PAST_END
-        table = self.record["tables"][t]
-        return str(at) if list(zip(table["types"], table["names"]))[at:at + 1] == [(wire_type, name)] else STALE
+    def opened(self, t, card):
+        if t >= len(self.record["tables"]):
+            return refused(PAST_END, 0)
+        position = cards.opened(self.record["tables"][t], card)
+        return refused(STALE_CARD, 0) if position is None else position
+
+    def card_line(self, card):
+        """A card that is opened in the first table: the message's own refusal, then the card's form, then whether there is a table, and its column."""
+        wrong = cards.broken_at(card)
+        return line("open_card", self.refusal or (self.opened(0, card) if wrong is None else refused(BROKEN_CARD, wrong)))
 
     def value(self, wire_type, it, field, *index):
         """A value by its bytes, or that it is null. A counted one's number is `field`, and a body's or a fixed one's the next."""
         if it is None:
-            return line(wire_type, NONE, 0, 0)
+            return wire_type, NONE, 0, 0
         if wire_type in COUNTED_TYPES:
-            return line(wire_type, BYTES, *self.part(field, *index))
-        at, size = self.fields[(field + 1, *index)]
+            return wire_type, BYTES, *self.part(field, *index)
+        at, size = self.places[(field + 1, *index)]
         bits = int.from_bytes(self.message[at:at + size], "big")
-        return line(wire_type, FIXED, bits >> 64, bits % 2**64)
+        return wire_type, FIXED, bits >> 64, bits % 2**64
 
     def place(self, field, *index):
         """Start and size of all that is listed for a value: a length, a body, or both."""
-        listed = [self.fields[(n, *index)] for n in (field, field + 1) if (n, *index) in self.fields]
-        return line(listed[0][0], sum(size for _, size in listed))
+        listed = [self.places[(n, *index)] for n in (field, field + 1) if (n, *index) in self.places]
+        return listed[0][0], sum(size for _, size in listed)
 
     def part(self, field, *index):
         """Start and size of a counted body; a size of -1 is null."""
-        at, size = self.fields[(field, *(index or (0, 0, 0)))]
+        at, size = self.places[(field, *(index or (0, 0, 0)))]
         return at + size, int.from_bytes(self.message[at:at + size], "big", signed=True)
 
     def optional(self, field):
-        if (field, 0, 0, 0) not in self.fields:
+        if (field, 0, 0, 0) not in self.places:
             return 0, 0, 0
         start, size = self.part(field)
         return (1, 0, 0) if size < 0 else (2, start, size)
 
 
-def line(*numbers):
-    return " ".join(str(int(n) % 2**64) for n in numbers)
+def line(call, *told):
+    """What a function answers: words, or numbers."""
+    return " ".join([call, *(one if isinstance(one, str) else str(int(one) % 2**64) for one in told)])
 
 
-def report(kind, message, expected, found):
+def report(message, expected, found):
     kept = ROOT / "target" / "difference.bin"
-    kept.write_bytes(message)
-    print("compare_shown: DIFFERENCE in a message of kind %d, kept in target/%s" % (kind, kept.name))
+    kept.write_bytes(message.message)
+    print("compare_shown: DIFFERENCE in a message of kind %d, kept in target/%s, or in a card behind it" % (message.kind, kept.name))
     for i, (a, b) in enumerate(zip(expected + ["(end)"], found + ["(end)"])):
         if a != b:
             print("line %d: second reader: %s; shown: %s" % (i + 1, a, b))

@@ -1,28 +1,32 @@
 #!/usr/bin/env python3
 """Runs tests/script.c, which takes the exported steps, and the second writer over the same scripts of steps: compare_writer.py N SEED
 
-Half of the scripts spell a made-up record, into a buffer that is long enough or a little too short, and try refused points and torn texts
-before its own; the others take wild steps, with wrong arguments, out of order and on forged states. Then come texts at the edges of their
-rule, in each step that takes one, and beside other faults and limits. What `script` answers must be what the second writer does, line by
-line: after each step the whole state and the buffer too.
+Half of the scripts spell a made-up record, into a buffer that is long enough or a little too short, and try what is refused by its own rule (flags,
+names, values, torn texts) before what they spell; the others take wild steps, with wrong arguments, out of order and on forged states. Then come texts
+and values at the edges of their rules, in each step that takes one, and beside other faults and limits. What `script` answers must be what the second
+writer does, line by line: after each step the whole state and the buffer too.
 """
 
 import pathlib
 import random
 import subprocess
 import sys
-from collections import Counter
 
+import limit_scripts
 import steps
 import text_scripts
+import value_scripts
 from encoder import encode
 from generate import Maker
+from tally import Tally
 from wire import *
 from writer_test import wild
 
 ROOT = pathlib.Path(__file__).resolve().parents[2]
 RUN = [ROOT / "tools" / "c" / "kit", "run", ROOT / "target" / "tests" / "script"]
 MOST_BUFFER = 8192
+
+MUST = (NO_ROOM, LIMIT, LEFT_OVER, BAD_VERSION, BAD_TYPE, OUTPUT_SHORT, PAST_END, WRONG_STAGE, BAD_TEXT, *CAUSES)
 
 # An answer of the C interface has so many bits for a place. Only a forged position needs more.
 PLACES = 2**56
@@ -33,27 +37,33 @@ def main():
     print("compare_writer: %d scripts, seed %d" % (count, seed), flush=True)
     maker = Maker(random.Random(seed))
     scripts = [spelling(maker) if i % 2 else wild(maker) for i in range(count)]
-    scripts += [script for script, _ in (*text_scripts.by_turns(step=5), *text_scripts.in_order())]
+    scripts += [script for script, _ in (*text_scripts.by_turns(step=5), *value_scripts.by_turns())]
+    scripts += [script for script, _ in (*text_scripts.in_order(), *value_scripts.in_order(), *limit_scripts.in_order())]
     data = b"".join(steps.packed(script) for script in scripts)
     found = subprocess.run(RUN, input=data, stdout=subprocess.PIPE, check=True).stdout.decode().splitlines()
-    counts, at = Counter(), 0
+    tally, at = Tally("compare_writer", must=MUST), 0
     for number, script in enumerate(scripts):
         expected = [told(line) for line in steps.lines(script)]
-        if found[at:at + len(expected)] != expected:
-            return report(number, script, expected, found[at:at + len(expected)])
-        counts.update(line.split()[1] if line.startswith("refused") else line for line in expected if line.startswith(("refused", "fine")))
+        answers = found[at:at + len(expected)]
+        if answers != expected:
+            return report(number, script, expected, answers)
+        for line in answers:
+            if " fine" in line or " refused " in line:  # not what a step left, nor what a buffer holds
+                tally.add(line, other="fine")
         at += len(expected)
     if found[at:]:
         print("compare_writer: DIFFERENCE: %d lines too many" % len(found[at:]))
         return 1
-    print("compare_writer: no difference. %s" % ", ".join("%s %d" % pair for pair in sorted(counts.items())))
-    return 0
+    return 0 if tally.settled("no difference") else 1
 
 
-def told(answer):
-    """An answer as the C interface gives it."""
-    words = answer.split(" ")
-    return "refused %s %d" % (words[1], int(words[2]) % PLACES) if words[0] == "refused" else answer
+def told(line):
+    """A line as the C interface answers it."""
+    call, is_refusal, rest = line.partition("refused ")
+    if not is_refusal:
+        return line
+    number, place = map(int, rest.split())
+    return call + refused(number, place % PLACES)
 
 
 def spelling(maker):
@@ -68,13 +78,10 @@ def spelling(maker):
 
 
 def refused_before(maker, step):
-    """Before a point, mostly the same step with one that is refused, and so changes nothing. Before a text often the same step with that torn,
-    which is refused unless it is left out."""
-    name, arguments = step
-    if name in text_scripts.VALUE_STEPS and arguments[0][0] == POINT:
-        return [(name, ((POINT, maker.beyond_point()),))] if maker.rng.random() < 0.7 else []
-    torn = text_scripts.torn(maker, step)
-    return [torn] if torn and maker.rng.random() < 0.4 else []
+    """Before what has a rule of its own, often the same step with what is refused, and so changes nothing; before a text often the same step with
+    that torn, which is refused unless it is left out."""
+    tried = value_scripts.spoiled(maker, step), text_scripts.torn(maker, step)
+    return [step for step in tried if step and maker.rng.random() < 0.5]
 
 
 def report(number, script, expected, found):

@@ -1,11 +1,13 @@
-"""Messages made up from a seed: valid ones of every kind, and damaged ones whose damage is aimed at a chosen field.
+"""Messages made up from a seed: valid ones of every kind, ones with values that break their own rules, and damaged ones whose damage is aimed at
+a chosen field.
 
     messages(count, seed)  ->  (kind, message) pairs, the same ones for the same seed
 
-Fields are chosen by their number first, so that rare fields are damaged as often as frequent ones. Points and texts have more than their
-share: much is nearly null, or nearly text. Some names are nearly equal.
+Fields are chosen by their number first, so that rare fields are damaged as often as frequent ones, and values that are to break their rules by what
+they are and where they stand. Points and texts have more than their share: much is nearly null, or nearly text. Some names are nearly equal.
 """
 
+import functools
 import math
 import random
 import struct
@@ -26,12 +28,16 @@ class Maker:
         self.rng = rng
 
     def message(self):
-        """One message: a third as it should be, the rest damaged once, or twice."""
+        """One message: a third as it should be; some with values that break their own rules, and nothing else wrong; the rest damaged once, or
+        twice."""
         while True:
             kind = self.rng.choice((1, 2, 3, 3, 3, 4, 4, 4, 4, 4))
-            message = encode(kind, self.record(kind))
+            record = self.record(kind)
             turn = self.rng.random()
-            if turn > 0.33:
+            if 0.33 < turn < 0.45:
+                self.spoil(kind, record)
+            message = encode(kind, record)
+            if turn > 0.45:
                 kind, message = self.damaged(kind, message)
             if turn > 0.90:
                 kind, message = self.damaged(kind, message)
@@ -177,6 +183,45 @@ class Maker:
         edge = rng.choice((most, -most, math.nextafter(most, 0), 0.0, -0.0, 5e-324))
         return edge if rng.random() < 0.4 else rng.uniform(-most, most)
 
+    # -- Values that break their own rules.
+
+    def spoil(self, kind, record):
+        """Puts one into the record, or two or three."""
+        rng = self.rng
+        if kind == INVOCATION:  # most have none that could
+            record["parameters"].insert(rng.randint(0, len(record["parameters"])), self.ruled_parameter())
+        places = {}
+        for cause, where, put in ruled(kind, record):
+            places.setdefault((cause, where), []).append(put)
+        for _ in range(rng.choice((1, 1, 2, 3)) if places else 0):
+            cause, where = rng.choice(sorted(places))
+            rng.choice(places[cause, where])(self.wrong(cause))
+
+    def ruled_parameter(self):
+        wire_type = self.rng.choice(sorted(CAUSE_OF_TYPE))
+        elements = [self.value(wire_type) for _ in range(self.rng.randint(1, 4))]
+        return (wire_type, elements[0]) if self.rng.random() < 0.4 else (ARRAY, (wire_type, elements))
+
+    def wrong(self, cause):
+        """What is refused so."""
+        return {BAD_DECIMAL: self.wrong_decimal, BAD_POINT: self.beyond_point, BAD_FLAGS: self.wrong_flags, BAD_NAME: self.wrong_name,
+                BAD_GEOGRAPHY: lambda: b""}[cause]()
+
+    def wrong_decimal(self):
+        rng = self.rng
+        far = rng.choice((rng.randint(MOST_DECIMAL + 1, 2**127 - 1), rng.randint(NULL_DECIMAL + 1, -MOST_DECIMAL - 1)))
+        return rng.choice((MOST_DECIMAL + 1, -MOST_DECIMAL - 1, NULL_DECIMAL + 1, 2**127 - 1, far))
+
+    def wrong_flags(self):
+        """One of the five bits that aren't flags, and any others; half of the time flags only beside it."""
+        bad = 1 << self.rng.randrange(5)
+        return bad | self.rng.choice((self.rng.randrange(256), self.rng.randrange(256) & FLAGS))
+
+    def wrong_name(self):
+        name = bytearray(self.name() + b"n")
+        name[self.rng.randrange(len(name))] = self.rng.choice((128, 255, self.rng.randint(128, 255)))
+        return bytes(name)
+
     # -- Damage.
 
     def damaged(self, kind, message):
@@ -202,8 +247,10 @@ class Maker:
             at, size, *_ = field = self.chosen(texts)
             return kind, replaced(message, field, self.torn(message[at:at + size])[:size])
         way = rng.random()
-        if way < 0.62:
+        if way < 0.52:
             return kind, self.field_changed(message, self.chosen(fields))
+        if way < 0.62:  # which of two is found first?
+            return kind, self.field_changed(self.field_changed(message, self.chosen(fields)), self.chosen(fields))
         if way < 0.90:
             return kind, self.resized(message, fields)
         return self.blindly(kind, message)
@@ -346,6 +393,24 @@ def mended(message):
 def replaced(message, field, new):
     at, size = field[:2]
     return message[:at] + new + message[at + size:]
+
+
+def ruled(kind, record):
+    """What has a rule of its own in a record: how it is refused, where it stands, and a function that puts something else there."""
+    if kind == REPLY:
+        yield BAD_FLAGS, "flags", lambda flags: record.update(flags=flags)
+        for table in record["tables"]:
+            yield from ((BAD_NAME, "name", functools.partial(table["names"].__setitem__, c)) for c in range(len(table["names"])))
+            for row in table["rows"]:
+                yield from ((CAUSE_OF_TYPE[wire_type], "cell", functools.partial(row.__setitem__, c))
+                            for c, wire_type in enumerate(table["types"]) if wire_type in CAUSE_OF_TYPE)
+    if kind == INVOCATION:
+        parameters = record["parameters"]
+        for p, (wire_type, it) in enumerate(parameters):
+            if wire_type in CAUSE_OF_TYPE:
+                yield CAUSE_OF_TYPE[wire_type], "parameter", lambda value, p=p, wire_type=wire_type: parameters.__setitem__(p, (wire_type, value))
+            elif wire_type == ARRAY and it[0] in CAUSE_OF_TYPE:
+                yield from ((CAUSE_OF_TYPE[it[0]], "element", functools.partial(it[1].__setitem__, e)) for e in range(len(it[1])))
 
 
 def values_of(wanted, kind, record, fields):

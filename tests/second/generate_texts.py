@@ -135,4 +135,4 @@ def untouched():
     for at, sequence in enumerate(TORN):
         for kind, record in BYTES:
             yield kind, encode(kind, record(sequence + filled(at % 9, b"x"), ending(at))), "accepted"
-        yield REPLY, encode(REPLY, reply(0, b"", b"\0", table(STRING, b"", b"\0", b"name" + sequence))), (BAD_VALUE, NAME_AT + 4)
+        yield REPLY, encode(REPLY, reply(0, b"", b"\0", table(STRING, b"", b"\0", b"name" + sequence))), (BAD_NAME, NAME_AT + 4)

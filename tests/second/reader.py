@@ -1,4 +1,4 @@
-"""The second reader: what paper 01 and requests 1 and 4 say of a message, in plain Python.
+"""The second reader: what paper 01 and requests 1, 4 and 5 say of a message, in plain Python.
 
     read(kind, message)  ->  (record, fields), or Refused is raised
 
@@ -161,7 +161,7 @@ class Reading:
         at = self.at
         flags = self.block(1, F_FLAGS, end)[0]
         if flags & ~FLAGS:
-            raise Refused(BAD_VALUE, at, F_FLAGS)
+            raise Refused(BAD_FLAGS, at, F_FLAGS)
         return flags
 
     # -- Counts, lengths and rooms.
@@ -236,7 +236,7 @@ class Reading:
         name = self.counted(F_COLUMN_NAME, end, index)
         for i, byte in enumerate(name):
             if byte > 127:
-                raise Refused(BAD_VALUE, self.at - len(name) + i, F_COLUMN_NAME + 1, index)
+                raise Refused(BAD_NAME, self.at - len(name) + i, F_COLUMN_NAME + 1, index)
         return name
 
     def value(self, wire_type, field, end, index):
@@ -249,7 +249,7 @@ class Reading:
         if wire_type == DECIMAL:
             decimal = self.number(16, field + 1, end, index)
             if not -MOST_DECIMAL <= decimal <= MOST_DECIMAL and decimal != NULL_DECIMAL:
-                raise Refused(BAD_VALUE, at, field + 1, index)
+                raise Refused(BAD_DECIMAL, at, field + 1, index)
             return decimal
         if wire_type == POINT:
             longitude, latitude = point = struct.unpack(">dd", self.block(16, field + 1, end, index))
@@ -258,11 +258,11 @@ class Reading:
                 return None
             # A comparison with a NaN is false, so a NaN is refused here too.
             if not (-180.0 <= longitude <= 180.0 and -90.0 <= latitude <= 90.0):
-                raise Refused(BAD_VALUE, at, field + 1, index)
+                raise Refused(BAD_POINT, at, field + 1, index)
             return point
         if wire_type == STRING:
             return self.text(field, end, index, null=True)
         body = self.counted(field, end, index, null=True)
         if wire_type == GEOGRAPHY and body == b"":
-            raise Refused(BAD_VALUE, at, field, index)
+            raise Refused(BAD_GEOGRAPHY, at, field, index)
         return body

@@ -2,9 +2,10 @@
 """Checks the second reader against itself: selftest.py [N] [SEED]
 
 What is accepted encodes to the same bytes and its fields tile it; every fault that reading can find is found in every field
-where the paper lets it be; null points, and all that is nearly one, are met wherever a point can be, and characters, and all that is
-nearly one, wherever a text can be; what text is, Python's codec says too; the limits hold to the byte.
-The same of geographies' bodies; turning their holes twice restores them, and document 000's own is read at the places that it prints.
+where the paper lets it be, and values that break their own rules wherever such a value can be; null points, and all that is nearly one, are met
+wherever a point can be, and characters, and all that is nearly one, wherever a text can be; what text is, Python's codec says too; the limits hold to
+the byte. The same of geographies' bodies; turning their holes twice restores them, and document 000's own is read at the places that it prints. What
+was refused is counted (tally.py), by the second reader's answers.
 """
 
 import itertools
@@ -15,12 +16,14 @@ from collections import Counter
 import areas
 import generate_areas
 import generate_texts
+import generate_values
 import wire_poly
 from encoder import encode
 from frames import frame, swept
 from generate import IN_RANGE, NEARLY_NULL, messages
 from listing import listing
 from reader import Refused, read
+from tally import Tally
 from utf8 import torn_at
 from wire import *
 
@@ -35,32 +38,46 @@ POSSIBLE = {
     LEFT_OVER: {1, 41, 42, 49},
     BAD_VERSION: {2, 3},
     BAD_TYPE: {0, 24, 25, 45},
-    BAD_VALUE: {27, 28, 30, 47, 50, 51},
     BAD_TEXT: {5, 7, 16, 21, 28, 33, 36, 51},
+    BAD_DECIMAL: {28, 51},
+    BAD_POINT: {28, 51},
+    BAD_FLAGS: {30},
+    BAD_NAME: {47},
+    BAD_GEOGRAPHY: {27, 50},
 }
-POSSIBLE_INSIDE = {NO_ROOM: {*range(60, 69)}, BAD_SIGN: {63, 65}, LEFT_OVER: {68}, BAD_VALUE: {62, 63, 65}}
+POSSIBLE_INSIDE = {NO_ROOM: {*range(60, 69)}, BAD_SIGN: {63, 65}, LEFT_OVER: {68}, BAD_GEOGRAPHY: {62, 63, 65}}
+
+# Where a value can stand, and so what breaks a rule of its own.
+PLACES = ("parameter", "element", "cell")
+CAUSES_BY_PLACE = [*itertools.product(CAUSE_OF_TYPE.values(), PLACES), (BAD_FLAGS, "flags"), (BAD_NAME, "name")]
 
 
 def main():
     count = int(sys.argv[1]) if len(sys.argv) > 1 else 20000
     seed = int(sys.argv[2]) if len(sys.argv) > 2 else 1
-    verdicts, at_fields, listed, points = Counter(), Counter(), Counter(), Counter()
+    tally = Tally("selftest", must=OF_READING if count >= 20000 else ())
+    at_fields, causes, listed, points = Counter(), Counter(), Counter(), Counter()
     for kind, message in messages(count, seed):
         try:
             record, fields = read(kind, message)
         except Refused as refusal:
-            verdicts[refusal.number] += 1
+            tally.add(refused(refusal.number, refusal.place))
             at_fields[refusal.number, refusal.field] += 1
-            if refusal.number == BAD_VALUE:
-                points.update((BAD_VALUE, *it) for it in points_in(refusal.fields[-2:], message))
+            if refusal.number in CAUSES:
+                causes[refusal.number, place_of_fault(refusal)] += 1
+            if refusal.number == BAD_POINT:
+                points.update((BAD_POINT, *it) for it in points_in(refusal.fields[-2:], message))
             continue
-        verdicts[0] += 1
+        tally.add("accepted")
         assert encode(kind, record) == message, (kind, message.hex())
         check_tiling(fields, message)
         listed.update(field[2] for field in fields)
         points.update((0, *it) for it in points_in(fields, message))
-    report(count, seed, verdicts, at_fields, listed)
+    assert tally.settled("seed %d, %d fields of what was accepted" % (seed, sum(listed.values())))
+    report(count, at_fields, listed)
+    report_causes(count, causes)
     report_points(count, points)
+    check_values()
     check_text()
     check_texts()
     check_order_of_text()
@@ -89,11 +106,19 @@ def points_in(fields, message):
             yield where, tuple(IN_RANGE if abs(degrees) <= most else degrees for degrees, most in zip(point, (180.0, 90.0)))
 
 
-def report(count, seed, verdicts, at_fields, listed):
-    print("seed %d: %d messages, %d accepted with %d fields" % (seed, count, verdicts[0], sum(listed.values())))
+def place_of_fault(refusal):
+    """Where what broke its own rule stands: a value directly behind its type is a parameter, and behind anything else an element."""
+    if refusal.field in (F_FLAGS, F_COLUMN_NAME + 1):
+        return "flags" if refusal.field == F_FLAGS else "name"
+    if refusal.field in (F_CELL, F_CELL + 1):
+        return "cell"
+    return "parameter" if refusal.fields[-2][2] == F_TYPE else "element"
+
+
+def report(count, at_fields, listed):
     for number in sorted(POSSIBLE):
         hit = {field for n, field in at_fields if n == number}
-        print("  %d: %5d times, at %d of %d fields" % (number, verdicts[number], len(hit), len(POSSIBLE[number])))
+        print("  %d at %d of %d fields" % (number, len(hit), len(POSSIBLE[number])))
         assert hit <= POSSIBLE[number], (number, hit - POSSIBLE[number])
         if count >= 20000:
             assert hit == POSSIBLE[number], (number, POSSIBLE[number] - hit)
@@ -101,9 +126,15 @@ def report(count, seed, verdicts, at_fields, listed):
         assert set(listed) == {1, *FIXED, *COUNTS, *LENGTHS, 5, 7, 16, 21, 33, 36, 39, 47}, sorted(listed)
 
 
+def report_causes(count, causes):
+    print("  values that break their own rules: %s" % ", ".join("%d %s %d" % (*pair, causes[pair]) for pair in CAUSES_BY_PLACE))
+    assert set(causes) <= set(CAUSES_BY_PLACE), causes
+    assert count < 20000 or min(causes[pair] for pair in CAUSES_BY_PLACE) >= 30, causes
+
+
 def report_points(count, points):
-    verdicts = ((0, NULL_POINT), *((BAD_VALUE, nearly) for nearly in NEARLY_NULL))
-    met = [points[number, where, point] for where in ("cell", "parameter", "element") for number, point in verdicts]
+    verdicts = ((0, NULL_POINT), *((BAD_POINT, nearly) for nearly in NEARLY_NULL))
+    met = [points[number, where, point] for where in PLACES for number, point in verdicts]
     print("  null points accepted, and %d that are nearly null refused, as cells, parameters and elements: each at least %d times" % (
         len(NEARLY_NULL), min(met)))
     assert count < 20000 or min(met) > 0, met
@@ -115,6 +146,15 @@ def verdict(kind, message):
         return "accepted"
     except Refused as refusal:
         return refusal.number, refusal.place
+
+
+def check_values():
+    verdicts = Counter()
+    for kind, message, expected in generate_values.messages():
+        assert verdict(kind, message) == expected, (kind, message.hex(), expected)
+        verdicts[expected if expected == "accepted" else expected[0]] += 1
+    print("  values at the edges of their own rules: %d accepted; refused %s" % (
+        verdicts.pop("accepted"), ", ".join("%d: %d" % pair for pair in sorted(verdicts.items()))))
 
 
 def check_text():
@@ -158,7 +198,7 @@ def check_texts():
     for kind, message, expected in generate_texts.messages(step=11):
         assert verdict(kind, message) == expected, (kind, message.hex(), expected)
         verdicts[expected if expected == "accepted" else expected[0]] += 1
-    print("  texts in messages: %d accepted, %d refused for text, %d for a name" % (verdicts["accepted"], verdicts[BAD_TEXT], verdicts[BAD_VALUE]))
+    print("  texts in messages: %d accepted, %d refused for text, %d for a name" % (verdicts["accepted"], verdicts[BAD_TEXT], verdicts[BAD_NAME]))
 
 
 def check_order_of_text():
@@ -208,10 +248,10 @@ def check_frames():
     paper = bytes.fromhex("000000020003")
     lines = "0 4 1 0 0 0\n4 1 2 0 0 0\n5 1 10 0 0 0\n"
     assert listing(b"\2" + paper) == lines
-    assert listing(b"") == listing(b"\0") == listing(b"\5" + bytes(65537)) == "refused 6 0\n"
-    assert listing(b"\2") == "refused 1 0\n"
-    assert listing(b"\2" + bytes(65536)) == "refused 2 0\n"
-    assert listing(b"\2" + bytes(65537)) == "refused 3 0\n"
+    assert listing(b"") == listing(b"\0") == listing(b"\5" + bytes(65537)) == refused(BAD_TYPE, 0) + "\n"
+    assert listing(b"\2") == refused(NO_ROOM, 0) + "\n"
+    assert listing(b"\2" + bytes(65536)) == refused(BAD_SIGN, 0) + "\n"
+    assert listing(b"\2" + bytes(65537)) == refused(LIMIT, 0) + "\n"
     assert swept(b"") == ""
     assert swept(frame(2, paper) + bytes(4)) == lines + ".\nrefused 6 0\n.\n"
     for cut in range(1, 11):
@@ -220,20 +260,21 @@ def check_frames():
 
 
 def check_areas(count, seed):
-    accepted, at_fields, listed = 0, Counter(), Counter()
+    tally, at_fields, listed = Tally("selftest", must=tuple(POSSIBLE_INSIDE)), Counter(), Counter()
     for body in itertools.chain(generate_areas.edges(), generate_areas.bodies(count, seed)):
         try:
             area, fields = areas.read(body)
         except Refused as refusal:
+            tally.add(refused(refusal.number, refusal.place))
             at_fields[refusal.number, refusal.field] += 1
             continue
-        accepted += 1
+        tally.add("accepted")
         assert areas.encode(area) == body, body.hex()
         check_tiling(fields, body)
         check_turning(area, fields, body)
         listed.update(field[2] for field in fields)
-    print("  bodies of geographies: %d accepted with %d fields, %d refused; each of %d faults at least %d times" % (
-        accepted, sum(listed.values()), sum(at_fields.values()), len(at_fields), min(at_fields.values())))
+    assert tally.settled("bodies of geographies, %d fields of what was accepted; each of %d faults at least %d times" % (
+        sum(listed.values()), len(at_fields), min(at_fields.values())))
     assert set(at_fields) == {(number, field) for number, fields in POSSIBLE_INSIDE.items() for field in fields}, at_fields
     assert set(listed) == {*range(60, 69)}
 
@@ -255,13 +296,13 @@ def check_order_inside():
     """The third byte by itself, then the count by itself, then the byte against the count, then the rings."""
     body = areas.encode(generate_areas.plain(3))
     for holes, count, answer in (
-            (2, -1, (BAD_VALUE, 2)), (255, 1, (BAD_VALUE, 2)), (1, -1, (BAD_SIGN, 3)), (0, 0, (BAD_VALUE, 3)), (1, 0, (BAD_VALUE, 3)),
-            (1, 1, (BAD_VALUE, 2)), (0, 2, (BAD_VALUE, 2)), (0, MOST_COUNT, (BAD_VALUE, 2)), (0, 1, "accepted"),
+            (2, -1, (BAD_GEOGRAPHY, 2)), (255, 1, (BAD_GEOGRAPHY, 2)), (1, -1, (BAD_SIGN, 3)), (0, 0, (BAD_GEOGRAPHY, 3)), (1, 0, (BAD_GEOGRAPHY, 3)),
+            (1, 1, (BAD_GEOGRAPHY, 2)), (0, 2, (BAD_GEOGRAPHY, 2)), (0, MOST_COUNT, (BAD_GEOGRAPHY, 2)), (0, 1, "accepted"),
             (1, 2, (NO_ROOM, 151)), (1, MOST_COUNT, (NO_ROOM, 151))):
         changed = generate_areas.replaced(body, 2, bytes([holes]) + generate_areas.count_bytes(count))
         assert verdict_inside(changed) == answer, (holes, count, verdict_inside(changed))
     assert verdict_inside(b"") == (NO_ROOM, 0)
-    assert verdict_inside(bytes.fromhex("000102")) == (BAD_VALUE, 2)  # before it is seen that no count follows
+    assert verdict_inside(bytes.fromhex("000102")) == (BAD_GEOGRAPHY, 2)  # before it is seen that no count follows
     assert verdict_inside(bytes.fromhex("000101")) == (NO_ROOM, 3)
 
 

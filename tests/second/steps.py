@@ -18,7 +18,8 @@ commas between its entries, `-` if empty.
     show                                                the position, and the buffer's bytes
 
 What is answered, a line a step: `fine`, or `refused NUMBER PLACE`; for `buffer` and `forge` nothing; for `show` the position, a space
-and the buffer in hexadecimal. A program prints after each step's answer a line with what it left (`left`).
+and the buffer in hexadecimal. A program prints the name of the exported function before a step's answer, and after it a line with what it left
+(`left`).
 
 For a program, `packed` makes each step a frame (frames.py): a byte that names the step (its place in NAMES), then its arguments: a
 number as 8 bytes; bytes as a length of 4 bytes (-1 null) and the bytes; a value as its wire type and a byte, 0 before 16 bytes of a number
@@ -40,6 +41,11 @@ STEPS = {step.__name__: step for step in (
     writer.finish_invocation, writer.open_table, writer.open_row, writer.add_cell, writer.close_row, writer.close_table,
     writer.finish_reply)}
 NO_STEPS = ("buffer", "forge", "show")
+
+# The exported functions of the steps, where they have another name; of a value there are two, for bits and for a body.
+FUNCTIONS = {"login": "write_login_request", "login_reply": "write_login_response", "begin_invocation": "begin_call", "add_null": "null_param",
+             "add_byte_array": "bytes_param", "finish_invocation": "finish_call"}
+VALUE_FUNCTIONS = {"add_value": "param", "add_element": "element", "add_cell": "cell"}
 NAMES = (*NO_STEPS, *WHOLE, *BEGINNINGS, *STEPS)
 NO_STATE = State(writer.CLOSED, 0)
 
@@ -69,7 +75,7 @@ def walked(script):
                     state, buffer = STEPS[name](state, buffer, *arguments)
                 answer = "fine"
             except No as no:
-                answer = "refused %d %d" % no.answer
+                answer = refused(*no.answer)
         yield answer, state, buffer
 
 
@@ -82,13 +88,31 @@ def run(script):
     return answers, state, buffer
 
 
+def scripted(triples):
+    """(script, answer) pairs of (room, steps, answer): the answer of the last step is to be `fine`, or the number and the place of a refusal."""
+    for room, taken, answer in triples:
+        yield [("buffer", (room,)), *taken], answer if answer == "fine" else refused(*answer)
+
+
 def lines(script):
-    """What a program must print for a script: each answer and, after that of a step, what it left."""
-    for (name, _), (answer, state, buffer) in zip(script, walked(script)):
-        if answer is not None:
-            yield answer
+    """What a program must print for a script: each answer, that of a step behind its function's name, and then what it left."""
+    for (name, arguments), (answer, state, buffer) in zip(script, walked(script)):
         if name not in NO_STEPS:
+            yield "%s %s" % (function(name, arguments), answer)
             yield left(state, buffer)
+        elif answer is not None:
+            yield answer
+
+
+def function(name, arguments):
+    """The name of the exported function that takes a step."""
+    if name in VALUE_FUNCTIONS:
+        return ("body_" if is_body(arguments[0][1]) else "fixed_") + VALUE_FUNCTIONS[name]
+    return FUNCTIONS.get(name, name)
+
+
+def is_body(it):
+    return it is None or isinstance(it, bytes)
 
 
 def left(state, buffer):
@@ -220,7 +244,7 @@ def packed_argument(argument):
 
 
 def packed_value(wire_type, it):
-    if it is None or isinstance(it, bytes):
+    if is_body(it):
         return b"\1" + encoder.counted(it)
     block = it.to_bytes(16, "big") if isinstance(it, Bits) else encoder.value(wire_type, it)
     return b"\0" + block.rjust(16, b"\0")

@@ -1,6 +1,6 @@
 """The constants of paper 01, and of a geography's body: wire types, field numbers, limits, refusal numbers.
 
-Both directions (reader.py and encoder.py) and the generator take them from here; nothing else is shared.
+Both directions (reader.py and encoder.py) and the generator take them from here; nothing else is shared but how a refusal is printed.
 """
 
 # Message kinds.
@@ -46,7 +46,19 @@ NULL_DECIMAL = -(2**127)
 NULL_POINT = (360.0, 360.0)  # longitude and latitude; only 360.0 is equal to 360.0, so this is one value of 16 bytes
 
 # Refusal numbers of reading.
-NO_ROOM, BAD_SIGN, LIMIT, LEFT_OVER, BAD_VERSION, BAD_TYPE, BAD_VALUE, BAD_TEXT = 1, 2, 3, 4, 5, 6, 7, 20
+NO_ROOM, BAD_SIGN, LIMIT, LEFT_OVER, BAD_VERSION, BAD_TYPE = 1, 2, 3, 4, 5, 6
+BAD_TEXT, BAD_DECIMAL, BAD_POINT, BAD_FLAGS, BAD_NAME, BAD_GEOGRAPHY = 20, 21, 22, 23, 24, 25
+
+# The other ones, of asking and of writing.
+OUTPUT_SHORT, NO_COLUMN, STALE_CARD, PAST_END, BROKEN_CARD, WRONG_STAGE = 8, 9, 10, 11, 12, 13
+
+# 7, a value that breaks its own rule, is none any more: request 5 split it by these causes.
+CAUSES = (BAD_DECIMAL, BAD_POINT, BAD_FLAGS, BAD_NAME, BAD_GEOGRAPHY)
+OF_READING = (NO_ROOM, BAD_SIGN, LIMIT, LEFT_OVER, BAD_VERSION, BAD_TYPE, BAD_TEXT, *CAUSES)
+REFUSALS = (*OF_READING, OUTPUT_SHORT, NO_COLUMN, STALE_CARD, PAST_END, BROKEN_CARD, WRONG_STAGE)
+
+# The refusal of a value that breaks the rule of its type; a type that isn't here has no such rule, or is text.
+CAUSE_OF_TYPE = {DECIMAL: BAD_DECIMAL, POINT: BAD_POINT, GEOGRAPHY: BAD_GEOGRAPHY}
 
 # Field numbers of the list.
 F_LENGTH, F_VERSION, F_HASH_VERSION = 1, 2, 3
@@ -62,3 +74,8 @@ F_COLUMN_TYPE, F_COLUMN_NAME, F_ROWS, F_ROW, F_CELL = 45, 46, 48, 49, 50
 # Field numbers of the list inside a geography's body. Their indices are ring, vertex and axis.
 F_EDITION, F_INTERNAL, F_HOLES, F_RING_COUNT = 60, 61, 62, 63
 F_MARK, F_VERTEX_COUNT, F_COORDINATE, F_RING_KEPT, F_AREA_KEPT = 64, 65, 66, 67, 68
+
+
+def refused(number, place):
+    """A refusal as every program prints it."""
+    return "refused %d %d" % (number, place)

@@ -1,4 +1,4 @@
-"""The second writer: paper 01's "Writing", with requests 1 and 4, step by step, in plain Python.
+"""The second writer: paper 01's "Writing", with requests 1, 4 and 5, step by step, in plain Python.
 
 A step takes the state and the buffer and gives (answer, state, buffer): the answer is None, or (number, place), and then state and
 buffer are the same as before. A value is (wire type, value), with values as in reader.py, or the `Bits` of one of a fixed size, as the
@@ -12,8 +12,6 @@ from dataclasses import dataclass, replace
 import encoder
 from utf8 import torn_at
 from wire import *
-
-OUTPUT_SHORT, PAST_END, WRONG_STAGE = 8, 11, 13
 
 # What is open: nothing; a call, an array in it; a reply, a table in it, a row in that. The numbers are those that scripts use.
 CLOSED, CALL, ARRAY_OPEN, REPLY_OPEN, TABLE_OPEN, ROW_OPEN = range(6)
@@ -80,7 +78,7 @@ def begin_invocation(buffer, version, procedure, client_data):
 def begin_reply(buffer, version, client_data, flags, status, status_string, application, application_string, round_trip, exception):
     check_version(version, 0)
     if flags & ~FLAGS:
-        raise No(BAD_VALUE, 0)
+        raise No(BAD_FLAGS, 0)
     out = bytes(4) + encoder.number(version, 1) + client_data + bytes([flags]) + encoder.number(status, 1)
     if flags & FLAG_STATUS_STRING:
         check_text(status_string, 0)
@@ -171,7 +169,7 @@ def open_table(state, buffer, status, columns, names):
         name = names[start:start + size]
         check_body(name, state.position)
         if any(byte > 127 for byte in name):
-            raise No(BAD_VALUE, state.position)
+            raise No(BAD_NAME, state.position)
         metadata += encoder.counted(name)
     check_limit(state.count + 1, MOST_ITEMS, state)
     before = state.position
@@ -292,8 +290,7 @@ def value_of(wire_type, bits, place):
 
 
 def check_value(value, place):
-    """A value's own rule: a body's limit; a string is text; 7 for a decimal, a point that is neither a position nor null, or an empty
-    geography."""
+    """A value's own rule: a body's limit; a string is text; a decimal's range; a point is a position or null; a geography isn't empty."""
     wire_type, it = value
     if wire_type == STRING:
         check_text(it, place)
@@ -303,7 +300,7 @@ def check_value(value, place):
            or wire_type == POINT and not (-180.0 <= it[0] <= 180.0 and -90.0 <= it[1] <= 90.0 or it == NULL_POINT)
            or wire_type == GEOGRAPHY and it == b"")
     if bad:
-        raise No(BAD_VALUE, place)
+        raise No(CAUSE_OF_TYPE[wire_type], place)
 
 
 def check_limit(count, most, state):

@@ -3,9 +3,9 @@
 
 The steps that a record spells write its encoding and nothing past it; in a buffer that is too short by k bytes some step answers 8
 at the place that it would reach, and changes nothing; a run of wild steps that reaches its end has written an accepted message. A null
-point is written from its numbers and from its bits, and what is nearly one is refused. Text that is torn is refused where the writer stands,
-behind the faults before it and before those after it, and not looked at where it is left out or may be any bytes. The same of the steps
-that write a geography's body.
+point is written from its numbers and from its bits, and what is nearly one is refused. Text that is torn, and what breaks another rule of its own, is
+refused where the writer stands, behind the faults before it and before those after it, and not looked at where it is left out or may be any bytes; the
+limits hold to the byte. The same of the steps that write a geography's body. What was refused is counted (tally.py), by the second writer's answers.
 """
 
 import random
@@ -15,42 +15,52 @@ from collections import Counter
 import area_calls
 import area_scripts
 import areas
+import limit_scripts
 import steps
 import text_scripts
+import value_scripts
 import writer
 from encoder import encode
 from generate import IN_RANGE, NEARLY_NULL, Maker
 from generate_areas import AreaMaker
 from reader import read
+from tally import Tally
 from wire import *
 
-# The types of what is written. Points and strings have more than their share: much is nearly null, or nearly text.
-TYPES = COLUMN_TYPES + (POINT,) * 3 + (STRING,) * 3
+# The types of what is written. Those whose values have a rule of their own have more than their share.
+TYPES = COLUMN_TYPES + (POINT, STRING, DECIMAL, GEOGRAPHY) * 3
+
+OF_WRITING = (NO_ROOM, LIMIT, LEFT_OVER, BAD_VERSION, BAD_TYPE, OUTPUT_SHORT, PAST_END, WRONG_STAGE, BAD_TEXT, *CAUSES)
+
+# The steps that refuse what breaks its own rule, by number.
+SPOILED = {
+    BAD_TEXT: (*text_scripts.TEXT_ARGUMENTS, *steps.VALUE_FUNCTIONS), BAD_FLAGS: ("begin_reply",), BAD_NAME: ("open_table",),
+    **{number: tuple(steps.VALUE_FUNCTIONS) for number in CAUSE_OF_TYPE.values()},
+}
 
 
 def main():
     count = int(sys.argv[1]) if len(sys.argv) > 1 else 2000
     seed = int(sys.argv[2]) if len(sys.argv) > 2 else 1
     maker = Maker(random.Random(seed))
-    answers, torn = Counter(), Counter()
+    tally, spoiled = Tally("writer_test", must=OF_WRITING if count >= 2000 else ()), Counter()
     for _ in range(count):
         spelled_once(maker)
-        wild_once(maker, answers, torn)
+        wild_once(maker, tally, spoiled)
     check_points()
-    check_texts()
-    print("writer_test: seed %d, %d records; wild answers: %s" % (seed, count, listed(answers)))
-    print("writer_test: torn texts among these: %s" % listed(torn))
-    assert count < 2000 or set(torn) == {*text_scripts.TEXT_ARGUMENTS, *text_scripts.VALUE_STEPS}, torn
-    maker, answers = AreaMaker(random.Random(seed)), Counter()
+    check_first_refusals()
+    check_order()
+    for number in sorted(SPOILED):
+        print("writer_test: %d was given by %s" % (number, ", ".join("%s %d" % (name, spoiled[name, number]) for name in SPOILED[number])))
+    assert count < 2000 or set(spoiled) == {(name, number) for number, names in SPOILED.items() for name in names}, spoiled
+    assert tally.settled("seed %d, %d records" % (seed, count))
+    maker, tally = AreaMaker(random.Random(seed)), Tally("writer_test", must=(LIMIT, OUTPUT_SHORT, WRONG_STAGE, BAD_GEOGRAPHY) if count >= 2000 else ())
     for _ in range(count):
         area_once(maker)
-        wild_area_once(maker, answers)
+        wild_area_once(maker, tally)
     check_area_limits(maker)
-    print("writer_test passed: %d areas; wild answers: %s" % (count, listed(answers)))
-
-
-def listed(answers):
-    return ", ".join("%s %d" % pair for pair in sorted(answers.items()))
+    assert tally.settled("%d areas" % count)
+    print("writer_test passed")
 
 
 def spelled_once(maker):
@@ -66,20 +76,28 @@ def spelled_once(maker):
     assert buffer == message + steps.fresh(len(message) + spare)[len(message):]
     short = maker.rng.randrange(len(message))
     answers, _, buffer = steps.run([("buffer", (short,)), *script])
-    refused = [a for a in answers if a.startswith("refused 8")]
-    assert refused and int(refused[0].split()[2]) > short, (answers, short)
+    places = [place for number, place in map(refusal, answers) if number == OUTPUT_SHORT]
+    assert places and places[0] > short, (answers, short)
 
 
-def wild_once(maker, counts, torn):
+def wild_once(maker, tally, spoiled):
     script = wild(maker)
     answers, state, buffer = steps.run(script)
-    counts.update(a.split()[1] if a.startswith("refused") else a for a in answers[:-1])
     answering = [name for name, _ in script if name not in ("buffer", "forge")]
-    torn.update(name for name, answer in zip(answering, answers) if answer.startswith("refused 20 "))
+    for name, answer in zip(answering, answers[:-1]):
+        tally.add(answer, other="fine")
+        number, _ = refusal(answer)
+        spoiled.update([(name, number)] if number in SPOILED else [])
     forged = any(name == "forge" for name, _ in script)
     if not forged and state.stage == writer.CLOSED and state.position:
         kind = INVOCATION if any(n == "begin_invocation" for n, _ in script[1:2]) else REPLY
         read(kind, buffer[:state.position])
+
+
+def refusal(answer):
+    """The number and the place that an answer tells; 0 and 0 if it is no refusal."""
+    words = answer.split()
+    return (int(words[1]), int(words[2])) if words[0] == "refused" else (0, 0)
 
 
 def check_points():
@@ -92,22 +110,25 @@ def check_points():
     null = encode(INVOCATION, {"version": 0, "procedure": b"", "client_data": bytes(8), "parameters": [(POINT, None)]})
     assert null.endswith(bytes([POINT]) + bits)
     assert added(NULL_POINT) == added(writer.Bits.from_bytes(bits, "big")) == ("fine", null)
-    assert added(None)[0] == "refused 6 19"
+    assert added(None)[0] == refused(BAD_TYPE, 19)
     for nearly in NEARLY_NULL:
         point = tuple(0.0 if number is IN_RANGE else number for number in nearly)
-        assert added(point)[0] == "refused 7 19", point
+        assert added(point)[0] == refused(BAD_POINT, 19), point
 
 
-def check_texts():
-    """The first step that is given torn text is refused where the writer stands, and changes nothing."""
-    for script, verdict in text_scripts.by_turns(step=11):
+def check_first_refusals():
+    """The first step that is given torn text, or what breaks another rule of its own, is refused where the writer stands, and changes nothing."""
+    for script, verdict in (*text_scripts.by_turns(step=11), *value_scripts.by_turns()):
         walk = list(steps.walked(script[:-1]))
-        refused = next((n for n, (answer, *_) in enumerate(walk) if answer not in (None, "fine")), None)
-        assert (refused is None) == (verdict == "accepted"), steps.text(script)
-        if refused is not None:
-            _, state, buffer = walk[refused - 1]
-            assert walk[refused] == ("refused 20 %d" % state.position, state, buffer), steps.text(script)
-    for script, answer in text_scripts.in_order():
+        first = next((n for n, (answer, *_) in enumerate(walk) if answer not in (None, "fine")), None)
+        assert (first is None) == (verdict == "accepted"), steps.text(script)
+        if first is not None:
+            _, state, buffer = walk[first - 1]
+            assert walk[first] == (refused(verdict[0], state.position), state, buffer), steps.text(script)
+
+
+def check_order():
+    for script, answer in (*text_scripts.in_order(), *value_scripts.in_order(), *limit_scripts.in_order()):
         *fine, last = steps.run(script)[0]
         assert set(fine) <= {"fine"} and last == answer, (steps.text(script)[:400], fine, last, answer)
 
@@ -125,12 +146,11 @@ def area_once(maker):
     second.take()
     assert second.area == area
     short = maker.rng.randrange(len(body))
-    answers = [line.split() for line in second.lines([("buffer", (short,)), *script])]
-    refused = next(words for words in answers if words[0] == "refused")
-    assert refused[1] == "8" and int(refused[2]) > short, (answers, short)
+    number, place = next(filter(any, map(refusal, second.lines([("buffer", (short,)), *script]))))
+    assert number == OUTPUT_SHORT and place > short, (number, place, short)
 
 
-def wild_area_once(maker, counts):
+def wild_area_once(maker, tally):
     """A refusal changes nothing; and a run that is finished on no forged state has written an area."""
     script = area_scripts.wild(maker)
     second = area_calls.Second()
@@ -138,7 +158,7 @@ def wild_area_once(maker, counts):
         before = second.state, bytes(second.out)
         line = second.line(name, arguments)
         if name in area_calls.STEPS:
-            counts[line.split()[1] if line.startswith("refused") else "fine"] += 1
+            tally.add(line, other="fine")
             assert line.startswith("fine") or (second.state, bytes(second.out)) == before
         if name == "finish" and line.startswith("fine") and not any(other == "forge" for other, _ in script):
             areas.read(bytes(second.out[:second.state.position]))
@@ -151,13 +171,13 @@ def check_area_limits(maker):
         lines = second.lines([("buffer", (200,)), ("forge", state), *(area_scripts.step_of(maker, name) for name in names)])
         return [" ".join(line.split()[:3]) if line.startswith("refused") else "fine" for line in lines], bytes(second.out)
 
-    assert answers((1, 7, MOST_COUNT - 1, 0, 0), "open_ring", "close_ring")[0] == ["fine", "refused 7 12"]
-    assert answers((1, 7, MOST_COUNT, 0, 0), "open_ring")[0] == ["refused 3 7"]
-    assert answers((1, 7, MOST_COUNT + 1, 0, 0), "open_ring")[0] == ["refused 13 7"]
+    assert answers((1, 7, MOST_COUNT - 1, 0, 0), "open_ring", "close_ring")[0] == ["fine", refused(BAD_GEOGRAPHY, 12)]
+    assert answers((1, 7, MOST_COUNT, 0, 0), "open_ring")[0] == [refused(LIMIT, 7)]
+    assert answers((1, 7, MOST_COUNT + 1, 0, 0), "open_ring")[0] == [refused(WRONG_STAGE, 7)]
     told, out = answers((2, 100, MOST_COUNT, 20, MOST_COUNT - 1), "add_vertex", "add_vertex", "close_ring", "finish")
-    assert told == ["fine", "refused 3 124", "fine", "fine"]
+    assert told == ["fine", refused(LIMIT, 124), "fine", "fine"]
     assert out[21:25] == out[3:7] == MOST_COUNT.to_bytes(4, "big") and out[2] == 1
-    assert answers((0, 0, 0, 0, 0), "begin", "finish", "add_vertex")[0] == ["fine", "refused 7 7", "refused 13 7"]
+    assert answers((0, 0, 0, 0, 0), "begin", "finish", "add_vertex")[0] == ["fine", refused(BAD_GEOGRAPHY, 7), refused(WRONG_STAGE, 7)]
 
 
 def wild(maker, forging=0.5):
@@ -226,9 +246,10 @@ def some_value(maker, types=()):
     wire_type = types[0] if types and types[0] in COLUMN_TYPES and rng.random() < 0.9 else rng.choice(TYPES)
     if rng.random() < 0.05:
         return odd_value(rng, wire_type)
-    if rng.random() < (0.3 if wire_type in (POINT, STRING) else 0.1) and wire_type in (DECIMAL, POINT, GEOGRAPHY, STRING):
-        return wire_type, {DECIMAL: rng.choice((10**38, -10**38, 2**127 - 1)), POINT: maker.beyond_point(), GEOGRAPHY: b"",
-                           STRING: maker.torn(maker.text())}[wire_type]
+    if wire_type in CAUSE_OF_TYPE and rng.random() < 0.3:
+        return wire_type, maker.wrong(CAUSE_OF_TYPE[wire_type])
+    if wire_type == STRING and rng.random() < 0.3:
+        return wire_type, maker.torn(maker.text())
     value = maker.value(wire_type)
     return steps.given(wire_type, value[:40] if isinstance(value, bytes) else value)
 
