@@ -8,7 +8,7 @@ WALK count(reader *r, size_t end, uint32_t least, lister *l, unsigned field, siz
     if (!block(r, end, 4, l, field, ring, 0, 0)) return false;
     uint32_t n = load32(r->m + at);
     if (n > INT32_MAX) return refuse(r, BAD_SIGN, at);
-    if (n < least) return refuse(r, BAD_VALUE, at);
+    if (n < least) return refuse(r, BAD_GEOGRAPHY, at);
     *is = n;
     return true;
 }
@@ -33,9 +33,9 @@ WALK area(reader *r, size_t end, lister *l, size_t *rings) {
     for (unsigned field = 60; field < 63; field++)
         if (!block(r, end, 1, l, field, 0, 0, 0)) return false;
     uint8_t holes = r->m[HOLES_AT];
-    if (holes > 1) return refuse(r, BAD_VALUE, HOLES_AT);
+    if (holes > 1) return refuse(r, BAD_GEOGRAPHY, HOLES_AT);
     if (!count(r, end, 1, l, 63, 0, rings)) return false;
-    if (holes != (*rings > 1)) return refuse(r, BAD_VALUE, HOLES_AT);
+    if (holes != (*rings > 1)) return refuse(r, BAD_GEOGRAPHY, HOLES_AT);
     for (size_t i = 0; i < *rings; i++)
         if (!ring(r, end, l, i)) return false;
     if (!block(r, end, AREA_KEPT, l, 68, 0, 0, 0)) return false;
@@ -142,7 +142,7 @@ plain_refusal plain_put_vertex(plain_area_writer *w, uint64_t x, uint64_t y, uin
 
 plain_refusal plain_close_ring(plain_area_writer *w, const uint8_t *kept) {
     if (w->stage != PLAIN_RING) return refused(STAGE, w->at);
-    if (w->vertices < LEAST_VERTICES) return refused(BAD_VALUE, w->at);
+    if (w->vertices < LEAST_VERTICES) return refused(BAD_GEOGRAPHY, w->at);
     plain_refusal no = room_for(w, RING_KEPT);
     if (no.number != 0) return no;
     put_bytes(w, kept, RING_KEPT);
@@ -153,7 +153,7 @@ plain_refusal plain_close_ring(plain_area_writer *w, const uint8_t *kept) {
 
 plain_refusal plain_finish_area(plain_area_writer *w, const uint8_t *kept) {
     if (w->stage != PLAIN_AREA) return refused(STAGE, w->at);
-    if (w->rings == 0) return refused(BAD_VALUE, w->at);
+    if (w->rings == 0) return refused(BAD_GEOGRAPHY, w->at);
     plain_refusal no = room_for(w, AREA_KEPT);
     if (no.number != 0) return no;
     put_bytes(w, kept, AREA_KEPT);

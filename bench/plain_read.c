@@ -46,7 +46,7 @@ WALK name(reader *r, size_t end, lister *l, size_t i, size_t k) {
     size_t at = r->at;
     if (!counted(r, end, false, l, 46, i, 0, k)) return false;
     for (size_t p = at + 4; p < r->at; p++)
-        if (r->m[p] > 127) return refuse(r, BAD_VALUE, p);
+        if (r->m[p] > 127) return refuse(r, BAD_NAME, p);
     return true;
 }
 
@@ -59,14 +59,14 @@ WALK cell(reader *r, size_t end, uint8_t type, lister *l, size_t i, size_t j, si
     case PLAIN_BIGINT: case PLAIN_FLOAT: case PLAIN_TIMESTAMP: return block(r, end, 8, l, 51, i, j, k);
     case PLAIN_DECIMAL:
         if (!block(r, end, 16, l, 51, i, j, k)) return false;
-        return decimal_fine(load64(r->m + at), load64(r->m + at + 8)) || refuse(r, BAD_VALUE, at);
+        return decimal_fine(load64(r->m + at), load64(r->m + at + 8)) || refuse(r, BAD_DECIMAL, at);
     case PLAIN_POINT:
         if (!block(r, end, 16, l, 51, i, j, k)) return false;
-        return point_fine(load64(r->m + at), load64(r->m + at + 8)) || refuse(r, BAD_VALUE, at);
+        return point_fine(load64(r->m + at), load64(r->m + at + 8)) || refuse(r, BAD_POINT, at);
     case PLAIN_STRING: return text(r, end, l, 50, i, j, k);
     default:
         if (!counted(r, end, true, l, 50, i, j, k)) return false;
-        return type != PLAIN_GEOGRAPHY || load32(r->m + at) != 0 || refuse(r, BAD_VALUE, at);
+        return type != PLAIN_GEOGRAPHY || load32(r->m + at) != 0 || refuse(r, BAD_GEOGRAPHY, at);
     }
 }
 
@@ -117,7 +117,7 @@ WALK head(reader *r, size_t end, lister *l, size_t *tables) {
     if (r->m[4] > 1) return refuse(r, BAD_VERSION, 4);
     if (!block(r, end, 8, l, 22, 0, 0, 0) || !block(r, end, 1, l, 30, 0, 0, 0)) return false;
     uint8_t flags = r->m[13];
-    if (flags & OTHER_FLAGS) return refuse(r, BAD_VALUE, 13);
+    if (flags & OTHER_FLAGS) return refuse(r, BAD_FLAGS, 13);
     if (!block(r, end, 1, l, 31, 0, 0, 0)) return false;
     if (flags & FLAG_STATUS && !text(r, end, l, 32, 0, 0, 0)) return false;
     if (!block(r, end, 1, l, 34, 0, 0, 0)) return false;

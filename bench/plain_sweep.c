@@ -1,7 +1,7 @@
 /* The plain reader and writer over frames, to be held against the second reader: standard input is a row of frames (4 bytes
    of size, big-endian, then one byte of kind, 4, and a message). For each it prints the field list, or `refused NUMBER PLACE`,
    and a line with a dot. It also asks for each cell and column, and writes each accepted message anew, and says where either differs, or
-   where a torn text is written.
+   where a torn text, or what breaks another rule of its own, is written.
    With kind 27, the wire type of a geography, it is an area: behind its field list stands what it is with its holes turned. */
 #include "plain_rules.h"
 #include <stdio.h>
@@ -139,7 +139,7 @@ static bool written_alike(size_t size, size_t count) {
 /* A name cut in mid-letter. */
 static const uint8_t torn[] = {'B', 'j', 0xc3};
 
-static bool is_torn(plain_refusal no, size_t place) { return no.number == BAD_TEXT && no.place == place; }
+static bool is_refused(plain_refusal no, uint32_t number, size_t place) { return no.number == number && no.place == place; }
 
 /* It is refused as each text of the opening that the flags ask for, and otherwise ignored. */
 static bool torn_opening_refused(size_t count) {
@@ -147,8 +147,8 @@ static bool torn_opening_refused(size_t count) {
     plain_opening status = opening(count), app = status;
     status.status_null = false, status.status_string = torn, status.status_size = sizeof torn;
     app.app_null = false, app.app_string = torn, app.app_size = sizeof torn;
-    return is_torn(plain_begin(&w, again, MOST_FRAME, message[4], &status), 0) == ((status.flags & FLAG_STATUS) != 0)
-        && is_torn(plain_begin(&w, again, MOST_FRAME, message[4], &app), 0) == ((app.flags & FLAG_APPLICATION) != 0);
+    return is_refused(plain_begin(&w, again, MOST_FRAME, message[4], &status), BAD_TEXT, 0) == ((status.flags & FLAG_STATUS) != 0)
+        && is_refused(plain_begin(&w, again, MOST_FRAME, message[4], &app), BAD_TEXT, 0) == ((app.flags & FLAG_APPLICATION) != 0);
 }
 
 /* It is refused as a string, at the writer's position, and is a fine varbinary. */
@@ -160,7 +160,25 @@ static bool torn_cell_refused(size_t count) {
     if (plain_open_table(&w, 0, columns, 2, message, 0).number != 0 || plain_open_row(&w).number != 0) return false;
     if (plain_put_body(&w, PLAIN_VARBINARY, false, torn, sizeof torn).number != 0) return false;
     size_t at = w.at;
-    return is_torn(plain_put_body(&w, PLAIN_STRING, false, torn, sizeof torn), at) && w.at == at;
+    return is_refused(plain_put_body(&w, PLAIN_STRING, false, torn, sizeof torn), BAD_TEXT, at) && w.at == at;
+}
+
+/* What breaks a rule of its own is refused by its number, at the writer's position: flags, a name, a decimal, a point, a geography. */
+static bool wrong_values_refused(size_t count) {
+    const plain_column unnamed[] = {{PLAIN_DECIMAL, 0, 0}, {PLAIN_POINT, 0, 0}, {PLAIN_GEOGRAPHY, 0, 0}}, named = {PLAIN_STRING, 1, 2};
+    const uint64_t north = 0x4056800000000000; /* the bits of 90.0, the greatest latitude */
+    plain_writer w;
+    plain_opening o = opening(count), flagged = o;
+    flagged.flags |= 1;
+    if (!is_refused(plain_begin(&w, again, MOST_FRAME, message[4], &flagged), BAD_FLAGS, 0)) return false;
+    if (plain_begin(&w, again, MOST_FRAME, message[4], &o).number != 0) return false;
+    if (!is_refused(plain_open_table(&w, 0, &named, 1, torn, sizeof torn), BAD_NAME, w.at)) return false;
+    if (plain_open_table(&w, 0, unnamed, 3, message, 0).number != 0 || plain_open_row(&w).number != 0) return false;
+    if (!is_refused(plain_put_pair(&w, PLAIN_DECIMAL, (uint64_t)1 << 63, 1), BAD_DECIMAL, w.at)) return false;
+    if (plain_put_pair(&w, PLAIN_DECIMAL, (uint64_t)1 << 63, 0).number != 0) return false;
+    if (!is_refused(plain_put_pair(&w, PLAIN_POINT, north, north + 1), BAD_POINT, w.at)) return false;
+    if (plain_put_pair(&w, PLAIN_POINT, north, north).number != 0) return false;
+    return is_refused(plain_put_body(&w, PLAIN_GEOGRAPHY, false, torn, 0), BAD_GEOGRAPHY, w.at) && plain_put_body(&w, PLAIN_GEOGRAPHY, true, torn, 0).number == 0;
 }
 
 static bool area_written_alike(size_t size) {
@@ -175,6 +193,15 @@ static bool area_written_alike(size_t size) {
         fine &= plain_close_ring(&w, at).number == 0;
     }
     return fine && plain_finish_area(&w, at).number == 0 && w.at == size && memcmp(message, again, size) == 0;
+}
+
+/* An area without a ring isn't finished, nor a ring of two vertices closed. */
+static bool small_areas_refused(void) {
+    const uint8_t kept[RING_KEPT] = {0};
+    plain_area_writer w;
+    if (plain_begin_area(&w, again, MOST_FRAME, 0, 1).number != 0 || !is_refused(plain_finish_area(&w, kept), BAD_GEOGRAPHY, w.at)) return false;
+    if (plain_open_ring(&w, 0).number != 0 || plain_put_vertex(&w, 0, 0, 0).number != 0 || plain_put_vertex(&w, 0, 0, 0).number != 0) return false;
+    return is_refused(plain_close_ring(&w, kept), BAD_GEOGRAPHY, w.at);
 }
 
 /* The field list, or the refusal; whether it was a list. */
@@ -195,6 +222,7 @@ static void one(size_t size) {
     if (!columns_agree(size, count)) printf("a column differs from the list\n");
     if (!written_alike(size, count)) printf("written anew, the message differs\n");
     if (!torn_opening_refused(count) || !torn_cell_refused(count)) printf("a torn text is written\n");
+    if (!wrong_values_refused(count)) printf("what breaks a rule of its own is written\n");
 }
 
 static void one_area(size_t size) {
@@ -202,6 +230,7 @@ static void one_area(size_t size) {
     plain_refusal no = plain_area_fields(message, size, 0, entries, MOST_NUMBERS, &count);
     if (!print_list(no, count)) return;
     if (!area_written_alike(size)) printf("written anew, the area differs\n");
+    if (!small_areas_refused()) printf("too small an area is written\n");
     plain_turn_holes(message, size, &rings);
     for (size_t n = 0; n < size; n++) printf("%02x", message[n]);
     printf("\n");

@@ -13,24 +13,24 @@ sys.path.insert(0, str(ROOT / "tests" / "second"))
 
 import areas
 import generate_texts
+import generate_values
 from frames import frame
 from generate import messages
 from generate_areas import bodies, edges
-from listing import listing, refused
+from listing import listing
 from reader import Refused
-from wire import GEOGRAPHY, REPLY
+from tally import Tally
+from wire import *
 
 
 def main(count=4000, seed=1):
+    """What is accepted is written anew too, and areas are turned."""
     replies = [message for kind, message in messages(count, seed) if kind == REPLY]
-    accepted = compared(REPLY, replies, listing_of_reply)
-    print("plain C agrees on %d replies, %d of them accepted and written anew" % (len(replies), accepted))
-    texts = [message for kind, message, _ in generate_texts.messages() if kind == REPLY]
-    accepted = compared(REPLY, texts, listing_of_reply)
-    print("plain C agrees on %d replies with text at the edges of its rule, %d of them accepted and written anew" % (len(texts), accepted))
+    replies += [message for kind, message, _ in (*generate_texts.messages(), *generate_values.messages()) if kind == REPLY]
     inside = [*edges(), *bodies(count, seed)]
-    accepted = compared(GEOGRAPHY, inside, listing_and_turned)
-    print("plain C agrees on %d bodies of geographies, %d of them areas, written anew and turned" % (len(inside), accepted))
+    fine = [compared("replies", REPLY, replies, listing_of_reply, must=OF_READING),
+            compared("areas", GEOGRAPHY, inside, listing_and_turned, must=(NO_ROOM, BAD_SIGN, LEFT_OVER, BAD_GEOGRAPHY))]
+    return 0 if all(fine) else 1
 
 
 def listing_of_reply(message):
@@ -42,12 +42,13 @@ def listing_and_turned(body):
     try:
         area, fields = areas.read(body)
     except Refused as no:
-        return refused(no.number, no.place)
+        return refused(no.number, no.place) + "\n"
     return "".join("%d %d %d %d %d %d\n" % field for field in fields) + areas.encode(areas.turned(area)).hex() + "\n"
 
 
-def compared(kind, given, wanted_for):
-    """How many plain C accepts, if it answers everything that is given as the second reader does; else the first difference ends the test."""
+def compared(what, kind, given, wanted_for, must):
+    """Whether plain C answers everything that is given as the second reader does, and gives no refusal that there isn't. The first difference ends the
+    test."""
     frames = b"".join(frame(kind, one) for one in given)
     command = [str(ROOT / "tools" / "c" / "kit"), "run", str(ROOT / "target" / "bench" / "plain_sweep")]
     done = subprocess.run(command, input=frames, stdout=subprocess.PIPE, check=True)
@@ -58,8 +59,11 @@ def compared(kind, given, wanted_for):
         wanted = wanted_for(one)
         if answer != wanted:
             sys.exit("number %d of kind %d differs: %s\nplain C:\n%ssecond reader:\n%s" % (number, kind, one.hex(), answer, wanted))
-    return sum(not answer.startswith("refused") for answer in answers)
+    tally = Tally("plain C, %s" % what, must)
+    for answer in answers:
+        tally.add(answer)
+    return tally.settled("no difference")
 
 
 if __name__ == "__main__":
-    main(*map(int, sys.argv[1:]))
+    sys.exit(main(*map(int, sys.argv[1:])))

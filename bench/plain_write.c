@@ -57,7 +57,7 @@ plain_refusal plain_begin(plain_writer *w, uint8_t *buffer, size_t size, uint8_t
     bool status = o->flags & FLAG_STATUS, app = o->flags & FLAG_APPLICATION, exception = o->flags & FLAG_EXCEPTION;
     plain_writer begun = {.buffer = buffer, .size = size, .stage = PLAIN_REPLY};
     if (version > 1) return refused(BAD_VERSION, 0);
-    if (o->flags & OTHER_FLAGS) return refused(BAD_VALUE, 0);
+    if (o->flags & OTHER_FLAGS) return refused(BAD_FLAGS, 0);
     uint32_t fault = text_fault(status, o->status_null, o->status_string, o->status_size);
     if (fault == 0) fault = text_fault(app, o->app_null, o->app_string, o->app_size);
     if (fault == 0 && exception && o->exception_size > MOST_BODY) fault = LIMIT;
@@ -86,7 +86,7 @@ static plain_refusal name_fault(const plain_writer *w, const plain_column *c, co
     if (c->name > names_size || c->name_size > names_size - c->name) return refused(PAST_END, 0);
     if (c->name_size > MOST_BODY) return refused(LIMIT, w->at);
     for (size_t p = 0; p < c->name_size; p++)
-        if (names[c->name + p] > 127) return refused(BAD_VALUE, w->at);
+        if (names[c->name + p] > 127) return refused(BAD_NAME, w->at);
     return fine;
 }
 
@@ -166,7 +166,8 @@ plain_refusal plain_put_pair(plain_writer *w, uint8_t type, uint64_t first, uint
     plain_refusal no = cell_wanted(w, type);
     if (no.number != 0) return no;
     if (fixed_size(type) != 16) return refused(BAD_TYPE, w->at);
-    if (!(type == PLAIN_DECIMAL ? decimal_fine(first, second) : point_fine(first, second))) return refused(BAD_VALUE, w->at);
+    if (type == PLAIN_DECIMAL && !decimal_fine(first, second)) return refused(BAD_DECIMAL, w->at);
+    if (type == PLAIN_POINT && !point_fine(first, second)) return refused(BAD_POINT, w->at);
     no = cell_room(w, 16);
     if (no.number != 0) return no;
     put64(w, first);
@@ -180,7 +181,7 @@ plain_refusal plain_put_body(plain_writer *w, uint8_t type, bool null, const uin
     if (no.number != 0) return no;
     if (!is_counted(type)) return refused(BAD_TYPE, w->at);
     if (!null && size > MOST_BODY) return refused(LIMIT, w->at);
-    if (!null && size == 0 && type == PLAIN_GEOGRAPHY) return refused(BAD_VALUE, w->at);
+    if (!null && size == 0 && type == PLAIN_GEOGRAPHY) return refused(BAD_GEOGRAPHY, w->at);
     if (!null && type == PLAIN_STRING && well_formed(bytes, size) != size) return refused(BAD_TEXT, w->at);
     no = cell_room(w, null ? 4 : 4 + size);
     if (no.number != 0) return no;
