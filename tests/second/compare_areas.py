@@ -55,15 +55,15 @@ def large_ones(seed):
 
 
 def at_the_end(maker, room):
-    """The last steps into a large buffer, on forged states: a ring closed with the most vertices, an area finished with the most rings; and
-    each step where a byte is missing."""
+    """The last steps into a large buffer, on forged states: a ring closed with the most vertices, an area finished with the most rings; each step
+    where a byte is missing; and there also with too few vertices or rings."""
     add, close, finish = (step_of(maker, name) for name in ("add_vertex", "close_ring", "finish"))
     place = room - AREA_KEPT - RING_KEPT - 24
     script = [("buffer", (room,))]
     for rings, vertices in ((1, 2), (2, 5), (MOST_COUNT, MOST_COUNT - 1)):
         script += [("forge", (2, place, rings, place - 5, vertices)), add, close, finish, ("show", ())]
-    for stage, left, step in ((2, 23, add), (2, 37, close), (1, 32, finish)):
-        script += [("forge", (stage, room - left, 1, room - left - 5, 3)), step, ("show", ())]
+    for stage, left, rings, vertices, step in ((2, 23, 1, 3, add), (2, 37, 1, 3, close), (1, 32, 1, 3, finish), (2, 37, 1, 2, close), (1, 32, 0, 0, finish)):
+        script += [("forge", (stage, room - left, rings, room - left - 5, vertices)), step, ("show", ())]
     return script
 
 

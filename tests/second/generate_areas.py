@@ -153,12 +153,15 @@ def edges():
 def large(seed):
     rng = random.Random(seed)
     whole, many, longest = encode(of_size(MOST_BODY, rng)), encode(plain(*[3] * 9000)), encode(of_size(MOST_MESSAGE + 5, rng))
+    last_count = len(many) - AREA_KEPT - RING_KEPT - 3 * 24 - 4
     yield "an area as long as a message lets one be", whole
     yield "the same, cut by a byte", whole[:-1]
     yield "an area of many rings", many
-    yield "the same, its last vertex count negative", replaced(many, len(many) - AREA_KEPT - RING_KEPT - 3 * 24 - 4, count_bytes(-1))
+    yield "the same, its last vertex count negative", replaced(many, last_count, count_bytes(-1))
+    yield "the same, its last vertex count too small", replaced(many, last_count, count_bytes(FEWEST_VERTICES - 1))
     yield "an area longer than any message", longest
     yield "the same, with a byte more", longest + b"\0"
+    yield "the same, its third byte wrong", replaced(longest, 2, bytes([2]))
 
 
 def of_size(size, rng):
