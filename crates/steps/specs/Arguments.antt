@@ -1,5 +1,5 @@
 -- What the steps take: the parts of a message that it says, and its faults, in wire order. A writer's refusal stands at its position.
-use Prim.Native.Nat.{ℕ, _%_, _^_}
+use Prim.Native.Nat.{ℕ, _^_}
 use mathlib.Core.Bool.{Bool, _&&_, not}
 use mathlib.Core.List.{List, [], _∷_, map}
 use mathlib.Core.Option.{Option, some, none}
@@ -10,7 +10,7 @@ use Rattle.format.specs.Result.{pick}
 use Rattle.format.specs.Format.{Verdict, fine, bad}
 use Rattle.format.specs.Text.{utf8}
 use Rattle.format.specs.Value.{Value, fixed, body, widthOf, isCounted, fixedFine, anything, ruleOf, ascii, mostBytes, tDecimal}
-use Rattle.format.specs.Message.{Response, Metadata, flagged}
+use Rattle.format.specs.Message.{Response, Metadata, flagged, flagsFine}
 use Rattle.steps.specs.Plans.{also, test, placed}
 
 abbrev pub textFault : (List ℕ → Verdict) → ℕ → List ℕ → Verdict
@@ -76,7 +76,7 @@ opened o = record {
 
 unfoldable pub openingFault : Opening → Verdict
 openingFault o =
-    also (test (eqb (o .flags % 32) 0) Flags 0)
+    also (test (flagsFine (o .flags)) Flags 0)
     (also (pick (flagged 32 (o .flags)) (nullTextFault utf8 0 (o .statusString)) fine)
     (also (pick (flagged 128 (o .flags)) (nullTextFault utf8 0 (o .appString)) fine)
     (pick (flagged 64 (o .flags)) (textFault anything 0 (o .exception)) fine)))
