@@ -15,7 +15,7 @@ use Rattle.format.specs.Format.{Format, number, block, ruled, into, both, each}
 use Rattle.format.specs.Message.{first}
 use Rattle.format.specs.Geography.{vertex, ring, polygon, atLeast, ringed, holesOf, fewestVertices, bodyKept, readPolygon}
 use Rattle.format.proofs.Results.{ok-same, passed, bound}
-use Rattle.causes.specs.Causes.{Rightly, Holds, ofBody}
+use Rattle.causes.specs.Causes.{There, Rightly, ofBody}
 use Rattle.causes.proofs.Rightly.{Right, number-is, rightly-ok, rightly-no, rightly-pick, rightly-bind, rightly-ruled, rightly-both, rightly-into, right-number, right-block, right-nothing, right-ruled, right-plain, right-into, right-both, right-each, all-replicate}
 
 ruleset laws = (right-number, right-block, right-nothing, right-plain, right-into, right-both, right-each, all-replicate, tt)
@@ -58,7 +58,7 @@ unfolding ring vertex
 right-ring = search (laws, right-vertices) depth 10
 
 -- the ring count, which stands at 3
-rings-rightly : (s : List ℕ) (at : ℕ) → at ≡ 3 → Rightly ofBody s (atLeast 1 63 .read s at)
+rings-rightly : (s : List ℕ) (at : ℕ) → at ≡ 3 → Rightly (There ofBody s) (atLeast 1 63 .read s at)
 rings-rightly s at there = rightly-ruled (λ n. leb 1 n) Geography (notNegative 63) s at (right-count 63 .rightly s at) (λ w e few.
     let n = count-is 63 s at w e in inr (inl (there, (n .0, subst (λ (z : ℕ). leb 1 z ≡ false) (n .1) few))))
 
@@ -69,11 +69,11 @@ third-is : (s : List ℕ) (at : ℕ) (w : ℕ × ℕ) → third .read s at ≡ o
 third-is s at w e = number-is 1 62 s at w (ruled-is _ Geography (number 1 62) s at w e)
 
 -- the third byte and the ring count, which stand from 2 on
-ringed-rightly : (s : List ℕ) (at : ℕ) → at ≡ 2 → Rightly ofBody s (ringed .read s at)
+ringed-rightly : (s : List ℕ) (at : ℕ) → at ≡ 2 → Rightly (There ofBody s) (ringed .read s at)
 ringed-rightly s at there =
     rightly-ruled (λ p. eqb (p .0) (holesOf (p .1))) Geography (both third (λ h. atLeast 1 63)) s at
     (rightly-both third (λ h. atLeast 1 63) s at
-    (rightly-ruled (λ h. leb h 1) Geography (number 1 62) s at (right-number (λ s p. tt) 1 62 .rightly s at) (λ w e bad.
+    (rightly-ruled (λ h. leb h 1) Geography (number 1 62) s at (right-number {claim = ofBody} (λ s p. tt) 1 62 .rightly s at) (λ w e bad.
     let n = number-is 1 62 s at w e in inl (there, inl (n .0, subst (λ (z : ℕ). leb z 1 ≡ false) (n .1) bad))))
     (λ w e. rings-rightly s (w .1) (third-is s at w e .2 ∙ ap (λ (z : ℕ). z + 1) there)))
     (λ w e bad.
@@ -84,12 +84,12 @@ ringed-rightly s at there =
     let count : w .0 .1 ≡ numAt 4 s (at + 1) = sym (b .5) ∙ n .1 ∙ ap (numAt 4 s) (h .2) in
     inl (there, inr (omega (arith, n .0, h .2), rw (← byte, ← count) bad)))
 
-pub body-rightly : (b : List ℕ) → Rightly ofBody b (readPolygon b)
+pub body-rightly : (b : List ℕ) → Rightly (There ofBody b) (readPolygon b)
 unfolding polygon
 body-rightly b =
     rightly-bind (polygon .read b 0) (rightly-into _ _ _ b 0
-    (rightly-both (number 1 60) _ b 0 (right-number (λ s p. tt) 1 60 .rightly b 0) (λ v e.
-    rightly-both (number 1 61) _ b (v .1) (right-number (λ s p. tt) 1 61 .rightly b (v .1)) (λ w f.
+    (rightly-both (number 1 60) _ b 0 (right-number {claim = ofBody} (λ s p. tt) 1 60 .rightly b 0) (λ v e.
+    rightly-both (number 1 61) _ b (v .1) (right-number {claim = ofBody} (λ s p. tt) 1 61 .rightly b (v .1)) (λ w f.
     rightly-both ringed _ b (w .1) (ringed-rightly b (w .1) (number-is 1 61 b (v .1) w f .2 ∙ ap (λ (z : ℕ). z + 1) (number-is 1 60 b 0 v e .2))) (λ h g.
     rest (h .0 .1) .rightly b (h .1))))))
     (λ q e. rightly-pick (eqb (q .1) (length b)) (λ t. rightly-ok) (λ t. rightly-no Extra (q .1) tt))

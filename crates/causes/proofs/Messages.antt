@@ -17,7 +17,7 @@ use Rattle.format.specs.Text.{utf8}
 use Rattle.format.specs.Value.{value, widthOf, fixedFine, decimalFine, pointFine, anything, notEmpty, ruleOf, nameByteFine, asciiFrom, ascii, tDecimal, tPoint, tGeography, tString}
 use Rattle.format.specs.Message.{loginRequest, server, loginResponse, list, items, argument, param, invocation, metadata, row, table, head, response, contentOf, message, readMessage, isLayout, mostMessage, filled, Message}
 use Rattle.format.proofs.Texts.{utf8-bad}
-use Rattle.causes.specs.Causes.{Claim, breaks, Holds, Rightly, ofMessage}
+use Rattle.causes.specs.Causes.{Claim, breaks, Holds, There, Rightly, ofMessage}
 use Rattle.causes.proofs.Rightly.{Right, Judges, number-is, rightly-ok, rightly-no, rightly-pick, rightly-bind, right-number, right-block, right-nothing, right-ruled, right-plain, right-tested, right-room, right-into, right-both, right-pick, right-present, right-each, right-counted, all-replicate, all-map}
 
 -- the rules of bodies
@@ -161,10 +161,10 @@ right-message : (layout : ℕ) → Right ofMessage (message layout)
 unfolding message
 right-message layout = search (laws, right-contentOf)
 
-pub message-rightly : (layout : ℕ) (m : List ℕ) → Rightly ofMessage m (readMessage layout m)
+pub message-rightly : (layout : ℕ) (m : List ℕ) → Rightly (There ofMessage m) (readMessage layout m)
 message-rightly layout m =
     rightly-pick (isLayout layout) (λ t.
-    rightly-bind (number 4 1 .read m 0) (right-number (λ s p. tt) 4 1 .rightly m 0) (λ w e.
+    rightly-bind (number 4 1 .read m 0) (right-number {claim = ofMessage} (λ s p. tt) 4 1 .rightly m 0) (λ w e.
     rightly-pick (eqb (w .0) 0 || leb (half 4) (w .0)) (λ t. rightly-no Negative 0 tt) (λ t.
     rightly-pick (ltb mostMessage (w .0)) (λ t. rightly-no Limit 0 tt) (λ t.
     rightly-pick (ltb (length m) (4 + w .0)) (λ t. rightly-no Short 0 tt) (λ t.

@@ -16,7 +16,7 @@ use Rattle.format.specs.Result.{Res, ok, no, bind, pick}
 use Rattle.format.specs.Number.{numAt, half, null4}
 use Rattle.format.specs.Format.{Format, Index, number, block, nothing, ruled, room, into, both, present, each, counted, Verdict, fine, bad, judged}
 use Rattle.format.proofs.Results.{ok-same, no-ok, passed}
-use Rattle.causes.specs.Causes.{Claim, breaks, differ, only, either, other, never, Holds, Rightly}
+use Rattle.causes.specs.Causes.{Claim, breaks, differ, only, either, other, never, Holds, There, Rightly}
 
 -- a number in a part of a list is the one in the list
 numAt-take : (k n : ℕ) (s : List ℕ) (at : ℕ) → at + k ≤ n → numAt k (take n s) at ≡ numAt k s at
@@ -36,31 +36,49 @@ cut (either c d) n s p fit h = ⊎-elim (λ l. inl (cut c n s p fit l)) (λ r. i
 cut other n s p fit h = tt
 cut never n s p fit h = h
 
-module _ {claim : Fault → Claim} {A : Type 0} where
-  pub rightly-ok : {s : List ℕ} {a : A} → Rightly claim s (ok a)
-  rightly-ok = record { claims = λ f p e. absurd (no-ok (sym e)) }
+module _ {P : Fault → ℕ → Type 0} {A : Type 0} where
+  pub rightly-ok : {a : A} → Rightly P (ok a)
+  rightly-ok = record { holds = λ f p e. absurd (no-ok (sym e)) }
 
-  pub rightly-no : {s : List ℕ} (f : Fault) (p : ℕ) → Holds (claim f) s p → Rightly claim s {A = A} (no f p)
-  rightly-no f p h = record { claims = λ g q e. let same : f ≡ g = cc in let there : p ≡ q = cc in rw (← same, ← there) h }
+  pub rightly-no : (f : Fault) (p : ℕ) → P f p → Rightly P {A = A} (no f p)
+  rightly-no f p h = record { holds = λ g q e. let same : f ≡ g = cc in let there : p ≡ q = cc in rw (← same, ← there) h }
 
-  cut-all : (n : ℕ) (s : List ℕ) → n ≤ length s → (r : Res A) → Rightly claim (take n s) r → Rightly claim s r
-  cut-all n s fit r h = record { claims = λ f p e. cut (claim f) n s p fit (h .claims f p e) }
-
-  pub rightly-pick : {s : List ℕ} (t : Bool) {r q : Res A} → (t ≡ true → Rightly claim s r) → (t ≡ false → Rightly claim s q) → Rightly claim s (pick t r q)
+  pub rightly-pick : (t : Bool) {r q : Res A} → (t ≡ true → Rightly P r) → (t ≡ false → Rightly P q) → Rightly P (pick t r q)
   rightly-pick true h i = h refl
   rightly-pick false h i = i refl
 
-module _ {claim : Fault → Claim} {A B : Type 0} where
-  pub rightly-bind : {s : List ℕ} (r : Res A) {k : A → Res B} → Rightly claim s r → ((a : A) → r ≡ ok a → Rightly claim s (k a)) → Rightly claim s (bind r k)
+module _ {P : Fault → ℕ → Type 0} {A B : Type 0} where
+  pub rightly-bind : (r : Res A) {k : A → Res B} → Rightly P r → ((a : A) → r ≡ ok a → Rightly P (k a)) → Rightly P (bind r k)
   rightly-bind (ok a) h rest = rest a refl
-  rightly-bind (no f p) h rest = rightly-no f p (h .claims f p refl)
+  rightly-bind (no f p) h rest = rightly-no f p (h .holds f p refl)
+
+-- the same of formats, at one place
+module _ {P : Fault → ℕ → Type 0} {A B : Type 0} where
+  pub rightly-into : (to : A → B) (from : B → A) (f : Format A) (s : List ℕ) (at : ℕ) → Rightly P (f .read s at) → Rightly P (into to from f .read s at)
+  unfolding into
+  rightly-into to from f s at r = rightly-bind (f .read s at) r (λ w e. rightly-ok)
+
+  pub rightly-both : (f : Format A) (g : A → Format B) (s : List ℕ) (at : ℕ) → Rightly P (f .read s at) → ((w : A × ℕ) → f .read s at ≡ ok w → Rightly P (g (w .0) .read s (w .1)))
+      → Rightly P (both f g .read s at)
+  unfolding both
+  rightly-both f g s at r q = rightly-bind (f .read s at) r (λ w e. rightly-bind (g (w .0) .read s (w .1)) (q w e) (λ v e. rightly-ok))
+
+module _ {P : Fault → ℕ → Type 0} {A : Type 0} where
+  pub rightly-ruled : (test : A → Bool) (fault : Fault) (f : Format A) (s : List ℕ) (at : ℕ) → Rightly P (f .read s at) → ((w : A × ℕ) → f .read s at ≡ ok w → test (w .0) ≡ false → P fault at)
+      → Rightly P (ruled test fault f .read s at)
+  unfolding ruled
+  rightly-ruled test fault f s at r broken = rightly-bind (f .read s at) r (λ w e. rightly-pick (test (w .0)) (λ t. rightly-ok) (λ t. rightly-no fault at (broken w e t)))
+
+module _ (claim : Fault → Claim) {A : Type 0} where
+  cut-all : (n : ℕ) (s : List ℕ) → n ≤ length s → (r : Res A) → Rightly (There claim (take n s)) r → Rightly (There claim s) r
+  cut-all n s fit r h = record { holds = λ f p e. cut (claim f) n s p fit (h .holds f p e) }
 
 -- a fault that claims nothing of a value
 abbrev pub Plain : (Fault → Claim) → Fault → Type 0
 Plain claim f = (s : List ℕ) (p : ℕ) → Holds (claim f) s p
 
 pub record Right (claim : Fault → Claim) {A : Type 0} (f : Format A) : Type 0 where
-  pub rightly : (s : List ℕ) (at : ℕ) → Rightly claim s (f .read s at)
+  pub rightly : (s : List ℕ) (at : ℕ) → Rightly (There claim s) (f .read s at)
 
 module _ {claim : Fault → Claim} where
   pub right-number : Plain claim Short → (k field : ℕ) → Right claim (number k field)
@@ -84,11 +102,6 @@ module _ {claim : Fault → Claim} {A : Type 0} where
   unfolding nothing
   right-nothing a = record { rightly = λ s at. rightly-ok }
 
-  pub rightly-ruled : (test : A → Bool) (fault : Fault) (f : Format A) (s : List ℕ) (at : ℕ) → Rightly claim s (f .read s at) → ((w : A × ℕ) → f .read s at ≡ ok w → test (w .0) ≡ false → Holds (claim fault) s at)
-      → Rightly claim s (ruled test fault f .read s at)
-  unfolding ruled
-  rightly-ruled test fault f s at r broken = rightly-bind (f .read s at) r (λ w e. rightly-pick (test (w .0)) (λ t. rightly-ok) (λ t. rightly-no fault at (broken w e t)))
-
   pub right-ruled : (test : A → Bool) (fault : Fault) {f : Format A} → Right claim f → ((s : List ℕ) (at : ℕ) (w : A × ℕ) → f .read s at ≡ ok w → test (w .0) ≡ false → Holds (claim fault) s at) → Right claim (ruled test fault f)
   right-ruled test fault {f} r broken = record { rightly = λ s at. rightly-ruled test fault f s at (r .rightly s at) (broken s at) }
 
@@ -99,12 +112,12 @@ module _ {claim : Fault → Claim} {A : Type 0} where
   unfolding room
   right-room short negative limit extra most field {f} r = record {
     rightly = λ s at.
-        rightly-bind (number 4 field .read s at) (right-number short 4 field .rightly s at) (λ w e.
+        rightly-bind (number 4 field .read s at) (right-number {claim = claim} short 4 field .rightly s at) (λ w e.
         rightly-pick (leb (half 4) (w .0)) (λ t. rightly-no Negative at (negative s at)) (λ t.
         rightly-pick (ltb most (w .0)) (λ t. rightly-no Limit at (limit s at)) (λ t.
         rightly-pick (ltb (length s) (at + 4 + w .0)) (λ t. rightly-no Short at (short s at)) (λ fits.
         let end = at + 4 + w .0 in
-        rightly-bind (f .read (take end s) (at + 4)) (cut-all end s (ltb-false _ _ fits) _ (r .rightly (take end s) (at + 4))) (λ q e.
+        rightly-bind (f .read (take end s) (at + 4)) (cut-all claim end s (ltb-false _ _ fits) _ (r .rightly (take end s) (at + 4))) (λ q e.
         rightly-pick (eqb (q .1) end) (λ t. rightly-ok) (λ t. rightly-no Extra (q .1) (extra s (q .1))))))));
   }
 
@@ -117,17 +130,8 @@ module _ {claim : Fault → Claim} where
       subst (λ (c : Claim). Holds c s at) (sym is) (n .0, subst (λ (z : ℕ). test z ≡ false) (n .1) t))
 
 module _ {claim : Fault → Claim} {A B : Type 0} where
-  pub rightly-into : (to : A → B) (from : B → A) (f : Format A) (s : List ℕ) (at : ℕ) → Rightly claim s (f .read s at) → Rightly claim s (into to from f .read s at)
-  unfolding into
-  rightly-into to from f s at r = rightly-bind (f .read s at) r (λ w e. rightly-ok)
-
   pub right-into : (to : A → B) (from : B → A) {f : Format A} → Right claim f → Right claim (into to from f)
   right-into to from {f} r = record { rightly = λ s at. rightly-into to from f s at (r .rightly s at) }
-
-  pub rightly-both : (f : Format A) (g : A → Format B) (s : List ℕ) (at : ℕ) → Rightly claim s (f .read s at) → ((w : A × ℕ) → f .read s at ≡ ok w → Rightly claim s (g (w .0) .read s (w .1)))
-      → Rightly claim s (both f g .read s at)
-  unfolding both
-  rightly-both f g s at r q = rightly-bind (f .read s at) r (λ w e. rightly-bind (g (w .0) .read s (w .1)) (q w e) (λ v e. rightly-ok))
 
   pub right-both : {f : Format A} {g : A → Format B} → Right claim f → ((a : A) → Right claim (g a)) → Right claim (both f g)
   right-both {f} {g} r q = record { rightly = λ s at. rightly-both f g s at (r .rightly s at) (λ w e. q (w .0) .rightly s (w .1)) }
@@ -170,19 +174,20 @@ abbrev pub Judges : (Fault → Claim) → (List ℕ → Verdict) → Type 0
 Judges claim rule =
     (s : List ℕ) (at n : ℕ) → at + 4 + n ≤ length s → numAt 4 s at ≡ n → (f : Fault) (k : ℕ) → rule (take n (drop (at + 4) s)) ≡ bad f k → Holds (claim f) s (at + k)
 
-module _ {claim : Fault → Claim} where
-  rightly-judged : (s : List ℕ) (at : ℕ) (q : List ℕ × ℕ) (v : Verdict) → ((f : Fault) (k : ℕ) → v ≡ bad f k → Holds (claim f) s (at + k)) → Rightly claim s (judged v q at)
-  rightly-judged s at q fine h = rightly-ok
-  rightly-judged s at q (bad f k) h = rightly-no f (at + k) (h f k refl)
+module _ {P : Fault → ℕ → Type 0} where
+  rightly-judged : (at : ℕ) (q : List ℕ × ℕ) (v : Verdict) → ((f : Fault) (k : ℕ) → v ≡ bad f k → P f (at + k)) → Rightly P (judged v q at)
+  rightly-judged at q fine h = rightly-ok
+  rightly-judged at q (bad f k) h = rightly-no f (at + k) (h f k refl)
 
+module _ {claim : Fault → Claim} where
   pub right-counted : Plain claim Short → Plain claim Negative → Plain claim Limit → (nullable : Bool) (most : ℕ) (rule : List ℕ → Verdict) (l b : ℕ) → Judges claim rule → Right claim (counted nullable most rule l b)
   unfolding counted
   right-counted short negative limit nullable most rule l b judges = record {
     rightly = λ s at.
-        rightly-bind (number 4 l .read s at) (right-number short 4 l .rightly s at) (λ w e.
+        rightly-bind (number 4 l .read s at) (right-number {claim = claim} short 4 l .rightly s at) (λ w e.
         rightly-pick (nullable && eqb (w .0) null4) (λ t. rightly-ok) (λ t.
         rightly-pick (leb (half 4) (w .0)) (λ t. rightly-no Negative at (negative s at)) (λ t.
         rightly-pick (ltb most (w .0)) (λ t. rightly-no Limit at (limit s at)) (λ t.
         rightly-pick (ltb (length s) (at + 4 + w .0)) (λ t. rightly-no Short at (short s at)) (λ fits.
-        rightly-judged s at _ _ (judges s at (w .0) (ltb-false _ _ fits) (sym (number-is 4 l s at w e .1))))))));
+        rightly-judged at _ _ (judges s at (w .0) (ltb-false _ _ fits) (sym (number-is 4 l s at w e .1))))))));
   }

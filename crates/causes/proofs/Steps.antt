@@ -23,9 +23,10 @@ use Rattle.steps.specs.Steps.{Step, beginCall, nullParam, oneParam, bytesParam,
 use Rattle.steps.specs.Logins.{Welcome, loginRequest, loginResponse, requestFault, responseFault}
 use Rattle.outline.specs.declared.State.{State as Outline}
 use Rattle.outline.specs.Steps as outline
-use Rattle.causes.specs.Given.{Given, value, flags, columns, nothing, given, Refuses, NoCause, For, ofValue, HighByte, Claims, ofOutline}
+use Rattle.causes.specs.Causes.{Rightly}
+use Rattle.causes.specs.Given.{Given, value, flags, columns, nothing, given, Anywhere, NoCause, For, ofValue, HighByte, Claims, ofOutline}
 use Rattle.causes.proofs.Messages.{ascii-byte, fixed-cases}
-use Rattle.causes.proofs.Refuses.{Blames, refuses-carry, blames-fine, blames-bad, blames-test, blames-also, blames-pick, blames-text, blames-note, blames-utf8}
+use Rattle.causes.proofs.Verdicts.{Blames, rightly-carry, blames-fine, blames-bad, blames-test, blames-also, blames-pick, blames-text, blames-note, blames-utf8}
 
 ruleset laws = (blames-fine, blames-test, blames-also, blames-pick, blames-text, blames-note, blames-utf8, refl)
 
@@ -103,20 +104,20 @@ faults-blamed closeTable st size = blames-fine
 faults-blamed finishReply st size = blames-fine
 
 -- whatever the state and the buffer are
-pub step-rightly : (s : Step) (st : State) (b : List ℕ) → Refuses (Claims (given s)) (step s st b .answer)
+pub step-rightly : (s : Step) (st : State) (b : List ℕ) → Rightly (Anywhere (Claims (given s))) (step s st b .answer)
 unfolding step
 step-rightly s st b =
     let always = plain (given s) in
-    refuses-carry (plan s st (length b)) st b (always .0) (always .1) (always .2) (faults-blamed s st (length b))
+    rightly-carry (plan s st (length b)) st b (always .0) (always .1) (always .2) (faults-blamed s st (length b))
 
 -- the logins are given nothing that may break such a rule
-pub request-rightly : (version hashVersion : ℕ) (service user hash b : List ℕ) → Refuses (Claims nothing) (loginRequest version hashVersion service user hash b .answer)
+pub request-rightly : (version hashVersion : ℕ) (service user hash b : List ℕ) → Rightly (Anywhere (Claims nothing)) (loginRequest version hashVersion service user hash b .answer)
 unfolding loginRequest requestFault
-request-rightly version hashVersion service user hash b = refuses-carry _ _ b refl refl refl (search laws depth 10)
+request-rightly version hashVersion service user hash b = rightly-carry _ _ b refl refl refl (search laws depth 10)
 
-pub response-rightly : (version result : ℕ) (w : Welcome) (b : List ℕ) → Refuses (Claims nothing) (loginResponse version result w b .answer)
+pub response-rightly : (version result : ℕ) (w : Welcome) (b : List ℕ) → Rightly (Anywhere (Claims nothing)) (loginResponse version result w b .answer)
 unfolding loginResponse responseFault
-response-rightly version result w b = refuses-carry _ _ b refl refl refl (search laws depth 10)
+response-rightly version result w b = rightly-carry _ _ b refl refl refl (search laws depth 10)
 
 -- the steps of an area
 outline-plain : (s : outline.Step) (st : Outline) → ofOutline s st WrongStage × ofOutline s st Limit × ofOutline s st Output
@@ -133,8 +134,8 @@ outline-blamed (outline.addVertex x y z) st size = blames-fine
 outline-blamed (outline.closeRing kept) st size = blames-test (leb fewestVertices (st .vertices)) Geography (st .position) (λ few. few)
 outline-blamed (outline.finishArea kept) st size = blames-test (leb 1 (st .rings)) Geography (st .position) (λ few. few)
 
-pub outline-rightly : (s : outline.Step) (st : Outline) (b : List ℕ) → Refuses (ofOutline s st) (outline.step s st b .answer)
+pub outline-rightly : (s : outline.Step) (st : Outline) (b : List ℕ) → Rightly (Anywhere (ofOutline s st)) (outline.step s st b .answer)
 unfolding outline.step
 outline-rightly s st b =
     let always = outline-plain s st in
-    refuses-carry (outline.plan s st (length b)) st b (always .0) (always .1) (always .2) (outline-blamed s st (length b))
+    rightly-carry (outline.plan s st (length b)) st b (always .0) (always .1) (always .2) (outline-blamed s st (length b))

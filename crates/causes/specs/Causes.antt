@@ -30,9 +30,13 @@ Holds (either c d) s p = Holds c s p ⊎ Holds d s p
 Holds other s p = Unit
 Holds never s p = ⊥
 
--- a list is refused rightly, if it is: what the refusal claims holds there
-pub record Rightly (claim : Fault → Claim) (s : List ℕ) {A : Type 0} (r : Res A) : Type 0 where
-  pub claims : (f : Fault) (p : ℕ) → r ≡ no f p → Holds (claim f) s p
+-- what the refusals of a list claim there
+abbrev pub There : (Fault → Claim) → List ℕ → Fault → ℕ → Type 0
+There claim s f p = Holds (claim f) s p
+
+-- an answer refuses rightly, if it refuses: P says what has to hold for a fault at a place
+pub record Rightly (P : Fault → ℕ → Type 0) {A : Type 0} (r : Res A) : Type 0 where
+  pub holds : (f : Fault) (p : ℕ) → r ≡ no f p → P f p
 
 -- what a table claims of a fault; one that isn't there isn't given
 abbrev claimIn : List (Fault × Claim) → Fault → Claim

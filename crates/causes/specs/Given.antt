@@ -9,7 +9,7 @@ use lib.ListN.{length, getD}
 use lib.Dec.{leb, eqb}
 use Rattle.format.specs.declared.Fault.{Fault}
 use Rattle.format.specs.declared.Fault.the-variants.{Decimal, Point, Flags, Name, Geography}
-use Rattle.format.specs.Result.{Res, no, pick, numberOf}
+use Rattle.format.specs.Result.{pick, numberOf}
 use Rattle.format.specs.Value.{Value, fixed, body, decimalFine, pointFine, nameByteFine, tDecimal, tPoint, tGeography}
 use Rattle.format.specs.Message.{flagsFine}
 use Rattle.format.specs.Geography.{fewestVertices}
@@ -43,9 +43,9 @@ given closeRow = nothing
 given closeTable = nothing
 given finishReply = nothing
 
--- a step that is refused has a fault of which B says something
-pub record Refuses (B : Fault → Type 0) {A : Type 0} (r : Res A) : Type 0 where
-  pub refuses : (f : Fault) (p : ℕ) → r ≡ no f p → B f
+-- what holds of a fault wherever it is told: a writer's refusal stands at its position
+abbrev pub Anywhere : (Fault → Type 0) → Fault → ℕ → Type 0
+Anywhere B f p = B f
 
 -- the fault is no cause; or it is the cause g, and X holds
 abbrev pub NoCause : Fault → Type 0

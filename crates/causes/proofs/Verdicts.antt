@@ -1,4 +1,4 @@
--- What a verdict blames, and what an answer refuses for: whatever holds of each fault of the parts holds of the first of them. Every answer of a plan is 13, a fault of its arguments, 3 or 8.
+-- What holds of each fault that the parts of a verdict blame holds of the first of them; and every refusal of a plan is 13, a fault of its arguments, 3 or 8.
 use Prim.Native.Nat.{ℕ, _+_}
 use mathlib.Core.Path.{_≡_, refl, sym, subst}
 use mathlib.Core.Bool.{Bool, true, false, _&&_}
@@ -13,11 +13,12 @@ use Rattle.format.specs.Result.{Res, ok, no, pick}
 use Rattle.format.specs.Format.{Verdict, fine, bad}
 use Rattle.format.specs.Text.{utf8}
 use Rattle.format.specs.Value.{mostBytes}
-use Rattle.format.proofs.Results.{no-ok}
 use Rattle.format.proofs.Texts.{utf8-bad}
 use Rattle.steps.specs.Plans.{Plan, judged, answerOf, outOf, carry, also, test, placed}
 use Rattle.steps.specs.Arguments.{textFault, nullTextFault}
-use Rattle.causes.specs.Given.{Refuses}
+use Rattle.causes.specs.Causes.{Rightly}
+use Rattle.causes.specs.Given.{Anywhere}
+use Rattle.causes.proofs.Rightly.{rightly-ok, rightly-no, rightly-pick}
 
 -- what a verdict refuses for
 pub record Blames (B : Fault → Type 0) (v : Verdict) : Type 0 where
@@ -57,34 +58,25 @@ module _ {B : Fault → Type 0} where
   blames-utf8 text bs = record { blames = λ f p e. subst B (sym (utf8-bad 4 0 bs f p e .0)) text }
 
 -- an answer refuses for 13, the arguments' faults, 3 or 8
-module _ {B : Fault → Type 0} {A : Type 0} where
-  refuses-ok : {a : A} → Refuses B (ok a)
-  refuses-ok = record { refuses = λ f p e. absurd (no-ok (sym e)) }
-
-  refuses-no : (f : Fault) (p : ℕ) → B f → Refuses B {A = A} (no f p)
-  refuses-no f p b = record { refuses = λ g q e. let same : f ≡ g = cc in subst B same b }
-
-  refuses-pick : (t : Bool) {r q : Res A} → Refuses B r → Refuses B q → Refuses B (pick t r q)
-  refuses-pick true b c = b
-  refuses-pick false b c = c
-
 module _ {B : Fault → Type 0} where
-  refuses-judged : (v : Verdict) {r : Res ℕ} → Blames B v → Refuses B r → Refuses B (judged v r)
-  refuses-judged fine b c = c
-  refuses-judged (bad f p) b c = refuses-no f p (b .blames f p refl)
+  rightly-judged : (v : Verdict) {r : Res ℕ} → Blames B v → Rightly (Anywhere B) r → Rightly (Anywhere B) (judged v r)
+  rightly-judged fine b c = c
+  rightly-judged (bad f p) b c = rightly-no f p (b .blames f p refl)
 
-  refuses-answer : {S : Type 0} (p : Plan S) (size : ℕ) → B WrongStage → B Limit → B Output → Blames B (p .faults) → Refuses B (answerOf p size)
-  refuses-answer p size stage limit output b =
+  rightly-answer : {S : Type 0} (p : Plan S) (size : ℕ) → B WrongStage → B Limit → B Output → Blames B (p .faults) → Rightly (Anywhere B) (answerOf p size)
+  rightly-answer p size stage limit output b =
       let reached = p .at + length (p .bytes) in
-      refuses-pick (p .permitted)
-      (refuses-judged (p .faults) b
-      (refuses-pick (p .limits && leb reached (p .most)) (refuses-pick (leb reached size) refuses-ok (refuses-no Output reached output)) (refuses-no Limit (p .at) limit)))
-      (refuses-no WrongStage (p .at) stage)
+      rightly-pick (p .permitted)
+      (λ t. rightly-judged (p .faults) b
+      (rightly-pick (p .limits && leb reached (p .most))
+      (λ t. rightly-pick (leb reached size) (λ t. rightly-ok) (λ t. rightly-no Output reached output))
+      (λ t. rightly-no Limit (p .at) limit)))
+      (λ t. rightly-no WrongStage (p .at) stage)
 
-  refuses-out : {S : Type 0} (r : Res ℕ) (p : Plan S) (st : S) (b : List ℕ) → Refuses B r → Refuses B (outOf r p st b .answer)
-  refuses-out (ok n) p st b h = h
-  refuses-out (no f n) p st b h = h
+  rightly-out : {S : Type 0} (r : Res ℕ) (p : Plan S) (st : S) (b : List ℕ) → Rightly (Anywhere B) r → Rightly (Anywhere B) (outOf r p st b .answer)
+  rightly-out (ok n) p st b h = h
+  rightly-out (no f n) p st b h = h
 
-  pub refuses-carry : {S : Type 0} (p : Plan S) (st : S) (b : List ℕ) → B WrongStage → B Limit → B Output → Blames B (p .faults) → Refuses B (carry p st b .answer)
+  pub rightly-carry : {S : Type 0} (p : Plan S) (st : S) (b : List ℕ) → B WrongStage → B Limit → B Output → Blames B (p .faults) → Rightly (Anywhere B) (carry p st b .answer)
   unfolding carry
-  refuses-carry p st b stage limit output h = refuses-out (answerOf p (length b)) p st b (refuses-answer p (length b) stage limit output h)
+  rightly-carry p st b stage limit output h = rightly-out (answerOf p (length b)) p st b (rightly-answer p (length b) stage limit output h)
