@@ -31,8 +31,8 @@ use Rattle.query.specs.declared.ColumnLayout.{ColumnLayout}
 use Rattle.query.specs.Answers.{perhaps, ofTable, same, columnOf, firstNamed, namedOf, askNamed}
 use Rattle.query.proofs.Opened.{found, found-asked, retold, some-ok}
 use Rattle.query.proofs.Theorems.{finds-first}
-use Rattle.cards.specs.Card.{Card, aCard, cardSize, mostPosition, mostName, Low}
-use Rattle.cards.specs.Answers.{fitting, fits, opened, shortNamed, roomFor, cardOf, askCard, Made}
+use Rattle.cards.specs.Card.{Card, aCard, mostName, Low}
+use Rattle.cards.specs.Answers.{fitting, fits, opened, shortNamed, sizeOf, roomFor, cardOf, askCard, Made}
 
 -- ---- a column of an accepted table can be on a card
 pub few-columns : {m : List ℕ} {at : ℕ} {d : Metadata} → Stands metadata m at d → length (d .types) ≤ mostColumns
@@ -77,7 +77,6 @@ pub record Told (m : List ℕ) (at : ℕ) (b : Table) (i : ℕ) (l : ColumnLayou
   pub starts : l .name ≡ nameAt at (b .metadata) i + 4
   pub inside : l .name + l .«name_length» ≤ length m
   pub part : take (l .«name_length») (drop (l .name) m) ≡ bytes
-  pub near : i ≤ mostPosition
 
 told : {m : List ℕ} {at : ℕ} {b : Table} (i : ℕ) {l : ColumnLayout} → Stands table m at b → columnOf at b i ≡ ok l → Told m at b i l
 told {m} {at} {b} i {l} d e =
@@ -88,7 +87,6 @@ told {m} {at} {b} i {l} d e =
     let n = bound (entry names i) (y .2) in
     let below = entry-below names i (n .1) in
     let all = names-all md in
-    let few-types = few-columns md in
     let few : length (take i names) ≤ length types = omega (arith, length-take-le i names (omega arith)) in
     let here : Stands name m (nameAt at (b .metadata) i) (n .0) = stands-at (omega (arith, name-place at (b .metadata) i few)) (stands-entry third 0 (length types) name names i (names-stand md) (n .1)) in
     let w = name-part (n .0) here in
@@ -101,7 +99,6 @@ told {m} {at} {b} i {l} d e =
       starts = refl;
       inside = omega arith;
       part = ap (λ (k : ℕ). take k (drop (nameAt at (b .metadata) i + 4) m)) size ∙ w .3;
-      near = omega arith;
     })
 
 -- ---- the column at a card's position
@@ -164,7 +161,6 @@ module _ (m : List ℕ) (t : ℕ) (wanted : List ℕ) where
 
   -- where there is one, there is, if its name is short
   pub record Carded (i : ℕ) (l : ColumnLayout) : Type 0 where
-    pub near : i ≤ mostPosition
     pub deep : 4 ≤ l .name
     pub is : askCard m t wanted ≡ shortNamed (l .name - 4) (aCard i (l .«wire_type») wanted)
 
@@ -191,7 +187,7 @@ module _ (m : List ℕ) (t : ℕ) (wanted : List ℕ) where
       ∙ ap (λ (z : Res ℕ). bind z (λ j. bind (entry (b .metadata .types) j) (λ a. shortNamed (nameAt at (b .metadata) j) (aCard j a wanted)))) (n .1)
       ∙ ap (λ (z : Res ℕ). bind z (λ a. shortNamed (nameAt at (b .metadata) (n .0)) (aCard (n .0) a wanted))) (c .typed)
       ∙ ap (λ (z : ℕ). shortNamed z (aCard (n .0) (y .0 .«wire_type») wanted)) (sym place) in
-      carded-as first layout (record { near = c .near; deep = omega arith; is = is })
+      carded-as first layout (record { deep = omega arith; is = is })
 
 -- ---- what is made
 pub made-as : {r s : Res Card} {x : Answer} {before after : List ℕ} → r ≡ s → Made r x before after → Made s x before after
@@ -205,8 +201,8 @@ module _ (place : ℕ) (c : Card) (room : ℕ) where
   too-long h = rw (lt-leb _ _ h)
 
   module _ (short : length (c .name) ≤ mostName) where
-    pub no-room : room < cardSize → bind (shortNamed place c) (roomFor room) ≡ no Output cardSize
+    pub no-room : room < sizeOf c → bind (shortNamed place c) (roomFor room) ≡ no Output (sizeOf c)
     no-room h = rw (le-leb _ _ short, lt-leb _ _ h)
 
-    pub has-room : cardSize ≤ room → bind (shortNamed place c) (roomFor room) ≡ ok c
+    pub has-room : sizeOf c ≤ room → bind (shortNamed place c) (roomFor room) ≡ ok c
     has-room h = rw (le-leb _ _ short, le-leb _ _ h)

@@ -10,11 +10,15 @@ use native.Mathlib.Nat.{zero-add}
 use native.Mathlib.Numerals.{add-one}
 use native.Mathlib.Omega.{arith}
 use Rattle.format.specs.Result.{pick}
+use Rattle.format.specs.Number.{numBytes}
+use Rattle.format.proofs.Numbers.{length-numBytes}
+use Rattle.put.specs.Put.{put}
 use Rattle.text.specs.declared.Found.{Found}
 use Rattle.query.specs.Answers.{same}
 use Rattle.query.proofs.Ends.{EqualFrom, equal-from-end}
 use Rattle.query.proofs.Names.{same-yes, same-no}
-use Rattle.cards.specs.Card.{Card, cardBytes, namePlace, mostName, nameByte, wrongFrom}
+use Rattle.cards.specs.Card.{Card, positionPlace, typePlace, frontBytes, restBytes, mostName, nameByte, wrongFrom}
+use Rattle.cards.specs.declared.Kind.{Kind}
 use Rattle.cards.specs.Shown.{shownWrong}
 
 -- the first wrong byte: of what is left as of all
@@ -76,11 +80,17 @@ zeros-after [] (suc n) (suc j) = zeros-after [] n j
 zeros-after (b ∷ bs) n zero = refl
 zeros-after (b ∷ bs) n (suc j) = zeros-after bs n j
 
-pub byte-after : (c : Card) (k : ℕ) → namePlace ≤ k → getD (cardBytes c) k 0 ≡ getD (c .name) (k - namePlace) 0
+pub byte-after : (c : Card) (k : ℕ) → 2 ≤ k → getD (restBytes c) k 0 ≡ getD (c .name) (k - 2) 0
 byte-after c zero h = absurd (omega arith)
 byte-after c (suc zero) h = absurd (omega arith)
-byte-after c (suc (suc zero)) h = absurd (omega arith)
-byte-after c (suc (suc (suc zero))) h = absurd (omega arith)
-byte-after c (suc (suc (suc (suc j)))) h =
-    let back : suc (suc (suc (suc j))) - namePlace ≡ j = omega arith in
+byte-after c (suc (suc j)) h =
+    let back : suc (suc j) - 2 ≡ j = omega arith in
     rw back (zeros-after (c .name) (mostName - length (c .name)) j)
+
+-- a card's front: its position is put behind its first byte, and then that byte
+pub front-put : (out : List ℕ) (k : Kind) (position : ℕ) → typePlace k ≤ length out → set (put out positionPlace (numBytes (k .width) position)) 0 (k .number) ≡ frontBytes k position ++ drop (typePlace k) out
+unfolding put
+front-put [] k position h = absurd (omega arith)
+front-put (b ∷ out) k position h =
+    let size : positionPlace + length (numBytes (k .width) position) ≡ typePlace k = omega (arith, length-numBytes (k .width) position) in
+    ap (λ (n : ℕ). k .number ∷ (numBytes (k .width) position ++ drop n (b ∷ out))) size

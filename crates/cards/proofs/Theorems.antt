@@ -11,6 +11,7 @@ use lib.Dec.{leb, ltb, eqb}
 use native.Mathlib.Omega.{arith}
 use borrow.Author.Tests.{leb-true, eqb-true, ltb-true, ltb-false, eq-eqb}
 use Rattle.format.specs.declared.Answer.{Answer}
+use Rattle.format.specs.declared.Fault.{Fault}
 use Rattle.format.specs.declared.Fault.the-variants.{Stale, Limit, Output}
 use Rattle.format.specs.Result.{Res, ok, no, bind, pick, toldAnswer}
 use Rattle.format.specs.Number.{Bytes}
@@ -25,9 +26,9 @@ use Rattle.places.proofs.Replies.{table-stands}
 use Rattle.query.specs.Answers.{same, isNamed, firstNamed}
 use Rattle.query.proofs.Names.{same-yes, same-true}
 use Rattle.query.proofs.Theorems.{First, finds-first}
-use Rattle.cards.specs.Card.{Card, aCard, cardForm, cardBytes, cardSize, mostName, GoodCard}
-use Rattle.cards.specs.Answers.{fitting, fits, opened, askOpen, askCard, askMade, written, Made}
-use Rattle.cards.proofs.Forms.{card-size, encodes→form}
+use Rattle.cards.specs.Card.{Card, aCard, cardForm, cardBytes, mostName, GoodCard}
+use Rattle.cards.specs.Answers.{fitting, fits, opened, askOpen, askCard, sizeOf, askMade, written, Made}
+use Rattle.cards.proofs.Forms.{card-size, encodes→form, every-position}
 use Rattle.cards.proofs.Columns.{few-columns, column-type, column-name}
 
 -- a column that has a card's type and name fits it
@@ -98,7 +99,7 @@ made-from m all t wanted c e =
     let md = metadata-stands (table-stands true m all (r .0) (r .1) t (q .1)) in
     let below = entry-below (d .types) (i .0) (y .1) in
     let few = few-columns md in
-    let good : GoodCard (aCard (i .0) (y .0) wanted) = record { near = omega arith; column = column-type md (i .0) (y .1); short = leb-true (length wanted) mostName (w .0); low = column-name md (i .0) (first .there) } in
+    let good : GoodCard (aCard (i .0) (y .0) wanted) = record { held = every-position (i .0) (omega arith); column = column-type md (i .0) (y .1); short = leb-true (length wanted) mostName (w .0); low = column-name md (i .0) (first .there) } in
     source-as (ok-same (w .1)) (record { message = r .0; accepted = r .1; tab = q .0; there = q .1; first = first; type = y .1; name = refl; good = good })
 
 -- and it opens that column
@@ -108,26 +109,26 @@ made-opens m all t wanted c e =
     fits→opens m t (cardBytes c) (s .accepted) (encodes→form c (s .good)) (s .there) (s .type) (s .first .there ∙ ap (λ (z : List ℕ). ok (some z)) (sym (s .name)))
 
 -- what was written is such a card, and no byte past it has changed
-module _ (m : List ℕ) (all : Bytes m) (t : ℕ) (wanted : List ℕ) (x : Answer) (before after : List ℕ) where
-  pub written-opens : (c : Card) → askMade m t wanted (length before) ≡ ok c → Made (ok c) x before after → askOpen m t (take cardSize after) ≡ ok (c .position)
-  written-opens c e w =
+module _ (m : List ℕ) (all : Bytes m) (t : ℕ) (wanted : List ℕ) (x : Answer) (before after : List ℕ) (c : Card) (e : askMade m t wanted (length before) ≡ ok c) (w : Made (ok c) x before after) where
+  made : askCard m t wanted ≡ ok c
+  made =
       let a = bound (askCard m t wanted) e in
-      let same = ok-same (passed (leb cardSize (length before)) Output cardSize (a .2) .1) in
-      let made = a .1 ∙ ap ok same in
-      let s = made-from m all t wanted c made in
-      let front : take cardSize after ≡ cardBytes c = ap (take cardSize) (w .buffer) ∙ take-at (cardBytes c) (drop cardSize before) cardSize (card-size c (s .good .short)) in
+      a .1 ∙ ap ok (ok-same (passed (leb (sizeOf (a .0)) (length before)) Output (sizeOf (a .0)) (a .2) .1))
+
+  size : length (cardBytes c) ≡ sizeOf c
+  size = card-size c (made-from m all t wanted c made .good .short)
+
+  pub written-opens : askOpen m t (take (sizeOf c) after) ≡ ok (c .position)
+  written-opens =
+      let front : take (sizeOf c) after ≡ cardBytes c = ap (take (sizeOf c)) (w .buffer) ∙ take-at (cardBytes c) (drop (sizeOf c) before) (sizeOf c) size in
       ap (askOpen m t) front ∙ made-opens m all t wanted c made
 
-  pub made-keeps : Made (askMade m t wanted (length before)) x before after → drop cardSize after ≡ drop cardSize before
-  made-keeps w = by-card (askMade m t wanted (length before)) refl (w .buffer)
-    where
-      by-card : (r : Res Card) → askMade m t wanted (length before) ≡ r → after ≡ written r before → drop cardSize after ≡ drop cardSize before
-      by-card (ok c) e h =
-          let a = bound (askCard m t wanted) e in
-          let same = ok-same (passed (leb cardSize (length before)) Output cardSize (a .2) .1) in
-          let s = made-from m all t wanted c (a .1 ∙ ap ok same) in
-          ap (drop cardSize) h ∙ drop-at (cardBytes c) (drop cardSize before) cardSize (card-size c (s .good .short))
-      by-card (no f p) e h = ap (drop cardSize) h
+  pub made-keeps : drop (sizeOf c) after ≡ drop (sizeOf c) before
+  made-keeps = ap (drop (sizeOf c)) (w .buffer) ∙ drop-at (cardBytes c) (drop (sizeOf c) before) (sizeOf c) size
+
+-- a refusal changes no byte
+pub refused-keeps : {f : Fault} {p : ℕ} {x : Answer} {before after : List ℕ} → Made (no f p) x before after → after ≡ before
+refused-keeps w = w .buffer
 
 -- two replies whose tables agree in their column count, and in the type and name of a card's column, open the card alike
 module _ (m l : List ℕ) (t u : ℕ) (bs : List ℕ) {r s : Message} {c : Card} {a b : Table}

@@ -13,7 +13,7 @@ use Rattle.format.specs.Message.{Table, readMessage}
 use Rattle.places.specs.Places.{tablesOf, nameAt}
 use Rattle.places.specs.Entries.{entry}
 use Rattle.query.specs.Answers.{ofTable, isNamed, firstNamed}
-use Rattle.cards.specs.Card.{Card, aCard, cardForm, cardBytes, cardSize, mostName}
+use Rattle.cards.specs.Card.{Card, aCard, kindOf, cardForm, cardBytes, cardSize, mostName}
 
 -- whether a column's type and name are the card's
 abbrev pub fitting : Res ℕ → Res (Option (List ℕ)) → Card → Bool
@@ -36,8 +36,11 @@ askOpen m t bs = bind (readMessage 4 m) (λ r. bind (cardForm bs) (λ c. bind (e
 abbrev pub shortNamed : ℕ → Card → Res Card
 shortNamed place c = pick (leb (length (c .name)) mostName) (ok c) (no Limit place)
 
+abbrev pub sizeOf : Card → ℕ
+sizeOf c = cardSize (kindOf (c .position))
+
 abbrev pub roomFor : ℕ → Card → Res Card
-roomFor room c = pick (leb cardSize room) (ok c) (no Output cardSize)
+roomFor room c = pick (leb (sizeOf c) room) (ok c) (no Output (sizeOf c))
 
 -- the card of the first column of a name
 abbrev pub cardOf : ℕ → Table → List ℕ → Res Card
@@ -52,7 +55,7 @@ askMade m t name room = bind (askCard m t name) (roomFor room)
 
 -- what the buffer then is: the card in front and the rest as it was, or all as it was
 abbrev pub written : Res Card → List ℕ → List ℕ
-written (ok c) out = cardBytes c ++ drop cardSize out
+written (ok c) out = cardBytes c ++ drop (sizeOf c) out
 written (no f p) out = out
 
 -- a card, or the refusal of one, as it is answered (by the column's position) and written

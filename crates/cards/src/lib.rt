@@ -19,34 +19,82 @@ ghost use Rattle.format.specs.Result.{no, bind, toldAnswer};
 ghost use Rattle.format.specs.Message.{readMessage, responseLayout};
 ghost use Rattle.scan.specs.Shown.{refusal};
 ghost use Rattle.query.specs.Answers.{ofTable, same};
-ghost use Rattle.cards.specs.Card.{aCard, nameByte, wrongFrom, cardBody, cardForm, cardBytes, cardSize, mostPosition, mostName};
+ghost use Rattle.cards.specs.Card.{aCard, holds, kindOf, nameByte, wrongFrom, cardRest, sized, cardForm, restBytes, frontBytes, bytesIn, cardSize, mostSize, typePlace, namePlace, restSize, mostName};
 ghost use Rattle.cards.specs.Answers.{opened, askOpen, shortNamed, roomFor, askMade, Made};
 ghost use Rattle.cards.specs.Shown.{shownWrong, shownForm};
 
-// How many bytes a card has.
-pub const SIZE: usize = 36;
+// A kind of card: its first byte, how many bytes its position has, and the first and the last position that it holds.
+struct Kind {
+    number: u8,
+    width: usize,
+    low: usize,
+    high: usize,
+}
 
-// The one kind of card, and the most that each of its parts may be.
-const KIND: u8 = 1;
+const NEAR: Kind = Kind {
+    number: 1,
+    width: 1,
+    low: 0,
+    high: 63,
+};
 
-const MOST_POSITION: u8 = 63;
+const FAR: Kind = Kind {
+    number: 2,
+    width: 2,
+    low: 64,
+    high: 1023,
+};
 
 const MOST_NAME: usize = 32;
 
-// Where its parts stand: after the kind, the position, the type, the name's length and the name.
+// Where the position stands; and from the type on, the type, the name's length and the name.
 const POSITION: usize = 1;
 
-const TYPE: usize = 2;
+const TYPE: usize = 0;
 
-const LENGTH: usize = 3;
+const LENGTH: usize = 1;
 
-const NAME: usize = 4;
+const NAME: usize = 2;
+
+const REST: usize = NAME + MOST_NAME;
+
+// The most bytes that a card has.
+pub const MOST_SIZE: usize = 37;
+
+// The kind of a position's card.
+fn kind_of(position: usize) -> Kind
+    ensures { λ r. ⌜ r ≡ kindOf position ⌝ }
+{
+    if position <= NEAR.high { NEAR } else { FAR }
+}
+
+// How many bytes a card of a kind has.
+fn size_of(kind: Kind) -> usize
+    requires { ⌜ kind .width ≤ 8 ⌝ }
+    ensures { λ r. ⌜ r ≡ cardSize kind ⌝ }
+{
+    POSITION + kind.width + REST
+}
+
+// How many bytes the card of a column at a position has.
+pub fn size_at(position: usize) -> usize
+    ensures { λ r. ⌜ (r ≡ cardSize (kindOf position)) × (r ≤ mostSize) ⌝ }
+{
+    size_of(kind_of(position))
+}
+
+// Where the name stands in the card of a column at a position.
+fn name_at(position: usize) -> usize
+    ensures { λ r. ⌜ r ≡ namePlace (kindOf position) ⌝ }
+{
+    size_at(position) - MOST_NAME
+}
 
 // ---- The form of a card.
 
 // What a card says: a position, a type, and how long its name is.
 enum Form {
-    Is(u8, u8, usize),
+    Is(usize, u8, usize),
     No(Refusal),
 }
 
@@ -59,11 +107,21 @@ fn wrong(place: usize) -> Form
     })
 }
 
-// The smaller of a size and a card's.
-fn at_most_size(n: usize) -> usize
-    ensures { λ r. ⌜ r ≡ min n cardSize ⌝ }
+// The smaller of two sizes.
+fn smaller(a: usize, b: usize) -> usize
+    ensures { λ r. ⌜ r ≡ min a b ⌝ }
 {
-    if n < SIZE { n } else { SIZE }
+    if a < b { a } else { b }
+}
+
+// Whether a kind holds a position.
+fn is_held(kind: Kind, position: usize) -> bool
+    ensures { λ r. ⌜ r ≡ holds kind position ⌝ }
+{
+    if position < kind.low {
+        return false;
+    }
+    position <= kind.high
 }
 
 // Whether byte k from the name's start is right: low in the name, 0 after it.
@@ -98,42 +156,54 @@ fn padded(s: &[u8], k: usize) -> u8
     if k < s.len() { s[k] } else { 0 }
 }
 
-// What stands after the kind of a card that has its kind and size right.
-fn read_body(card: &[u8]) -> Form
-    requires { ⌜ length (now card) ≡ cardSize ⌝ }
-    ensures { λ r. ⌜ r ≡ shownForm (cardBody (now (card .entry))) ⌝ }
+// What the bytes from the type on say, which stands at a place, of a card that has its size and its position.
+fn read_rest(rest: &[u8], at: usize, position: usize) -> Form
+    requires { ⌜ (length (now rest) ≡ restSize) × (at ≤ 10) ⌝ }
+    ensures { λ r. ⌜ r ≡ shownForm (cardRest at position (now (rest .entry))) ⌝ }
 {
-    let position = card[POSITION];
-    if MOST_POSITION < position {
-        return wrong(POSITION);
-    }
-    let wire_type = card[TYPE];
+    let wire_type = rest[TYPE];
     if !scan::is_column(wire_type) {
-        return wrong(TYPE);
+        return wrong(at);
     }
-    let size = card[LENGTH] as usize;
+    let size = rest[LENGTH] as usize;
     if MOST_NAME < size {
-        return wrong(LENGTH);
+        return wrong(at + LENGTH);
     }
-    let Found::At(k) = wrong_byte(&card[NAME..], size) else {
+    let Found::At(k) = wrong_byte(&rest[NAME..], size) else {
         return Form::Is(position, wire_type, size);
     };
-    wrong(NAME + k)
+    wrong(at + NAME + k)
+}
+
+// What a card of a kind says: its size decides, then its position, then the rest.
+fn read_sized(card: &[u8], kind: Kind) -> Form
+    requires { ⌜ kind .width ≤ 8 ⌝ }
+    ensures { λ r. ⌜ r ≡ shownForm (sized kind (now (card .entry))) ⌝ }
+{
+    let size = size_of(kind);
+    if card.len() != size {
+        return wrong(smaller(card.len(), size));
+    }
+    let position = scan::number_at(card, POSITION, kind.width) as usize;
+    if !is_held(kind, position) {
+        return wrong(POSITION);
+    }
+    let at = POSITION + kind.width;
+    read_rest(&card[at..], at, position)
 }
 
 // What a card says, or the first byte that breaks its form.
 fn read_card(card: &[u8]) -> Form
     ensures { λ r. ⌜ r ≡ shownForm (cardForm (now (card .entry))) ⌝ }
 {
-    let kind = padded(card, 0);
-    let smaller = at_most_size(card.len());
-    if kind != KIND {
-        return wrong(0);
+    let first = padded(card, 0);
+    if first == NEAR.number {
+        return read_sized(card, NEAR);
     }
-    if card.len() != SIZE {
-        return wrong(smaller);
+    if first == FAR.number {
+        return read_sized(card, FAR);
     }
-    read_body(card)
+    wrong(0)
 }
 
 // ---- Opening.
@@ -211,8 +281,9 @@ pub fn open_card(m: &[u8], t: usize, card: &[u8]) -> Answer
     match form {
         Form::No(r) => after_message(m, true, r),
         Form::Is(position, wire_type, size) => {
-            let end = NAME + size;
-            open_at(m, true, t, position as usize, wire_type, &card[NAME..end])
+            let start = name_at(position);
+            let end = start + size;
+            open_at(m, true, t, position, wire_type, &card[start..end])
         }
     }
 }
@@ -222,35 +293,50 @@ pub fn open_card(m: &[u8], t: usize, card: &[u8]) -> Answer
 // How many bytes the length of a name has in a message.
 const LENGTH_SIZE: usize = 4;
 
-// Byte k of a card.
-fn card_byte(position: u8, wire_type: u8, name: &[u8], k: usize) -> u8
+// Byte k of a card from its type on.
+fn rest_byte(wire_type: u8, name: &[u8], k: usize) -> u8
     requires { ⌜ length (now name) ≤ mostName ⌝ }
-    ensures { λ r. ⌜ r ≡ getD (cardBytes (aCard position «wire_type» (now (name .entry)))) k 0 ⌝ }
+    ensures { λ r. ⌜ r ≡ getD (restBytes (aCard 0 «wire_type» (now (name .entry)))) k 0 ⌝ }
 {
     match k {
-        0 => KIND,
-        POSITION => position,
         TYPE => wire_type,
         LENGTH => name.len() as u8,
         _ => padded(name, k - NAME),
     }
 }
 
-// Writes a card to the start of a buffer that has room for it.
-fn write_card(out: &mut [u8], position: u8, wire_type: u8, name: &[u8])
-    requires { ⌜ (cardSize ≤ length (now out)) × (length (now name) ≤ mostName) ⌝ }
-    ensures { λ _. ⌜ now (out .exit) ≡ cardBytes (aCard position «wire_type» (now (name .entry))) ++ drop cardSize (now (out .entry)) ⌝ }
+// Writes a card from its type on, to the start of a buffer that has room for it.
+fn write_rest(out: &mut [u8], wire_type: u8, name: &[u8])
+    requires { ⌜ (restSize ≤ length (now out)) × (length (now name) ≤ mostName) ⌝ }
+    ensures { λ _. ⌜ now (out .exit) ≡ restBytes (aCard 0 «wire_type» (now (name .entry))) ++ drop restSize (now (out .entry)) ⌝ }
 {
     let mut k = 0;
-    while k < SIZE {
-        out[k] = card_byte(position, wire_type, name, k);
+    while k < REST {
+        out[k] = rest_byte(wire_type, name, k);
         k += 1;
     }
 }
 
+// Writes the kind of a card and its position, to the start of a buffer that has room for them.
+fn write_front(out: &mut [u8], kind: Kind, position: usize)
+    requires { ⌜ typePlace kind ≤ length (now out) ⌝ }
+    ensures { λ _. ⌜ now (out .exit) ≡ frontBytes kind position ++ drop (typePlace kind) (now (out .entry)) ⌝ }
+{
+    put::number_at(out, POSITION, position as u64, kind.width);
+    out[0] = kind.number;
+}
+
+// Writes a card of a kind to the start of a buffer that has room for it.
+fn write_card(out: &mut [u8], kind: Kind, position: usize, wire_type: u8, name: &[u8])
+    requires { ⌜ (kind .width ≤ 8) × (cardSize kind ≤ length (now out)) × (length (now name) ≤ mostName) ⌝ }
+    ensures { λ _. ⌜ now (out .exit) ≡ bytesIn kind (aCard position «wire_type» (now (name .entry))) ++ drop (cardSize kind) (now (out .entry)) ⌝ }
+{
+    write_front(out, kind, position);
+    write_rest(&mut out[POSITION + kind.width..], wire_type, name);
+}
+
 // Makes the card of a column whose name's length stands at a place, if the name is short enough and there is room.
 fn put_card(out: &mut [u8], place: usize, position: usize, wire_type: u8, name: &[u8]) -> Answer
-    requires { ⌜ position ≤ mostPosition ⌝ }
     ensures { λ r. ⌜ Made (bind (shortNamed place (aCard position «wire_type» (now (name .entry)))) (roomFor (length (now (out .entry))))) r (now (out .entry)) (now (out .exit)) ⌝ }
 {
     if MOST_NAME < name.len() {
@@ -259,13 +345,15 @@ fn put_card(out: &mut [u8], place: usize, position: usize, wire_type: u8, name: 
             place,
         });
     }
-    if out.len() < SIZE {
+    let kind = kind_of(position);
+    let size = size_of(kind);
+    if out.len() < size {
         return Answer::No(Refusal {
             fault: Fault::Output,
-            place: SIZE,
+            place: size,
         });
     }
-    write_card(out, position as u8, wire_type, name);
+    write_card(out, kind, position, wire_type, name);
     Answer::Is(position)
 }
 

@@ -6,54 +6,57 @@ use format::Answer;
 use frames::Frame;
 use libc::STDOUT_FILENO;
 use query::CellAnswer;
+use query::Part;
 use query::TableAnswer;
 use show::Cell;
 ghost use mathlib.Core.Path.{_≡_};
 ghost use Prim.Native.Nat.{_+_, _≤_};
 ghost use lib.ListN.{length};
 ghost use Rattle.format.specs.Result.{toldAnswer};
+ghost use Rattle.cards.specs.Card.{mostSize};
 ghost use Rattle.cards.specs.Answers.{askOpen};
 ghost use Rattle.query.specs.Answers.{toldTable, askTable, askPosition, toldCell, askCell};
 
 // The engine that is asked for.
 const ENGINE: i32 = 2;
 
-// The numbers of a field: offset, size, field number, three indices; and how many fields a window has.
-const NUMBERS: usize = 6;
-
-const WINDOW: usize = 512;
-
-// The field number of a cell.
-const CELL: u64 = 51;
-
 // A proved loop has to end, and nothing says that the input does. So this one counts its turns down, from a number that no
 // run uses up.
 fn main() {
-    let mut card = [0u8; cards::SIZE];
-    if !make_card(&mut card) {
+    let mut card = [0u8; cards::MOST_SIZE];
+    let size = make_card(&mut card);
+    if size == 0 {
         return;
     }
     let mut turns = u64::MAX;
-    while turns > 0 && open_next(&card) {
+    while turns > 0 && open_next(&card[..size]) {
         turns -= 1;
     }
 }
 
-// Makes the card of the limit's column from the first reply, and asks that reply too. Answers whether it was made.
-fn make_card(card: &mut [u8]) -> bool {
+// Makes the card of the limit's column from the first reply, and asks that reply too. Answers how many bytes the card has; 0 if none was made.
+fn make_card(card: &mut [u8]) -> usize
+    requires { ⌜ mostSize ≤ length (now card) ⌝ }
+    ensures { λ r. ⌜ r ≤ mostSize ⌝ }
+{
     let mut frame = [0u8; 65537];
     let read = frames::next(&mut frame);
     let Frame::Is(n) = read else {
-        return false;
+        return 0;
     };
     let reply = &frame[..n];
     let made = cards::make_card(reply, 0, b"THROTTLE_LIMIT", card);
-    if let Answer::No(refusal) = made {
-        listing::print_refusal(refusal);
-        return false;
+    match made {
+        Answer::No(refusal) => {
+            listing::print_refusal(refusal);
+            0
+        }
+        Answer::Is(position) => {
+            let size = cards::size_at(position);
+            open(reply, &card[..size]);
+            size
+        }
     }
-    open(reply, card);
-    true
 }
 
 // Opens the card over the next reply, and answers whether there was one.
@@ -92,7 +95,7 @@ fn print_limit(reply: &[u8], column: usize) {
     }
     word(b" column ", column as u64);
     word(b", row ", row as u64);
-    print_place(reply, row as u64, column as u64);
+    print_place(reply, row, column);
 }
 
 // The row of the engine, or how many rows there are if none is its.
@@ -161,37 +164,14 @@ fn cell_of(reply: &[u8], row: usize, column: usize) -> CellAnswer
     held::cell(held::reader(reply, 0), row, column)
 }
 
-// Looks a cell up in the field list, and prints where its bytes stand and who owns the first of them.
-fn print_place(reply: &[u8], row: u64, column: u64) {
-    let mut numbers = [0u64; WINDOW * NUMBERS];
-    fields::window(4, reply, 0, &mut numbers);
-    let at = find_cell(&numbers, row, column);
-    if numbers.len() - at < NUMBERS {
-        return;
+// Prints where a cell's bytes stand and who owns the first of them.
+fn print_place(reply: &[u8], row: usize, column: usize) {
+    let place = query::cell_place(reply, 0, row, column);
+    if let Part::Is(at, size) = place {
+        word(b": ", size as u64);
+        word(b" bytes from ", at as u64);
+        print_owner(reply, at);
     }
-    word(b": ", numbers[at + 1]);
-    word(b" bytes from ", numbers[at]);
-    print_owner(reply, numbers[at] as usize);
-}
-
-// Where the six numbers of a cell's field start, or the end.
-fn find_cell(numbers: &[u64], row: u64, column: u64) -> usize
-    ensures { λ r. ⌜ r ≤ length (now (numbers .entry)) ⌝ }
-{
-    let mut at = 0;
-    while NUMBERS <= numbers.len() - at {
-        if is_cell(numbers, at, row, column) {
-            return at;
-        }
-        at += NUMBERS;
-    }
-    numbers.len()
-}
-
-fn is_cell(numbers: &[u64], at: usize, row: u64, column: u64) -> bool
-    requires { ⌜ at + 6 ≤ length (now numbers) ⌝ }
-{
-    numbers[at + 2] == CELL && numbers[at + 4] == row && numbers[at + 5] == column
 }
 
 fn print_owner(reply: &[u8], offset: usize) {

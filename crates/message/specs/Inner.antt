@@ -9,14 +9,14 @@ use Rattle.format.specs.declared.Fault.the-variants.{Short, Negative, Limit, Ex
 use Rattle.format.specs.Result.{Res, ok, no, bind, pick}
 use Rattle.format.specs.Number.{half}
 use Rattle.format.specs.Format.{Format, number}
-use Rattle.format.specs.Message.{Metadata, Table, inMetadata, inTable, mostMessage}
+use Rattle.format.specs.Message.{Metadata, metadata, Table, inMetadata, inTable, mostColumns, mostMessage}
 
 -- what stands in the rooms of a table, shut
 unfoldable pub described : Format Metadata
-described = inMetadata
+described = inMetadata mostColumns
 
 unfoldable pub contents : Format Table
-contents = inTable
+contents = inTable metadata
 
 -- the length of a message, which must be that of what follows
 unfoldable pub measured : List ℕ → Res (ℕ × ℕ)

@@ -29,11 +29,7 @@ sub-put-card c =
     w .deep
 
 put-card-requires : tie.Need-put-card-requires
-put-card-requires c κs =
-    let a = c .before .before .before .before .before .before .before .before .before .args in
-    let all = bytes-all (a .m .now) (λ k. omega (arith, c .before .before .before .before .before .before .before .before .shared-slice-known .given k)) in
-    let w = carded (a .m .now) (a .t) (a .name .now) all (sym (ap toldNamed (c .before .before .before .named2 .given .1)) ∙ c .before .before .before .before .before .named-column .ensures) in
-    w .near
+put-card-requires c κs = search needs
 
 returns : tie.Need-returns
 returns c =

@@ -18,13 +18,13 @@ after-message-requires c κs = search needs
 enum-known-form-2 : tie.Need-enum-known-form-2
 enum-known-form-2 c = search needs
 
+name-at-requires : tie.Need-name-at-requires
+name-at-requires c κs = search needs
+
 add-end : tie.Need-add-end
 add-end c =
-    let a = c .before .before .before .before .before .before .args in
-    omega (arith, name-fits (a .m .now) (a .t) (a .card .now) (form-is _ (c .before .before .before .read-card .ensures) (c .before .form2 .given .1)))
-
-cast-open-at : tie.Need-cast-open-at
-cast-open-at c = search needs
+    let a = c .before .before .before .before .before .before .before .args in
+    omega (arith, c .name-at .ensures, name-fits (a .m .now) (a .t) (a .card .now) (form-is _ (c .before .before .before .before .read-card .ensures) (c .before .before .form2 .given .1)))
 
 sub-open-at : tie.Need-sub-open-at
 sub-open-at c = search needs
@@ -34,8 +34,8 @@ part-open-at-start c = search needs
 
 part-open-at-end : tie.Need-part-open-at-end
 part-open-at-end c =
-    let a = c .before .before .before .before .before .before .args in
-    omega (arith, name-fits (a .m .now) (a .t) (a .card .now) (form-is _ (c .before .before .before .read-card .ensures) (c .before .form2 .given .1)))
+    let a = c .before .before .before .before .before .before .before .args in
+    omega (arith, c .name-at .ensures, name-fits (a .m .now) (a .t) (a .card .now) (form-is _ (c .before .before .before .before .read-card .ensures) (c .before .before .form2 .given .1)))
 
 open-at-requires : tie.Need-open-at-requires
 open-at-requires c κs = search needs
@@ -47,8 +47,8 @@ returns c =
 
 returns-2 : tie.Need-returns-2
 returns-2 c =
-    let a = c .before .before .before .before .before .before .before .before .args in
-    c .open-at .ensures ∙ opens-as (a .m .now) (a .t) (a .card .now) (form-is _ (c .before .before .before .before .before .read-card .ensures) (c .before .before .before .form2 .given .1))
+    let a = c .before .before .before .before .before .before .before .before .before .args in
+    c .open-at .ensures ∙ opens-as (a .m .now) (a .t) (a .card .now) (form-is _ (c .before .before .before .before .before .before .read-card .ensures) (c .before .before .before .before .form2 .given .1)) _ (c .before .before .name-at .ensures)
 
 pub open-card-spec : {M : Type 1} → statement M
 open-card-spec =
@@ -58,8 +58,8 @@ open-card-spec =
     enum-known-form
     after-message-requires
     enum-known-form-2
+    name-at-requires
     add-end
-    cast-open-at
     sub-open-at
     part-open-at-start
     part-open-at-end

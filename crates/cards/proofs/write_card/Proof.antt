@@ -1,72 +1,51 @@
--- `cards::write_card` meets its contract: after k turns the first k bytes of the card stand in front. Assumes nothing.
-use Prim.Native.Nat.{ℕ, _-_, _≤_}
-use mathlib.Core.Path.{_≡_, _∙_, ap}
-use mathlib.Core.List.{List}
+-- `cards::write_card` meets its contract: the front is written, and the rest behind it. Assumes nothing.
+use Rattle.cards.specs.Card.{aCard, frontBytes, restBytes, typePlace, restSize}
+use Rattle.format.proofs.Numbers.{length-numBytes}
+use Rattle.put.proofs.Laws.{front-two}
+use Rattle.cards.proofs.Forms.{rest-size}
 use native.Mathlib.Omega.{arith}
-use lib.ListN.{length, set, getD, length-set}
-use lib.Seq.{paste, paste-zero}
-use Rattle.cards.specs.Card.{aCard, cardBytes, cardSize}
-use Rattle.cards.proofs.Forms.{card-size}
-use Rattle.cards.proofs.Loops.{copied-more, copied-all}
 use borrow.Author.Needs.{needs}
 use Rattle.cards.proofs.write_card.Statement.{statement}
 use Rattle.cards.proofs.write_card.Tie as tie
 
-abbrev Inv-loop : tie.InvT-loop
-Inv-loop out₀ position wire-type name k₀ out k = (k ≤ cardSize) × (length out ≡ length out₀) × (out ≡ paste out₀ 0 (cardBytes (aCard position wire-type name)) k)
+write-front-requires : tie.Need-write-front-requires
+write-front-requires c κs = search needs
 
-abbrev μ-loop : tie.MeasureT-loop
-μ-loop out₀ position wire-type name k₀ out k = cardSize - k
+add-write-rest : tie.Need-add-write-rest
+add-write-rest c = search needs
 
-loop-holds : tie.Need-loop-holds Inv-loop μ-loop
-loop-holds c = (search needs, search needs, paste-zero _ 0 (cardBytes (aCard (c .before .before .args .position) (c .before .before .args .wire-type) (c .before .before .args .name .now))))
+sub-write-rest : tie.Need-sub-write-rest
+sub-write-rest c = search needs
 
-card-byte-requires : tie.Need-card-byte-requires Inv-loop μ-loop
-card-byte-requires c κs = search needs
+part-write-rest-start : tie.Need-part-write-rest-start
+part-write-rest-start c = search needs
 
-slice-write-out : tie.Need-slice-write-out Inv-loop μ-loop
-slice-write-out c = search needs
+part-write-rest-end : tie.Need-part-write-rest-end
+part-write-rest-end c = search needs
 
-add-k : tie.Need-add-k Inv-loop μ-loop
-add-k c = search needs
+write-rest-requires : tie.Need-write-rest-requires
+write-rest-requires c κs = search needs
 
-loop-less : tie.Need-loop-less Inv-loop μ-loop
-loop-less c = search needs
-
-loop-again : tie.Need-loop-again Inv-loop μ-loop
-loop-again c =
-    let l = c .before .before .loop in
-    let a = c .before .before .before .before .before .args in
-    let card = aCard (a .position) (a .wire-type) (a .name .now) in
-    let size = card-size card (c .before .before .before .before .before .pre .1) in
-    let room = c .before .before .before .before .before .pre .0 in (
-      search needs,
-      simp length-set (l .inv .1),
-      ap (λ (z : ℕ). set (l .out) (l .k) z) (c .card-byte .ensures)
-          ∙ ap (λ (zs : List ℕ). set zs (l .k) (getD (cardBytes card) (l .k) 0)) (l .inv .2)
-          ∙ copied-more (a .out .now) (cardBytes card) (l .k) (omega (arith, c .before .loop-test .taken)) (omega arith),
-    )
-
-same-length : tie.Need-same-length Inv-loop μ-loop
+same-length : tie.Need-same-length
 same-length c = search needs
 
-returns : tie.Need-returns Inv-loop μ-loop
+returns : tie.Need-returns
 returns c =
-    let a = c .before .before .before .before .args in
-    let card = aCard (a .position) (a .wire-type) (a .name .now) in
-    c .before .loop .inv .2 ∙ copied-all (a .out .now) (cardBytes card) cardSize (c .before .loop .k) (card-size card (c .before .before .before .before .pre .1)) (omega arith)
+    let k = c .before .before .before .before .before .before .before .before .before .before .before in
+    let a = k .args in
+    front-two (a .out .now) (frontBytes (a .kind) (a .position)) (restBytes (aCard (a .position) (a .wire-type) (a .name .now))) _ _ (typePlace (a .kind)) restSize
+    (omega (arith, length-numBytes (a .kind .width) (a .position))) (rest-size (aCard (a .position) (a .wire-type) (a .name .now)) (k .pre .2)) (k .pre .1)
+    (c .before .before .before .before .before .before .before .write-front .ensures) (c .before .before .write-rest .ensures)
 
 pub write-card-spec : {M : Type 1} → statement M
 write-card-spec =
     tie.close
     (tie.spec
-    Inv-loop
-    μ-loop
-    loop-holds
-    card-byte-requires
-    slice-write-out
-    add-k
-    loop-less
-    loop-again
+    write-front-requires
+    add-write-rest
+    sub-write-rest
+    part-write-rest-start
+    part-write-rest-end
+    write-rest-requires
     same-length
     returns)

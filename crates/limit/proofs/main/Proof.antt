@@ -1,13 +1,16 @@
 -- `limit::main` is safe and ends. The measure is the number of turns that are left; nothing has to hold from turn to turn.
+use mathlib.Core.Path.{sym}
+use native.Mathlib.Omega.{arith}
+use lib.Seq.{length-take-le}
 use borrow.Author.Needs.{needs}
 use Rattle.limit.proofs.main.Statement.{statement}
 use Rattle.limit.proofs.main.Tie as tie
 
 abbrev Inv-loop : tie.InvT-loop
-Inv-loop card turns₀ turns = Unit {0}
+Inv-loop card size turns₀ turns = Unit {0}
 
 abbrev μ-loop : tie.MeasureT-loop
-μ-loop card turns₀ turns = turns
+μ-loop card size turns₀ turns = turns
 
 slice-aggregate-make-card : tie.Need-slice-aggregate-make-card Inv-loop μ-loop
 slice-aggregate-make-card c = search needs
@@ -21,8 +24,11 @@ returns c = search needs
 loop-holds : tie.Need-loop-holds Inv-loop μ-loop
 loop-holds c = search needs
 
+array-share-prefix-card : tie.Need-array-share-prefix-card Inv-loop μ-loop
+array-share-prefix-card c = search needs
+
 slice-aggregate-open-next : tie.Need-slice-aggregate-open-next Inv-loop μ-loop
-slice-aggregate-open-next c = search needs
+slice-aggregate-open-next c = sym (length-take-le (c .before .before .before .before .before .make-card .result) _ (omega (arith, c .before .before .before .before .before .make-card .ensures, c .before .before .before .before .before .make-card .kept .0)))
 
 open-next-requires : tie.Need-open-next-requires Inv-loop μ-loop
 open-next-requires c κs = search needs
@@ -52,6 +58,7 @@ main-spec =
     make-card-requires
     returns
     loop-holds
+    array-share-prefix-card
     slice-aggregate-open-next
     open-next-requires
     sub-turns

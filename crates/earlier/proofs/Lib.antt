@@ -1,0 +1,3 @@
+-- The proofs: what a reading of a longer table keeps, format by format (Readings), and so that replies are accepted and cards opened and made as before (Theorems).
+pub mod Readings
+pub mod Theorems
