@@ -38,6 +38,9 @@ kind-near p h = rw (and-true-both (leb (near .low) p) (leb p (near .high)) h .1)
 pub kind-far : (p : ℕ) → holds far p ≡ true → kindOf p ≡ far
 kind-far p h = rw (lt-leb p (near .high) (omega (arith, leb-true (far .low) p (and-true-both (leb (far .low) p) (leb p (far .high)) h .0))))
 
+pub held-once : (p : ℕ) → holds near p ≡ true → holds far p ≡ true → ⊥
+held-once p n f = absurd (let z : near .number ≡ far .number = ap (λ (k : Kind). k .number) (sym (kind-near p n) ∙ kind-far p f) in omega arith)
+
 pub every-position : (p : ℕ) → p < mostColumns → holds (kindOf p) p ≡ true
 every-position p few = go (leb p (near .high)) refl
   where

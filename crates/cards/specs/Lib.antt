@@ -1,4 +1,5 @@
--- `Answers` is what the public contracts cite: what making and opening a card come to. `Card` is a card's form and bytes; `Shown` is for inner functions alone.
+-- `Answers` is what the public contracts cite: what making and opening a card come to. `Card` is a card's form and bytes, with `Cases` of both kinds; `Shown` is for inner functions alone.
 pub mod Answers
 pub mod Card
+pub mod Cases
 pub mod Shown

@@ -19,7 +19,7 @@ ghost use Rattle.format.specs.Result.{no, bind, toldAnswer};
 ghost use Rattle.format.specs.Message.{readMessage, responseLayout};
 ghost use Rattle.scan.specs.Shown.{refusal};
 ghost use Rattle.query.specs.Answers.{ofTable, same};
-ghost use Rattle.cards.specs.Card.{aCard, holds, kindOf, nameByte, wrongFrom, cardRest, sized, cardForm, restBytes, frontBytes, bytesIn, cardSize, mostSize, typePlace, namePlace, restSize, mostName};
+ghost use Rattle.cards.specs.Card.{aCard, holds, kindOf, nameByte, wrongFrom, cardRest, sized, cardForm, restBytes, frontBytes, bytesIn, cardSize, mostSize, positionPlace, typePlace, namePlace, restSize, mostName};
 ghost use Rattle.cards.specs.Answers.{opened, askOpen, shortNamed, roomFor, askMade, Made};
 ghost use Rattle.cards.specs.Shown.{shownWrong, shownForm};
 
@@ -59,7 +59,7 @@ const NAME: usize = 2;
 const REST: usize = NAME + MOST_NAME;
 
 // The most bytes that a card has.
-pub const MOST_SIZE: usize = 37;
+pub const MOST_SIZE: usize = POSITION + FAR.width + REST;
 
 // The kind of a position's card.
 fn kind_of(position: usize) -> Kind
@@ -158,7 +158,7 @@ fn padded(s: &[u8], k: usize) -> u8
 
 // What the bytes from the type on say, which stands at a place, of a card that has its size and its position.
 fn read_rest(rest: &[u8], at: usize, position: usize) -> Form
-    requires { ⌜ (length (now rest) ≡ restSize) × (at ≤ 10) ⌝ }
+    requires { ⌜ (length (now rest) ≡ restSize) × (at ≤ positionPlace + 8) ⌝ }
     ensures { λ r. ⌜ r ≡ shownForm (cardRest at position (now (rest .entry))) ⌝ }
 {
     let wire_type = rest[TYPE];
