@@ -1,46 +1,152 @@
-"""Shortcut cards, as paper 01 says them.
+"""Shortcut cards, as paper 01 and request 6 say them: near ones for the first columns of a table, far ones for those behind.
 
-    card_of(position, type, name)     ->  the bytes of a card
-    broken_at(card)                   ->  the first byte that breaks its form; None if it has it
-    opened(table, card)               ->  the position that a card of the right form opens in a table of a record, or None
-    edges()                           ->  cards with one byte changed to every other, and of every size up to some more than they have
+    FORMS, NEAR, FAR                        the two kinds: each with its kind byte, how many bytes its position has, and which positions these can be
+    form_at(position)                   ->  the kind of card that a column has
+    card_of(position, type, name)       ->  the bytes of its card
+    broken_at(card)                     ->  the first byte that breaks its form; None if it has it
+    opened(table, card)                 ->  the position that a card of the right form opens in a table of a record, or None
+    edges()                             ->  cards of both kinds, each fitting `wide_table`, with one byte changed to every other, with another
+                                            position, of another kind, and of every size up to some more than they have
 """
+
+from typing import NamedTuple
 
 from wire import *
 
-KIND, SIZE, NAME_AT, MOST_NAME = 1, 36, 4, 32
+MOST_NAME = 32
+POSITION_AT = 1  # behind the kind byte
+
+
+class Form(NamedTuple):
+    """Behind the position stand the type and the name's length, a byte each, and then the name and zeros."""
+    kind: int
+    width: int
+    lowest: int
+    highest: int
+
+    @property
+    def type_at(self):
+        return POSITION_AT + self.width
+
+    @property
+    def name_at(self):
+        return self.type_at + 2
+
+    @property
+    def size(self):
+        return self.name_at + MOST_NAME
+
+    def spelled(self, position, wire_type, name):
+        """A card of this kind, whether the position may be there or not."""
+        return bytes([self.kind]) + position.to_bytes(self.width, "big") + bytes([wire_type % 256, len(name)]) + name.ljust(MOST_NAME, b"\0")
+
+    def parts(self, card):
+        """The position, the type, the name's length, and the bytes behind it."""
+        position = int.from_bytes(card[POSITION_AT:self.type_at], "big")
+        return position, card[self.type_at], card[self.type_at + 1], card[self.name_at:]
+
+
+NEAR, FAR = FORMS = Form(1, 1, 0, 63), Form(2, 2, 64, MOST_COLUMNS - 1)
+MOST_SIZE = max(form.size for form in FORMS)
+NEAR_COLUMNS = FAR.lowest  # the most columns whose cards are all near
+
+
+def form_at(position):
+    (form,) = (form for form in FORMS if form.lowest <= position <= form.highest)
+    return form
+
+
+def form_of(card):
+    """The kind of card that its first byte says; None if that is none."""
+    return next((form for form in FORMS if card[:1] == bytes([form.kind])), None)
 
 
 def card_of(position, wire_type, name):
-    return bytes([KIND, position, wire_type % 256, len(name)]) + name.ljust(MOST_NAME, b"\0")
+    return form_at(position).spelled(position, wire_type, name)
 
 
 def broken_at(card):
     """The kind byte, then the size, then the rest."""
-    if not card or card[0] != KIND:
+    form = form_of(card)
+    if form is None:
         return 0
-    if len(card) != SIZE:
-        return min(len(card), SIZE)
-    _, position, wire_type, size, *rest = card
-    if position >= MOST_COLUMNS:
-        return 1
+    if len(card) != form.size:
+        return min(len(card), form.size)
+    position, wire_type, size, rest = form.parts(card)
+    if not form.lowest <= position <= form.highest:
+        return POSITION_AT
     if wire_type not in COLUMN_TYPES:
-        return 2
+        return form.type_at
     if size > MOST_NAME:
-        return 3
+        return form.type_at + 1
     wrong = (at for at, byte in enumerate(rest) if (byte > 127 if at < size else byte != 0))
-    return next((NAME_AT + at for at in wrong), None)
+    return next((form.name_at + at for at in wrong), None)
 
 
 def opened(table, card):
-    position, wire_type, size = card[1:NAME_AT]
-    kept = (wire_type, card[NAME_AT:NAME_AT + size])
-    return position if list(zip(table["types"], table["names"]))[position:position + 1] == [kept] else None
+    position, wire_type, size, rest = form_of(card).parts(card)
+    if position >= len(table["types"]):
+        return None
+    return position if (table["types"][position], table["names"][position]) == (wire_type, rest[:size]) else None
+
+
+# -- Cards at the edges of their form.
+
+# Positions at both ends of each kind, and where the second byte of a far one turns over; the bytes of the last one, exchanged, are a position too.
+POSITIONS = (0, 1, NEAR.highest, FAR.lowest, FAR.lowest + 1, 255, 256, FAR.highest - 1, FAR.highest, 0x0102)
+TRIED_WHOLE = (NEAR.highest, 0x0102)  # where each byte is changed to every other; elsewhere to those at some edge
+EDGE_BYTES = (0, 1, 2, 3, 27, 32, 33, 63, 64, 127, 128, 255)
+KIND_BYTES = (0, NEAR.kind, FAR.kind, 3, 255)
+LONGEST = 80
+
+
+def wide_table(columns=MOST_COLUMNS):
+    """A table whose columns all differ."""
+    types = [COLUMN_TYPES[c % len(COLUMN_TYPES)] for c in range(columns)]
+    return {"status": 0, "types": types, "names": [wide_name(c) for c in range(columns)], "rows": []}
+
+
+def wide_name(column):
+    """Its number, behind so many letters that names have 4 to 32 bytes; at the last column of 32 the most."""
+    return b"N" * (column % 32 * (MOST_NAME - 4) // 31) + b"%04d" % column
 
 
 def edges():
-    for name in (b"NAME", b"n" * MOST_NAME):
-        card = card_of(1, BIGINT, name)
-        for at in range(SIZE):
-            yield from (card[:at] + bytes([byte]) + card[at + 1:] for byte in range(256))
-        yield from ((card + bytes(9))[:size] for size in range(SIZE + 9))
+    fitting = wide_table()
+    for position in POSITIONS:
+        card = card_of(position, fitting["types"][position], fitting["names"][position])
+        yield card
+        yield from with_bytes_changed(card, range(256) if position in TRIED_WHOLE else EDGE_BYTES)
+        yield from with_another_position(card)
+        yield from of_another_kind(card)
+    for kind in KIND_BYTES:
+        for card in (card_of(NEAR.highest, BIGINT, b"n" * MOST_NAME), card_of(FAR.lowest, BIGINT, b"n" * MOST_NAME), b""):
+            long_one = bytes([kind]) + card[1:].ljust(LONGEST, b"\0")
+            yield from (long_one[:size] for size in range(LONGEST + 1))
+
+
+def with_bytes_changed(card, others):
+    for at in range(len(card)):
+        yield from (card[:at] + bytes([byte]) + card[at + 1:] for byte in others)
+
+
+def with_another_position(card):
+    """With the bytes of its position exchanged; and with others, the next ones and those at each edge, whether its kind has them or not."""
+    form = form_of(card)
+    position, *_ = form.parts(card)
+    most = 256**form.width - 1
+    others = {position - 1, position + 1, *POSITIONS, MOST_COLUMNS, 2**15, most}
+    for place in (card[POSITION_AT:form.type_at][::-1], *(other.to_bytes(form.width, "big") for other in sorted(others) if 0 <= other <= most)):
+        yield card[:POSITION_AT] + place + card[form.type_at:]
+
+
+def of_another_kind(card):
+    """The other kind's byte before the same bytes, with the size as it was and as that kind has it; and the same column by the other kind, where
+    its position has room there."""
+    (other,) = (form for form in FORMS if form != form_of(card))
+    changed = bytes([other.kind]) + card[1:]
+    yield changed
+    yield changed.ljust(other.size, b"\0")[:other.size]
+    position, wire_type, size, rest = form_of(card).parts(card)
+    if position < 256**other.width:
+        yield other.spelled(position, wire_type, rest[:size])

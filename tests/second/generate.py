@@ -1,7 +1,8 @@
 """Messages made up from a seed: valid ones of every kind, ones with values that break their own rules, and damaged ones whose damage is aimed at
 a chosen field.
 
-    messages(count, seed)  ->  (kind, message) pairs, the same ones for the same seed
+    messages(count, seed)       ->  (kind, message) pairs, the same ones for the same seed
+    wide_messages(count, seed)  ->  the same, of replies that have a table with more columns than those
 
 Fields are chosen by their number first, so that rare fields are damaged as often as frequent ones, and values that are to break their rules by what
 they are and where they stand. Points and texts have more than their share: much is nearly null, or nearly text. Some names are nearly equal.
@@ -12,6 +13,7 @@ import math
 import random
 import struct
 
+from cards import NEAR_COLUMNS
 from encoder import encode
 from generate_texts import CHARACTERS, TORN
 from reader import Refused, read
@@ -23,6 +25,11 @@ def messages(count, seed):
     return [maker.message() for _ in range(count)]
 
 
+def wide_messages(count, seed):
+    maker = Maker(random.Random(seed))
+    return [maker.wide_message() for _ in range(count)]
+
+
 class Maker:
     def __init__(self, rng):
         self.rng = rng
@@ -32,15 +39,26 @@ class Maker:
         twice."""
         while True:
             kind = self.rng.choice((1, 2, 3, 3, 3, 4, 4, 4, 4, 4))
-            record = self.record(kind)
-            turn = self.rng.random()
-            if 0.33 < turn < 0.45:
-                self.spoil(kind, record)
-            message = encode(kind, record)
-            if turn > 0.45:
-                kind, message = self.damaged(kind, message)
-            if turn > 0.90:
-                kind, message = self.damaged(kind, message)
+            kind, message = self.encoded(kind, self.record(kind))
+            if len(message) <= MOST_LISTED:
+                return kind, message
+
+    def encoded(self, kind, record):
+        turn = self.rng.random()
+        if 0.33 < turn < 0.45:
+            self.spoil(kind, record)
+        message = encode(kind, record)
+        if turn > 0.45:
+            kind, message = self.damaged(kind, message)
+        if turn > 0.90:
+            kind, message = self.damaged(kind, message)
+        return kind, message
+
+    def wide_message(self):
+        """One with a wide table, in which one of eight has a column too many."""
+        while True:
+            record = self.wide_record(MOST_COLUMNS + 1 if self.rng.random() < 0.125 else None)
+            kind, message = self.encoded(REPLY, record)
             if len(message) <= MOST_LISTED:
                 return kind, message
 
@@ -83,9 +101,19 @@ class Maker:
             return ARRAY, (TINYINT, self.blob())
         return ARRAY, (element_type, [self.value(element_type) for _ in range(self.size(60))])
 
-    def table(self):
+    def wide_record(self, columns=None):
+        """A reply with a table of so many columns, or of some number of them that is permitted, among others; behind some the same one, nearly."""
         rng = self.rng
-        columns = rng.choice((0, 1, 1, 2, 2, 3, 3, 4, 5, 8, rng.randint(0, 64), rng.randint(0, 64), 64))
+        record = self.record(REPLY)
+        wide = self.table(columns or rng.choice((*MANY_COLUMNS, rng.randint(NEAR_COLUMNS + 1, MOST_COLUMNS))))
+        at = rng.randint(0, len(record["tables"]))
+        record["tables"][at:at] = [wide, self.twin(wide)] if rng.random() < 0.3 else [wide]
+        return record
+
+    def table(self, columns=None):
+        rng = self.rng
+        if columns is None:
+            columns = rng.choice((0, 1, 1, 2, 2, 3, 3, 4, 5, 8, rng.randint(0, NEAR_COLUMNS), rng.randint(0, NEAR_COLUMNS), NEAR_COLUMNS))
         types = [rng.choice(COLUMN_TYPES) for _ in range(columns)]
         family = self.name() if rng.random() < 0.3 else None
         names = [self.name() if family is None else self.nearly(family) for _ in range(columns)]
@@ -110,7 +138,7 @@ class Maker:
 
     def filled(self, types, names):
         columns = len(types)
-        rows = self.size(400 if columns < 3 else 20 if columns < 12 else 4)
+        rows = self.size(400 if columns < 3 else 20 if columns < 12 else 4) if columns <= NEAR_COLUMNS else self.rng.choice((0, 1, 1, 2))
         return {"status": self.integer(1), "types": types, "names": names,
                 "rows": [[self.value(wire_type) for wire_type in types] for _ in range(rows)]}
 
@@ -282,7 +310,7 @@ class Maker:
     def other_length(self, old, size):
         """Off by one or a few, negative, at a limit and just beyond it, huge, or anything."""
         rng = self.rng
-        limits = (MOST_MESSAGE, MOST_BODY, MOST_ROW, MOST_COLUMNS, MOST_ITEMS, MOST_LISTED)
+        limits = (MOST_MESSAGE, MOST_BODY, MOST_ROW, NEAR_COLUMNS, MOST_COLUMNS, MOST_ITEMS, MOST_LISTED)
         new = rng.choice((
             old + 1, old - 1, old + 4, old - 4, old + rng.randint(-9, 9), 0, -1, -2,
             rng.choice(limits), rng.choice(limits) + 1, 2 ** (8 * size - 1) - 1, -(2 ** (8 * size - 1)),
@@ -431,6 +459,9 @@ def rooms_of(message, fields):
     starts = [at + 4 for at, _, number, *_ in fields if number in (F_LENGTH, F_TABLE, F_METADATA, F_ROW)]
     return [(start, start + int.from_bytes(message[start - 4:start], "big")) for start in starts]
 
+
+# How many columns a wide table has: where cards become far ones, where the lower byte of a position turns over, and the most.
+MANY_COLUMNS = (NEAR_COLUMNS + 1, 255, 256, 257, 400, MOST_COLUMNS - 1, MOST_COLUMNS)
 
 LENGTHS_AND_COUNTS = (
     F_LENGTH, F_SERVICE, F_USER, F_BUILD, F_PROCEDURE, F_PARAMETERS, F_ELEMENTS, F_VALUE, F_STATUS_STRING,

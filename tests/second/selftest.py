@@ -4,8 +4,8 @@
 What is accepted encodes to the same bytes and its fields tile it; every fault that reading can find is found in every field
 where the paper lets it be, and values that break their own rules wherever such a value can be; null points, and all that is nearly one, are met
 wherever a point can be, and characters, and all that is nearly one, wherever a text can be; what text is, Python's codec says too; the limits hold to
-the byte. The same of geographies' bodies; turning their holes twice restores them, and document 000's own is read at the places that it prints. What
-was refused is counted (tally.py), by the second reader's answers.
+the byte, and to the column; each column has one card, which opens it and nothing else. The same of geographies' bodies; turning their holes twice
+restores them, and document 000's own is read at the places that it prints. What was refused is counted (tally.py), by the second reader's answers.
 """
 
 import itertools
@@ -14,13 +14,15 @@ import sys
 from collections import Counter
 
 import areas
+import cards
 import generate_areas
+import generate_columns
 import generate_texts
 import generate_values
 import wire_poly
 from encoder import encode
 from frames import frame, swept
-from generate import IN_RANGE, NEARLY_NULL, messages
+from generate import IN_RANGE, NEARLY_NULL, messages, wide_messages
 from listing import listing
 from reader import Refused, read
 from tally import Tally
@@ -57,7 +59,7 @@ def main():
     seed = int(sys.argv[2]) if len(sys.argv) > 2 else 1
     tally = Tally("selftest", must=OF_READING if count >= 20000 else ())
     at_fields, causes, listed, points = Counter(), Counter(), Counter(), Counter()
-    for kind, message in messages(count, seed):
+    for kind, message in (*messages(count, seed), *wide_messages(count // 500, seed)):
         try:
             record, fields = read(kind, message)
         except Refused as refusal:
@@ -78,6 +80,8 @@ def main():
     report_causes(count, causes)
     report_points(count, points)
     check_values()
+    check_columns()
+    check_cards()
     check_text()
     check_texts()
     check_order_of_text()
@@ -149,12 +153,62 @@ def verdict(kind, message):
 
 
 def check_values():
+    check_verdicts("values at the edges of their own rules", generate_values.messages())
+
+
+def check_verdicts(what, triples):
     verdicts = Counter()
-    for kind, message, expected in generate_values.messages():
+    for kind, message, expected in triples:
         assert verdict(kind, message) == expected, (kind, message.hex(), expected)
         verdicts[expected if expected == "accepted" else expected[0]] += 1
-    print("  values at the edges of their own rules: %d accepted; refused %s" % (
-        verdicts.pop("accepted"), ", ".join("%d: %d" % pair for pair in sorted(verdicts.items()))))
+    print("  %s: %d accepted; refused %s" % (
+        what, verdicts.pop("accepted"), ", ".join("%d: %d" % pair for pair in sorted(verdicts.items()))))
+
+
+def check_columns():
+    check_verdicts("tables of many columns", generate_columns.messages())
+
+
+def check_cards():
+    """Each column of the widest table has one card, of the size and with the position that request 6 says; no other card opens it, and it opens no other."""
+    table = cards.wide_table()
+    made = [cards.card_of(c, *column) for c, column in enumerate(zip(table["types"], table["names"]))]
+    assert [len(card) for card in made] == [36] * 64 + [37] * 960
+    assert [card[:2] for card in made[:64]] == [bytes([1, c]) for c in range(64)]
+    assert [card[:3] for card in made[64:]] == [bytes([2, c >> 8, c & 255]) for c in range(64, 1024)]
+    for c, card in enumerate(made):
+        assert cards.broken_at(card) is None and cards.opened(table, card) == c, card.hex()
+        shorter = {part: table[part][:c] for part in ("types", "names")}
+        assert cards.opened(shorter, card) is None, card.hex()
+    answers = Counter()
+    for card in set(cards.edges()):
+        wrong = cards.broken_at(card)
+        position = cards.opened(table, card) if wrong is None else None
+        assert position is None or card == made[position], card.hex()
+        answers["broken" if wrong is not None else "stale" if position is None else "fitting"] += 1
+    for card, place in broken_cards():
+        assert cards.broken_at(card) == place, (card.hex(), place)
+    print("  cards at the edges of their form: %s" % ", ".join("%d %s" % (answers[what], what) for what in ("fitting", "stale", "broken")))
+
+
+def broken_cards():
+    """Cards with where they are wrong, in the order in which that is looked for; each fault stands before all that come behind it."""
+    near, far = bytes([1, 63, BIGINT, 1]) + b"n" + bytes(31), bytes([2, 0, 64, BIGINT, 1]) + b"n" + bytes(31)
+    yield from ((b"", 0), (bytes(36), 0), (b"\3" + far[1:], 0), (b"\3", 0), (b"\xff" * 37, 0))
+    for size in range(1, 80):
+        yield from (((card * 3)[:size], min(size, len(card))) for card in (near, far) if size != len(card))
+    yield from ((near, None), (far, None), (b"\2" + near[1:], 36), (b"\1" + far[1:], 36))
+    yield from ((bytes([1, position]) + b"\0\xff" + b"\xff" * 32, 1) for position in (64, 65, 128, 255))
+    yield from ((bytes([2, *position]) + b"\0\xff" + b"\xff" * 32, 1) for position in ((0, 0), (0, 63), (4, 0), (4, 64), (64, 0), (255, 255)))
+    for head, at in ((b"\1\x3f", 2), (b"\2\0\x40", 3), (b"\2\3\xff", 3)):
+        yield from ((head + bytes([wire_type]) + b"\xff" * 33, at) for wire_type in (0, 1, 2, 7, 28, 157, 255))
+        yield from ((head + bytes([BIGINT, size]) + b"\xff" * 32, at + 1) for size in (33, 64, 255))
+        for size in (0, 1, 31, 32):
+            name = b"\x7f" * size + bytes(32 - size)
+            yield head + bytes([BIGINT, size]) + name, None
+            for wrong in range(32):
+                byte = b"\x80" if wrong < size else b"\1"
+                yield head + bytes([BIGINT, size]) + name[:wrong] + byte + b"\xff" * (31 - wrong), at + 2 + wrong
 
 
 def check_text():
@@ -240,8 +294,9 @@ def check_limits():
 
     assert verdict(REPLY, answer([STRING, STRING], [most, bytes(MOST_BODY - 8)])) == "accepted"
     assert verdict(REPLY, answer([STRING, STRING], [most, bytes(MOST_BODY - 7)])) == (LIMIT, 47)
-    assert verdict(REPLY, answer([TINYINT] * 64, [1] * 64)) == "accepted"
-    assert verdict(REPLY, answer([TINYINT] * 65, [1] * 65)) == (LIMIT, 31)
+    for columns in (64, 65, 1024):
+        assert verdict(REPLY, answer([TINYINT] * columns, [1] * columns)) == "accepted"
+    assert verdict(REPLY, answer([TINYINT] * 1025, [1] * 1025)) == (LIMIT, 31)
 
 
 def check_frames():
