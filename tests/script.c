@@ -10,7 +10,7 @@ enum {
     CLOSE_ARRAY, FINISH_INVOCATION, OPEN_TABLE, OPEN_ROW, ADD_CELL, CLOSE_ROW, CLOSE_TABLE, FINISH_REPLY
 };
 
-enum { MOST_FRAME = 1 << 22, MOST_BUFFER = 1 << 23, MOST_COLUMNS = 1000, PATTERN = 251 };
+enum { MOST_FRAME = 1 << 22, MOST_BUFFER = 1 << 23, MOST_COLUMNS = 2 * CHALOENPIK_TYPES, PATTERN = 251 };
 
 static uint8_t frame[MOST_FRAME], out[MOST_BUFFER], types[CHALOENPIK_TYPES];
 static uint64_t state[CHALOENPIK_STATE];
@@ -151,18 +151,16 @@ static void show(void) {
     printf("%lu %s\n", state[1], size == 0 ? "-" : hex);
 }
 
-/* The stage, the position, what is open at that stage, and the buffer's checksum. */
+/* The stage, the position, what is open at that stage, and the checksums of all types, whatever is open, and of the buffer. */
 static void print_left(void) {
     enum { CALL = 1, ARRAY = 2, TABLE = 4, ROW = 5 };
-    uint64_t stage = state[0], columns = state[10];
-    bool in_table = stage == TABLE || stage == ROW;
+    uint64_t stage = state[0];
     printf("%lu %lu", stage, state[1]);
     if (stage >= CALL && stage <= ROW) printf(" %lu %lu", state[2], state[3]);
     if (stage == ARRAY) printf(" %lu %lu %lu", state[4], state[5], state[6]);
     if (stage == ROW) printf(" %lu %lu", state[4], state[6]);
-    if (in_table) printf(" %lu %lu %lu ", state[7], state[8], state[9]);
-    for (size_t i = 0; in_table && i < columns && i < CHALOENPIK_TYPES; i++) printf("%02x", types[i]);
-    printf(" %08x\n", checksum(out, size));
+    if (stage == TABLE || stage == ROW) printf(" %lu %lu %lu %lu", state[7], state[8], state[9], state[10]);
+    printf(" %08x %08x\n", checksum(types, sizeof types), checksum(out, size));
 }
 
 static uint64_t stepped(uint8_t name) {

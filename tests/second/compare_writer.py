@@ -2,9 +2,10 @@
 """Runs tests/script.c, which takes the exported steps, and the second writer over the same scripts of steps: compare_writer.py N SEED
 
 Half of the scripts spell a made-up record, into a buffer that is long enough or a little too short, and try what is refused by its own rule (flags,
-names, values, torn texts) before what they spell; the others take wild steps, with wrong arguments, out of order and on forged states. Then come texts
-and values at the edges of their rules, in each step that takes one, and beside other faults and limits. What `script` answers must be what the second
-writer does, line by line: after each step the whole state and the buffer too.
+names, values, torn texts) before what they spell; the others take wild steps, with wrong arguments, out of order and on forged states. Some spell a
+reply with many columns. Then come texts and values at the edges of their rules, in each step that takes one, and beside other faults and limits; and
+tables of many columns, opened and forged. What `script` answers must be what the second writer does, line by line: after each step the whole state,
+all types and the buffer too.
 """
 
 import pathlib
@@ -12,6 +13,7 @@ import random
 import subprocess
 import sys
 
+import column_scripts
 import limit_scripts
 import steps
 import text_scripts
@@ -25,6 +27,7 @@ from writer_test import wild
 ROOT = pathlib.Path(__file__).resolve().parents[2]
 RUN = [ROOT / "tools" / "c" / "kit", "run", ROOT / "target" / "tests" / "script"]
 MOST_BUFFER = 8192
+WIDE_ONES = 6
 
 MUST = (NO_ROOM, LIMIT, LEFT_OVER, BAD_VERSION, BAD_TYPE, OUTPUT_SHORT, PAST_END, WRONG_STAGE, BAD_TEXT, *CAUSES)
 
@@ -37,8 +40,9 @@ def main():
     print("compare_writer: %d scripts, seed %d" % (count, seed), flush=True)
     maker = Maker(random.Random(seed))
     scripts = [spelling(maker) if i % 2 else wild(maker) for i in range(count)]
-    scripts += [script for script, _ in (*text_scripts.by_turns(step=5), *value_scripts.by_turns())]
-    scripts += [script for script, _ in (*text_scripts.in_order(), *value_scripts.in_order(), *limit_scripts.in_order())]
+    scripts += [spelling_wide(maker) for _ in range(WIDE_ONES)]
+    scripts += [script for script, _ in (*text_scripts.by_turns(step=5), *value_scripts.by_turns(), *column_scripts.by_turns())]
+    scripts += [script for script, _ in (*text_scripts.in_order(), *value_scripts.in_order(), *limit_scripts.in_order(), *column_scripts.in_order())]
     data = b"".join(steps.packed(script) for script in scripts)
     found = subprocess.run(RUN, input=data, stdout=subprocess.PIPE, check=True).stdout.decode().splitlines()
     tally, at = Tally("compare_writer", must=MUST), 0
@@ -70,11 +74,18 @@ def spelling(maker):
     while True:
         kind = maker.rng.choice(KINDS)
         record = maker.record(kind)
-        size = len(encode(kind, record))
-        if size < MOST_BUFFER - 50:
-            room = max(0, size + maker.rng.choice((-9, -1, 0, 0, 0, 1, 50)))
-            script = [tried for step in steps.spelled(kind, record) for tried in (*refused_before(maker, step), step)]
-            return [("buffer", (room,)), *script, ("show", ())]
+        if len(encode(kind, record)) < MOST_BUFFER - 50:
+            return spelled(maker, kind, record)
+
+
+def spelling_wide(maker):
+    return spelled(maker, REPLY, maker.wide_record())
+
+
+def spelled(maker, kind, record):
+    room = max(0, len(encode(kind, record)) + maker.rng.choice((-9, -1, 0, 0, 0, 1, 50)))
+    script = [tried for step in steps.spelled(kind, record) for tried in (*refused_before(maker, step), step)]
+    return [("buffer", (room,)), *script, ("show", ())]
 
 
 def refused_before(maker, step):

@@ -8,17 +8,23 @@ from dataclasses import replace
 
 import steps
 from wire import *
-from writer import ARRAY_OPEN, CALL, REPLY_OPEN, ROW_OPEN, TABLE_OPEN, State
+from writer import ARRAY_OPEN, CALL, REPLY_OPEN, ROW_OPEN, TABLE_OPEN, State, typed
 
 MOST_ROOM = MOST_MESSAGE + 4
 
-# What is open, each with nothing in it yet: a call, an array of integers, a reply, a table of one integer, a row of that, and that row with its cell.
+# What is open, each with nothing in it yet: a call, an array of integers, a reply, a table of one integer, a row of that, and that row with its cell; a
+# table of as many integers as can be, and a row of that with all cells but one.
 IN_CALL = State(CALL, 19, 17, 0)
 IN_ARRAY = State(ARRAY_OPEN, 23, 17, 1, 21, INTEGER, 0)
 IN_REPLY = State(REPLY_OPEN, 22, 20, 0)
-IN_TABLE = State(TABLE_OPEN, 42, 20, 1, table_at=22, rows_at=38, types=(INTEGER,))
+IN_TABLE = State(TABLE_OPEN, 42, 20, 1, table_at=22, rows_at=38, **typed(INTEGER))
 IN_ROW = replace(IN_TABLE, stage=ROW_OPEN, position=46, inner_at=42, rows=1)
 FULL_ROW = replace(IN_ROW, position=50, inner_count=1)
+WIDE_TABLE = replace(IN_TABLE, position=37 + 5 * MOST_COLUMNS, rows_at=33 + 5 * MOST_COLUMNS, **typed(*[INTEGER] * MOST_COLUMNS))
+WIDE_ROW = replace(WIDE_TABLE, stage=ROW_OPEN, position=WIDE_TABLE.position + 4 * MOST_COLUMNS, inner_at=WIDE_TABLE.position, rows=1,
+                   inner_count=MOST_COLUMNS - 1)
+FULL_WIDE_ROW = replace(WIDE_ROW, position=WIDE_ROW.position + 4, inner_count=MOST_COLUMNS)
+WIDE_OPENING = "open_table", (0, ((INTEGER, 0, 0),) * MOST_COLUMNS, b"")
 
 # A step, the state that permits it, how many bytes it writes, and the count that it raises, with its limit.
 STEPS = (
@@ -36,8 +42,13 @@ STEPS = (
     (("open_row", ()), IN_TABLE, 4, ("rows", MOST_ROWS)),
     (("close_table", ()), IN_TABLE, 0, None),
     (("add_cell", ((INTEGER, 7),)), IN_ROW, 4, None),
-    (("add_cell", ((STRING, None),)), replace(IN_ROW, types=(STRING,)), 4, None),
+    (("add_cell", ((STRING, None),)), replace(IN_ROW, **typed(STRING)), 4, None),
     (("close_row", ()), FULL_ROW, 0, None),
+    (WIDE_OPENING, IN_REPLY, WIDE_TABLE.position - IN_REPLY.position, ("count", MOST_ITEMS)),
+    (("open_row", ()), WIDE_TABLE, 4, ("rows", MOST_ROWS)),
+    (("close_table", ()), WIDE_TABLE, 0, None),
+    (("add_cell", ((INTEGER, 7),)), WIDE_ROW, 4, None),
+    (("close_row", ()), FULL_WIDE_ROW, 0, None),
 )
 
 
@@ -59,12 +70,13 @@ def at_the_end(step, state, size, _):
     yield reached, [step], (WRONG_STAGE, 0)
 
 
-def past_a_count(step, state, _, counted):
+def past_a_count(step, state, size, counted):
     if counted:
         count, most = counted
-        yield 100, [steps.forging(replace(state, **{count: most - 1})), step], "fine"
-        yield 100, [steps.forging(replace(state, **{count: most})), step], (LIMIT, state.position)
-        yield 100, [steps.forging(replace(state, **{count: most + 1})), step], (WRONG_STAGE, state.position)
+        room = state.position + size
+        yield room, [steps.forging(replace(state, **{count: most - 1})), step], "fine"
+        yield room, [steps.forging(replace(state, **{count: most})), step], (LIMIT, state.position)
+        yield room, [steps.forging(replace(state, **{count: most + 1})), step], (WRONG_STAGE, state.position)
 
 
 def past_a_row(step, state, size, _):

@@ -14,7 +14,7 @@ commas between its entries, `-` if empty.
     open_table STATUS COLUMNS NAMES                     a column is TYPE/START/SIZE
     finish_invocation | open_row | add_cell VALUE | close_row | close_table | finish_reply
     forge STAGE POSITION COUNTAT COUNT INNERAT INNERTYPE INNERCOUNT TABLEAT ROWSAT ROWS COLUMNS TYPES
-                                                        sets the whole state, whatever it is; TYPES are 64 bytes
+                                                        sets the whole state, whatever it is; TYPES are MOST_COLUMNS bytes
     show                                                the position, and the buffer's bytes
 
 What is answered, a line a step: `fine`, or `refused NUMBER PLACE`; for `buffer` and `forge` nothing; for `show` the position, a space
@@ -28,6 +28,7 @@ and 1 before bytes; columns as their number in 4 bytes, then for each its type a
 
 import struct
 import zlib
+from dataclasses import astuple, replace
 
 import encoder
 import writer
@@ -62,7 +63,7 @@ def walked(script):
         if name == "buffer":
             state, buffer = NO_STATE, fresh(*arguments)
         elif name == "forge":
-            state = forged(*arguments)
+            state = State(*arguments)
         elif name == "show":
             answer = "%d %s" % (state.position, buffer.hex() or "-")
         else:
@@ -70,7 +71,8 @@ def walked(script):
                 if name in WHOLE:
                     buffer = WHOLE[name](buffer, *arguments)
                 elif name in BEGINNINGS:
-                    state, buffer = BEGINNINGS[name](buffer, *arguments)
+                    begun, buffer = BEGINNINGS[name](buffer, *arguments)
+                    state = replace(begun, types=state.types)  # it isn't lent them
                 else:
                     state, buffer = STEPS[name](state, buffer, *arguments)
                 answer = "fine"
@@ -116,7 +118,7 @@ def is_body(it):
 
 
 def left(state, buffer):
-    """The stage, the position, what is open at that stage, and the buffer's checksum."""
+    """The stage, the position, what is open at that stage, and the checksums of all types, whatever is open, and of the buffer."""
     s, words = state, [state.stage, state.position]
     if CALL <= s.stage <= ROW_OPEN:
         words += [s.count_at, s.count]
@@ -125,25 +127,13 @@ def left(state, buffer):
     if s.stage == ROW_OPEN:
         words += [s.inner_at, s.inner_count]
     if s.stage in (TABLE_OPEN, ROW_OPEN):
-        words += [s.table_at, s.rows_at, s.rows, bytes(t % 256 for t in s.types[:MOST_COLUMNS]).hex()]
-    return " ".join(map(str, words)) + " %08x" % zlib.crc32(buffer)
-
-
-def forged(*fields):
-    """A whole state. More than 64 columns are too many, whatever their types are."""
-    *numbers, columns, types = fields
-    known = tuple(t - 256 if t > 127 else t for t in types[:columns])
-    return State(*numbers, known if columns <= MOST_COLUMNS else known + (TINYINT,))
+        words += [s.table_at, s.rows_at, s.rows, s.columns]
+    return " ".join(map(str, words)) + " %08x %08x" % (zlib.crc32(s.types), zlib.crc32(buffer))
 
 
 def forging(state, **changes):
-    """The step that sets `state`, with some fields changed; `columns` and `types` (64 bytes) are fields of their own."""
-    fields = dict(state.__dict__, columns=len(state.types))
-    fields["types"] = bytes(t % 256 for t in state.types[:MOST_COLUMNS]).ljust(MOST_COLUMNS, b"\0")
-    fields.update(changes)
-    order = ("stage", "position", "count_at", "count", "inner_at", "inner_type", "inner_count", "table_at", "rows_at", "rows",
-             "columns", "types")
-    return "forge", tuple(fields[name] for name in order)
+    """The step that sets `state`, with some fields changed."""
+    return "forge", astuple(replace(state, **changes))
 
 
 def spelled(kind, record):

@@ -11,7 +11,7 @@ import generate_texts
 import steps
 from encoder import encode
 from wire import *
-from writer import ARRAY_OPEN, CALL, ROW_OPEN, State
+from writer import ARRAY_OPEN, CALL, ROW_OPEN, State, typed
 
 # Which arguments of a step are text. Of the steps that take a value, it is the value if that is a string.
 TEXT_ARGUMENTS = {"login": (2, 3), "login_reply": (6,), "begin_invocation": (1,), "begin_reply": (4, 6)}
@@ -104,7 +104,7 @@ def at_limits():
     full_array = State(ARRAY_OPEN, 23, 17, 1, 21, STRING, MOST_ITEMS)
     long_call = State(CALL, MOST_ROOM - len(TEXT) - 4, 17, 0)
     long_array = State(ARRAY_OPEN, MOST_ROOM - len(TEXT) - 3, 17, 1, 21, STRING, 0)
-    long_row = State(ROW_OPEN, 46 + MOST_ROW - len(TEXT) - 3, 20, 1, 42, 0, 0, 22, 38, 1, (STRING,))
+    long_row = State(ROW_OPEN, 46 + MOST_ROW - len(TEXT) - 3, 20, 1, 42, 0, 0, 22, 38, 1, **typed(STRING))
     for room, state, name in ((100, full_call, "add_value"), (100, full_array, "add_element"), (MOST_ROOM, long_call, "add_value"),
                               (MOST_ROOM, long_array, "add_element"), (MOST_ROOM, long_row, "add_cell")):
         for body, number in ((TORN, BAD_TEXT), (TEXT, LIMIT), (BOTH, LIMIT)):

@@ -9,7 +9,7 @@ import generate_values
 import steps
 from encoder import encode, value
 from wire import *
-from writer import ARRAY_OPEN, CALL, REPLY_OPEN, ROW_OPEN, Bits, State
+from writer import ARRAY_OPEN, CALL, REPLY_OPEN, ROW_OPEN, Bits, State, typed
 
 
 def by_turns():
@@ -132,7 +132,7 @@ def at_limits():
         full_array = State(ARRAY_OPEN, 23, 17, 1, 21, wire_type, MOST_ITEMS)
         long_call = State(CALL, MOST_ROOM - size, 17, 0)
         long_array = State(ARRAY_OPEN, MOST_ROOM - size + 1, 17, 1, 21, wire_type, 0)
-        long_row = State(ROW_OPEN, 46 + MOST_ROW - size + 1, 20, 1, 42, 0, 0, 22, 38, 1, (wire_type,))
+        long_row = State(ROW_OPEN, 46 + MOST_ROW - size + 1, 20, 1, 42, 0, 0, 22, 38, 1, **typed(wire_type))
         for room, state, name in ((100, full_call, "add_value"), (100, full_array, "add_element"), (MOST_ROOM, long_call, "add_value"),
                                   (MOST_ROOM, long_array, "add_element"), (MOST_ROOM, long_row, "add_cell")):
             yield room, [steps.forging(state), (name, ((wire_type, WRONG[wire_type]),))], (cause, state.position)

@@ -1,4 +1,4 @@
-"""The second writer: paper 01's "Writing", with requests 1, 4 and 5, step by step, in plain Python.
+"""The second writer: paper 01's "Writing", with requests 1, 4, 5 and 6, step by step, in plain Python.
 
 A step takes the state and the buffer and gives (answer, state, buffer): the answer is None, or (number, place), and then state and
 buffer are the same as before. A value is (wire type, value), with values as in reader.py, or the `Bits` of one of a fixed size, as the
@@ -29,7 +29,13 @@ class State:
     table_at: int = 0           # of the open table's length
     rows_at: int = 0            # of its row count
     rows: int = 0
-    types: tuple = ()
+    columns: int = 0            # of the open table
+    types: bytes = bytes(MOST_COLUMNS)  # theirs, and behind them whatever stood there
+
+
+def typed(*types):
+    """The fields of a state whose open table has columns of these types."""
+    return {"columns": len(types), "types": bytes(types).ljust(MOST_COLUMNS, b"\0")}
 
 
 class Bits(int):
@@ -174,8 +180,8 @@ def open_table(state, buffer, status, columns, names):
     check_limit(state.count + 1, MOST_ITEMS, state)
     before = state.position
     state, buffer = append(replace(state, count=state.count + 1), buffer, bytes(4) + encoder.counted(metadata) + bytes(4))
-    types = tuple(wire_type for wire_type, _, _ in columns)
-    return replace(state, stage=TABLE_OPEN, table_at=before, rows_at=state.position - 4, rows=0, types=types), buffer
+    types = bytes(wire_type for wire_type, _, _ in columns) + state.types[len(columns):]
+    return replace(state, stage=TABLE_OPEN, table_at=before, rows_at=state.position - 4, rows=0, columns=len(columns), types=types), buffer
 
 
 def open_row(state, buffer):
@@ -188,7 +194,7 @@ def open_row(state, buffer):
 
 def add_cell(state, buffer, value):
     check_state(state, buffer, ROW_OPEN)
-    if state.inner_count == len(state.types):
+    if state.inner_count == state.columns:
         raise No(WRONG_STAGE, state.position)
     if value[0] != state.types[state.inner_count]:
         raise No(BAD_TYPE, state.position)
@@ -198,7 +204,7 @@ def add_cell(state, buffer, value):
 
 def close_row(state, buffer):
     check_state(state, buffer, ROW_OPEN)
-    if state.inner_count < len(state.types):
+    if state.inner_count < state.columns:
         raise No(WRONG_STAGE, state.position)
     state, buffer = append(state, buffer, b"")
     return replace(state, stage=TABLE_OPEN), fill(buffer, state.inner_at, state.position - state.inner_at - 4, 4)
@@ -219,7 +225,7 @@ def finish_reply(state, buffer):
 def finish(state, buffer):
     state, buffer = append(state, buffer, b"")
     buffer = fill(buffer, 0, state.position - 4, 4)
-    return State(CLOSED, state.position), fill(buffer, state.count_at, state.count, 2)
+    return State(CLOSED, state.position, types=state.types), fill(buffer, state.count_at, state.count, 2)
 
 
 # -- What every step tests.
@@ -241,11 +247,11 @@ def sound(state, room):
         types_in_order = state.inner_type in COLUMN_TYPES and state.inner_type != TINYINT
     if state.stage in (TABLE_OPEN, ROW_OPEN):
         places += [(state.table_at, 4), (state.rows_at, 4)]
-        counts += [(state.rows, MOST_ROWS), (len(state.types), MOST_COLUMNS)]
-        types_in_order = all(wire_type in COLUMN_TYPES for wire_type in state.types)
+        counts += [(state.rows, MOST_ROWS), (state.columns, MOST_COLUMNS)]
+        types_in_order = set(state.types[:state.columns]) <= set(COLUMN_TYPES)
     if state.stage == ROW_OPEN:
         places.append((state.inner_at, 4))
-        counts.append((state.inner_count, len(state.types)))
+        counts.append((state.inner_count, state.columns))
     nexts = [place for place, _ in places[1:]] + [state.position]
     return (state.position <= room and types_in_order
             and all(place + size <= after for (place, size), after in zip(places, nexts))

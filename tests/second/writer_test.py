@@ -5,7 +5,8 @@ The steps that a record spells write its encoding and nothing past it; in a buff
 at the place that it would reach, and changes nothing; a run of wild steps that reaches its end has written an accepted message. A null
 point is written from its numbers and from its bits, and what is nearly one is refused. Text that is torn, and what breaks another rule of its own, is
 refused where the writer stands, behind the faults before it and before those after it, and not looked at where it is left out or may be any bytes; the
-limits hold to the byte. The same of the steps that write a geography's body. What was refused is counted (tally.py), by the second writer's answers.
+limits hold to the byte, and to the column, on forged states too. The same of the steps that write a geography's body. What was refused is counted
+(tally.py), by the second writer's answers.
 """
 
 import random
@@ -15,13 +16,15 @@ from collections import Counter
 import area_calls
 import area_scripts
 import areas
+import column_scripts
 import limit_scripts
 import steps
 import text_scripts
 import value_scripts
 import writer
+from cards import NEAR_COLUMNS
 from encoder import encode
-from generate import IN_RANGE, NEARLY_NULL, Maker
+from generate import IN_RANGE, MANY_COLUMNS, NEARLY_NULL, Maker
 from generate_areas import AreaMaker
 from reader import read
 from tally import Tally
@@ -29,6 +32,9 @@ from wire import *
 
 # The types of what is written. Those whose values have a rule of their own have more than their share.
 TYPES = COLUMN_TYPES + (POINT, STRING, DECIMAL, GEOGRAPHY) * 3
+
+MANY_OR_TOO_MANY = (*MANY_COLUMNS, MOST_COLUMNS + 1)
+NO_COLUMN_TYPES = (ARRAY % 256, NULL, 0)
 
 OF_WRITING = (NO_ROOM, LIMIT, LEFT_OVER, BAD_VERSION, BAD_TYPE, OUTPUT_SHORT, PAST_END, WRONG_STAGE, BAD_TEXT, *CAUSES)
 
@@ -47,6 +53,8 @@ def main():
     for _ in range(count):
         spelled_once(maker)
         wild_once(maker, tally, spoiled)
+    for _ in range(count // 200):
+        check_spelled(maker, REPLY, maker.wide_record())
     check_points()
     check_first_refusals()
     check_order()
@@ -66,9 +74,12 @@ def main():
 def spelled_once(maker):
     kind = maker.rng.choice(KINDS)
     record = maker.record(kind)
+    if len(encode(kind, record)) <= 3000:
+        check_spelled(maker, kind, record)
+
+
+def check_spelled(maker, kind, record):
     message = encode(kind, record)
-    if len(message) > 3000:
-        return
     script = steps.spelled(kind, record)
     spare = maker.rng.choice((0, 1, 50))
     answers, _, buffer = steps.run([("buffer", (len(message) + spare,)), *script])
@@ -117,8 +128,9 @@ def check_points():
 
 
 def check_first_refusals():
-    """The first step that is given torn text, or what breaks another rule of its own, is refused where the writer stands, and changes nothing."""
-    for script, verdict in (*text_scripts.by_turns(step=11), *value_scripts.by_turns()):
+    """The first step that is given torn text, or what breaks another rule of its own, or too many columns, is refused where the writer stands, and
+    changes nothing."""
+    for script, verdict in (*text_scripts.by_turns(step=11), *value_scripts.by_turns(), *column_scripts.by_turns()):
         walk = list(steps.walked(script[:-1]))
         first = next((n for n, (answer, *_) in enumerate(walk) if answer not in (None, "fine")), None)
         assert (first is None) == (verdict == "accepted"), steps.text(script)
@@ -128,7 +140,7 @@ def check_first_refusals():
 
 
 def check_order():
-    for script, answer in (*text_scripts.in_order(), *value_scripts.in_order(), *limit_scripts.in_order()):
+    for script, answer in (*text_scripts.in_order(), *value_scripts.in_order(), *limit_scripts.in_order(), *column_scripts.in_order()):
         *fine, last = steps.run(script)[0]
         assert set(fine) <= {"fine"} and last == answer, (steps.text(script)[:400], fine, last, answer)
 
@@ -183,7 +195,7 @@ def check_area_limits(maker):
 def wild(maker, forging=0.5):
     """A script that begins well and then takes likely and unlikely steps, some with wrong arguments, some on forged states."""
     rng = maker.rng
-    script = [("buffer", (rng.choice((0, 30, 100, 400, 1000, 1000, 4000)),))]
+    script = [("buffer", (rng.choice((0, 30, 100, 400, 1000, 1000, 4000, 12000)),))]
     if rng.random() < 0.15:
         return script + [wild_login(maker), ("show", ())]
     kind = rng.choice((INVOCATION, REPLY))
@@ -200,7 +212,7 @@ def wild(maker, forging=0.5):
         name, arguments = likely(maker, stage, types) if rng.random() < 0.85 else anything(maker)
         script.append((name, arguments))
         _, state, _ = steps.run(script)
-        stage, types = state.stage, (state.types[state.inner_count:] if state.stage == writer.ROW_OPEN else (state.inner_type,))
+        stage, types = state.stage, (state.types[state.inner_count:state.columns] if state.stage == writer.ROW_OPEN else (state.inner_type,))
     return script + [("show", ())]
 
 
@@ -266,15 +278,15 @@ def odd_value(rng, wire_type):
 
 def table(maker):
     rng = maker.rng
-    columns = rng.choice((0, 1, 2, 3, 3, 64, 65))
+    columns = rng.choice((0, 1, 2, 3, 3, NEAR_COLUMNS, NEAR_COLUMNS + 1) if rng.random() < 0.9 else MANY_OR_TOO_MANY)
     names = bytes(rng.choice((65, 66, 127)) for _ in range(rng.randint(0, 12)))
     if rng.random() < 0.15 and names:
         names = names[:-1] + b"\x80"
-    entries = []
+    entries, seldom = [], min(0.03, 0.3 / max(columns, 1))  # so that most wide tables are right too
     for _ in range(columns):
         start = rng.randint(0, len(names))
-        size = rng.randint(0, len(names) - start) if rng.random() < 0.97 else rng.choice((len(names) + 1, 2**32, 2**63))
-        wire_type = rng.choice(TYPES) if rng.random() < 0.98 else rng.choice((ARRAY, NULL, 0))
+        size = rng.randint(0, len(names) - start) if rng.random() > seldom else rng.choice((len(names) + 1, 2**32, 2**63))
+        wire_type = rng.choice(TYPES) if rng.random() > seldom else rng.choice((ARRAY, NULL, 0))
         entries.append((wire_type, start, size))
     return "open_table", (maker.integer(1), tuple(entries), names)
 
@@ -303,15 +315,23 @@ def forgery(rng, state):
         elif field in ("count", "inner_count", "rows"):
             changes[field] = rng.choice((0, 1, 2, 32766, 32767, 32768, 2**31 - 2, 2**31 - 1, 2**31, 2**63))
         elif field == "columns":
-            changes[field] = rng.choice((0, 1, 2, 64, 65, 2**63))
+            changes[field] = rng.choice((0, 1, 2, NEAR_COLUMNS, *MANY_OR_TOO_MANY, 2**63))
         elif field == "types":
-            changes[field] = bytes(rng.choice((*COLUMN_TYPES, *COLUMN_TYPES, *COLUMN_TYPES, 157, 1, 0)) for _ in range(64))
+            changes[field] = forged_types(rng, state.types)
         elif field == "position":
             changes[field] = rng.choice((near, (state.position + 1) % 2**64, state.position - 1 if state.position else 0))
         else:
             value = getattr(state, field)
             changes[field] = rng.choice((near, (value + 1) % 2**64, value - 1 if value else 0))
     return steps.forging(state, **changes)
+
+
+def forged_types(rng, types):
+    """All of them others; or one that isn't a column's, among those of the columns or anywhere."""
+    if rng.random() < 0.5:
+        return bytes(rng.choices((*COLUMN_TYPES, *COLUMN_TYPES, *COLUMN_TYPES, *NO_COLUMN_TYPES), k=MOST_COLUMNS))
+    at = rng.choice((0, 1, 2, NEAR_COLUMNS - 1, NEAR_COLUMNS, MOST_COLUMNS - 1, rng.randrange(MOST_COLUMNS)))
+    return types[:at] + bytes([rng.choice(NO_COLUMN_TYPES)]) + types[at + 1:]
 
 
 if __name__ == "__main__":
