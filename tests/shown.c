@@ -1,13 +1,14 @@
 /* Prints what messages say, by the exported functions, to be held against the second reader. Standard input is a row of frames: 4 bytes
-   of size, big-endian, one byte of kind, a message; or instead of a kind the byte CARD_FRAME, and a card for the message before it.
+   of size, big-endian, one byte of kind, a message; or instead of a kind the byte CARD_FRAME, and a card for the message before it, or MAKE_FRAME, one byte
+   of room and a name whose card is made in it.
    tests/second/compare_shown.py says what is printed. */
 #include "ask.h"
 #include <stdlib.h>
 #include <string.h>
 
-enum { MOST_SIZE = 1 << 23, MOST_NUMBERS = 17, MOST_ENTRIES = 1 << 16, NAME_LENGTH = 46, MARK = 85, SPARE = 4, CARD_FRAME = 100 };
+enum { MOST_SIZE = 1 << 23, MOST_NUMBERS = 17, MOST_ENTRIES = 1 << 16, NAME_LENGTH = 46, MARK = 85, SPARE = 4, CARD_FRAME = 100, MAKE_FRAME };
 
-static uint8_t message[MOST_SIZE], given_card[MOST_SIZE], card[CHALOENPIK_CARD + SPARE];
+static uint8_t message[MOST_SIZE], given[MOST_SIZE], card[CHALOENPIK_FAR_CARD + SPARE];
 static uint64_t numbers[MOST_NUMBERS], entries[CHALOENPIK_ENTRY * MOST_ENTRIES];
 static size_t length, entry_count;
 
@@ -76,23 +77,29 @@ static void invocation(void) {
     for (size_t p = 0; p <= count; p++) parameter(p);
 }
 
-static void open_card(size_t table) { found(ASK(open_card, message, length, table, card, CHALOENPIK_CARD)); }
+static void open_card(size_t table, size_t size) { found(ASK(open_card, message, length, table, card, size)); }
 
-/* The columns that have a name in its own table and in the next; its card, made in too little room and then in enough; and the columns that this opens in
-   both tables. */
-static void name(size_t table, const uint8_t *bytes, size_t size) {
-    found(ASK(find_column, message, length, table, bytes, size));
-    found(ASK(find_column, message, length, table + 1, bytes, size));
+/* Makes the card of a name in so much room, and prints the answer and all bytes that can be written. */
+static bool make_card(size_t table, const uint8_t *bytes, size_t size, size_t room) {
     memset(card, MARK, sizeof card);
-    refused(ASK(make_card, message, length, table, bytes, size, card, CHALOENPIK_CARD - 1));
-    if (!all_marked(card, card + sizeof card)) printf("written on a refusal\n");
-    uint64_t answer = ASK(make_card, message, length, table, bytes, size, card, sizeof card);
-    if (refused(answer)) return;
+    uint64_t answer = ASK(make_card, message, length, table, bytes, size, card, room);
+    bool made = chaloenpik_refusal(answer) == 0;
+    if (!made) printf("refused %u ", chaloenpik_refusal(answer));
     printf("%lu ", chaloenpik_value(answer));
-    for (size_t i = 0; i < CHALOENPIK_CARD; i++) printf("%02x", card[i]);
-    printf("%s\n", all_marked(card + CHALOENPIK_CARD, card + sizeof card) ? "" : " written past the end");
-    open_card(table);
-    open_card(table + 1);
+    for (size_t i = 0; i < sizeof card; i++) printf("%02x", card[i]);
+    printf("\n");
+    return made;
+}
+
+/* The columns that have a name in its own table and in the next; its card, made in a byte too little and then in more than enough; and the columns that this
+   opens in both tables. */
+static void name(size_t table, const uint8_t *bytes, size_t size) {
+    size_t needed = chaloenpik_card_size(found(ASK(find_column, message, length, table, bytes, size)));
+    found(ASK(find_column, message, length, table + 1, bytes, size));
+    make_card(table, bytes, size, needed - 1);
+    if (!make_card(table, bytes, size, sizeof card)) return;
+    open_card(table, needed);
+    open_card(table + 1, needed);
 }
 
 static void names(size_t table) {
@@ -115,7 +122,7 @@ static void table(size_t t) {
     size_t rows = found(ASK(rows, message, length, t)), columns = found(ASK(columns, message, length, t));
     names(t);
     name(t, torn, sizeof torn);
-    open_card(t); /* what isn't even a card */
+    open_card(t, sizeof card); /* what isn't even a card */
     for (size_t c = 0; c <= columns; c++) {
         found(ASK(column_type, message, length, t, c));
         told(ASK(column_name, message, length, t, c, fresh()), 2);
@@ -144,10 +151,12 @@ int main(void) {
     uint8_t head[5];
     while (fread(head, 1, sizeof head, stdin) == sizeof head) {
         size_t size = ((size_t)head[0] << 24 | (size_t)head[1] << 16 | (size_t)head[2] << 8 | head[3]) - 1;
-        bool is_card = head[4] == CARD_FRAME;
-        if (size > MOST_SIZE || fread(is_card ? given_card : message, 1, size, stdin) != size) return 1;
-        if (is_card) found(ASK(open_card, message, length, 0, given_card, size));
-        else length = size, shown(head[4]);
+        bool is_card = head[4] == CARD_FRAME, is_name = head[4] == MAKE_FRAME;
+        if (size > MOST_SIZE || fread(is_card || is_name ? given : message, 1, size, stdin) != size) return 1;
+        if (is_card) found(ASK(open_card, message, length, 0, given, size));
+        else if (!is_name) length = size, shown(head[4]);
+        else if (size == 0 || given[0] > sizeof card) return 1;
+        else make_card(0, given + 1, size - 1, given[0]);
         printf(".\n");
     }
     return 0;

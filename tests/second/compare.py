@@ -1,7 +1,7 @@
 #!/usr/bin/env python3
 """Runs `sweep` and the second reader over the same frames: compare.py N SEED
 
-N made-up ones, the hand-written cases, and those at the edges of a frame's size, of text and of values' own rules.
+N made-up ones, the hand-written cases, and those at the edges of a frame's size, of text, of values' own rules and of how many columns there can be.
 """
 
 import pathlib
@@ -9,11 +9,12 @@ import subprocess
 import sys
 
 import cases
+import generate_columns
 import generate_texts
 import generate_values
 from encoder import encode
 from frames import frame, split
-from generate import messages
+from generate import messages, wide_messages
 from listing import listing
 from tally import Tally
 from wire import *
@@ -42,24 +43,25 @@ def main():
 
 def given(count, seed):
     yield from ((kind, message) for _, kind, message, _ in cases.load())
-    yield from ((kind, message) for kind, message, _ in (*generate_texts.messages(), *generate_values.messages()))
+    yield from ((kind, message) for kind, message, _ in (*generate_texts.messages(), *generate_values.messages(), *generate_columns.messages()))
     yield from messages(count, seed)
+    yield from wide_messages(count // 500, seed)
 
 
 def edges():
-    """Frames at the ends of their size: empty, a kind alone, and messages of 65,536 bytes, with few fields and with as many as can be."""
+    """Frames at the ends of their size: empty, a kind alone, and messages of 65,536 bytes, with few fields and with as many columns as can be."""
     def call(size):
         return encode(INVOCATION, {"version": 0, "procedure": b"", "client_data": bytes(8), "parameters": [(ARRAY, (TINYINT, bytes(size)))]})
 
     def reply(rows, last):
-        rows = [[1] * 64 for _ in range(rows)] + [[1] * 64]
-        table = {"status": 0, "types": [TINYINT] * 64, "names": [b""] * 64, "rows": rows}
+        table = {"status": 0, "types": [TINYINT] * MOST_COLUMNS, "names": [b""] * MOST_COLUMNS, "rows": [[1] * MOST_COLUMNS] * rows}
         text = {"status": 0, "types": [STRING], "names": [b""], "rows": [[bytes(last)]]}
         return encode(REPLY, {"version": 0, "client_data": bytes(8), "flags": 0, "status": 1, "application": 0, "round_trip": 0,
                               "tables": [table, text]})
 
     whole_call = call(MOST_LISTED - len(call(0)))
-    whole_reply = reply(900, MOST_LISTED - len(reply(900, 0)))
+    rows = (MOST_LISTED - len(reply(0, 0))) // (4 + MOST_COLUMNS)
+    whole_reply = reply(rows, MOST_LISTED - len(reply(rows, 0)))
     assert len(whole_call) == len(whole_reply) == MOST_LISTED
     cut = bytes(3) + b"\4" + whole_reply[4:]
     return bytes(4) + b"".join(frame(kind, b"") for kind in range(6)) + b"".join(

@@ -3,8 +3,9 @@
 
 The longest reply, the longest row and the most elements, with null points among the values, and each with its last null point spoiled; a reply
 and a row with one byte more; the longest texts, of ASCII and of the longest characters, and each torn at its end; the longest name, and one with its
-last byte above 127; the longest reply with a flag too many, and with its last decimal or its last geography spoiled. Answers and field lists must
-be equal.
+last byte above 127; the longest reply with a flag too many, and with its last decimal or its last geography spoiled; as many columns as can be, with
+the longest row, and with names that fill the message, and each with its last column spoiled and with a column more. Answers and field lists must be
+equal.
 """
 
 import array
@@ -55,6 +56,14 @@ def messages():
     yield "the longest reply, its last decimal out of range", REPLY, longest_reply(last=(None, MOST_DECIMAL + 1, b"g"))
     yield "the longest reply, its last geography empty", REPLY, longest_reply(last=(None, NULL_DECIMAL, b""))
     yield "the most elements, the last geography empty", INVOCATION, most_elements(GEOGRAPHY, [b"g"] * (MOST_ITEMS - 1) + [b""])
+    yield "the most columns and the longest row", REPLY, widest_row()
+    yield "the most columns and a longer row", REPLY, widest_row(last=b"xx")
+    yield "the most columns and the longest row, its last cell torn", REPLY, widest_row(last=b"\xc3")
+    yield "a column more, and a row of them", REPLY, widest_row(MOST_COLUMNS + 1)
+    yield "the most columns and the longest names", REPLY, widest_names()
+    yield "the most columns and the longest names, the last byte above 127", REPLY, widest_names(last=b"\x80")
+    yield "the most columns and longer names", REPLY, widest_names(last=b"nn")
+    yield "a column more, and names of them", REPLY, widest_names(MOST_COLUMNS + 1)
 
 
 def longest_reply(more=0, flags=0, last=(None, NULL_DECIMAL, b"g")):
@@ -77,15 +86,29 @@ def longest_text(text):
 
 
 def longest_name(end):
-    return reply([TINYINT], [[1]], name=b"C" * (MOST_BODY - 1) + end)
+    return reply([TINYINT], [[1]], names=[b"C" * (MOST_BODY - 1) + end])
+
+
+def widest_row(columns=MOST_COLUMNS, last=b"x"):
+    """A row of texts that are equally long, of which the last ends so."""
+    size = MOST_ROW // MOST_COLUMNS - 4
+    return reply([STRING] * columns, [[b"x" * size] * (columns - 1) + [b"x" * (size - 1) + last]])
+
+
+def widest_names(columns=MOST_COLUMNS, last=b"n"):
+    """Names that are equally long, but for the last, which fills the message and ends so."""
+    names = [b"N" * (MOST_MESSAGE // MOST_COLUMNS - 100)] * (columns - 1)
+    types = [TINYINT] * columns
+    rest = MOST_MESSAGE + 4 - len(reply(types, [], names=[*names, b""]))
+    return reply(types, [], names=[*names, b"n" * (rest - 1) + last])
 
 
 def most_elements(wire_type, elements):
     return encode(INVOCATION, {"version": 1, "procedure": b"Track", "client_data": bytes(8), "parameters": [(ARRAY, (wire_type, elements))]})
 
 
-def reply(types, rows, flags=0, name=b"C"):
-    tables = [{"status": 0, "types": types, "names": [name] * len(types), "rows": rows}]
+def reply(types, rows, flags=0, names=None):
+    tables = [{"status": 0, "types": types, "names": names or [b"C"] * len(types), "rows": rows}]
     return encode(REPLY, {"version": 1, "client_data": bytes(8), "flags": flags, "status": 1, "application": -128, "round_trip": 0, "tables": tables})
 
 

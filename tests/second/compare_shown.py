@@ -1,18 +1,19 @@
 #!/usr/bin/env python3
 """Runs tests/shown.c, which asks the exported functions, and the second reader over the same messages: compare_shown.py N SEED
 
-N made-up ones, the hand-written cases, some at the edges of text and of values' own rules, and some with the longest names. For each message lines
-of numbers, as include/chaloenpik.h orders them, each behind the name of the function that gave them, and a dot:
+N made-up ones, the hand-written cases, some at the edges of text and of values' own rules, some with the longest names, and some with many columns.
+For each message lines of numbers, as include/chaloenpik.h orders them, each behind the name of the function that gave them, and a dot:
 - whether it is accepted; how many fields it has; the length and the checksum of its field list, and the entry behind its last; the owners of its
   first byte, of one in its middle and of the one behind its last;
 - its record;
 - of an invocation, each parameter and after it each element, one more than there are (and one of what is no array); a parameter more;
 - of a response, how many tables it has, and for each one, and one more: how many rows and columns it has; for each column the first of its name in
-  that table and in the next; the answer to making its card in 35 bytes; the card's column and bytes; the columns that the card opens in both tables.
-  The same for a name that isn't even text, and what isn't a card. Then each column's type, and where its name stands, one more than there are; and
-  each row's cells, one more than there are, and a row more than there are, after each cell where its bytes stand.
-A refused message gives its refusal to each of these. Behind some responses stand cards, mostly broken, that are opened in the first table; a line and a
-dot for each.
+  that table and in the next; the answers to making its card in a byte too little and in some more than enough, each with all bytes of the buffer; the
+  columns that the card opens in both tables. The same for a name that isn't even text, and what isn't a card. Then each column's type, and where its
+  name stands, one more than there are; and each row's cells, one more than there are, and a row more than there are, after each cell where its bytes
+  stand.
+A refused message gives its refusal to each of these. Behind some responses stand cards, mostly broken, that are opened in the first table, and names whose
+cards are made in some room; a line and a dot for each.
 """
 
 import pathlib
@@ -24,11 +25,12 @@ import zlib
 
 import cards
 import cases
+import generate_columns
 import generate_texts
 import generate_values
 from encoder import encode
 from frames import frame
-from generate import messages
+from generate import messages, wide_messages
 from reader import Refused, read
 from tally import Tally
 from wire import *
@@ -38,7 +40,9 @@ RUN = [ROOT / "tools" / "c" / "kit", "run", ROOT / "target" / "tests" / "shown"]
 MOST_SIZE = 4096
 FIXED, BYTES, NONE, MANY = range(4)
 TORN_NAME = b"\xc3"
-CARD_FRAME = 100  # stands where a message has its kind
+CARD_FRAME, MAKE_FRAME = 100, 101  # stand where a message has its kind
+BUFFER, MARK = cards.MOST_SIZE + 4, b"\x55"  # the most room that a card is made in, and what stands there before
+ROOMS = (0, cards.NEAR.size - 1, cards.NEAR.size, cards.FAR.size, cards.FAR.size + 1)
 
 # What is asked, by functions: of any message, and of one of a kind if it is refused.
 ASKED_ANY = ("accept", "field_count", "fields", "fields", "owner", "owner", "owner")
@@ -58,9 +62,13 @@ def main():
     found = subprocess.run(RUN, input=data, stdout=subprocess.PIPE, check=True).stdout.decode().split(".\n")
     tally, message = Tally("compare_shown", must=MUST), None
     for (kind, body), one in zip(given, found):
-        if kind != CARD_FRAME:
+        if kind == CARD_FRAME:
+            expected = [message.card_line(body)]
+        elif kind == MAKE_FRAME:
+            expected = [message.made(0, body[1:], body[0])]
+        else:
             message = Shown(kind, body)
-        expected = message.lines() if kind != CARD_FRAME else [message.card_line(body)]
+            expected = message.lines()
         lines = one.splitlines()
         if lines != expected:
             return report(message, expected, lines)
@@ -73,16 +81,17 @@ def main():
 
 
 def frames(count, seed):
-    """What is given to the program: messages, and behind every other response a card."""
+    """What is given to the program: messages, and behind every other response a card and a name."""
     rng = random.Random(seed)
-    for kind, message in (*fixed_messages(), *messages(count, seed)):
-        if len(message) <= MOST_SIZE:
-            yield kind, message
-            if kind == REPLY and rng.random() < 0.5:
-                yield CARD_FRAME, made_up_card(rng, message)
+    small = (one for one in (*fixed_messages(), *messages(count, seed)) if len(one[1]) <= MOST_SIZE)
+    for kind, message in (*small, *many_columns(count, seed)):
+        yield kind, message
+        if kind == REPLY and rng.random() < 0.5:
+            yield CARD_FRAME, made_up_card(rng, message)
+            yield MAKE_FRAME, made_up_name(rng, message)
     yield from longest_names()
-    yield REPLY, twins()
-    yield from ((CARD_FRAME, card) for card in cards.edges())
+    yield from ((REPLY, message) for message in (twins(), wide_twins(), long_names(), equal_names()))
+    yield from cards_by_size()
 
 
 def fixed_messages():
@@ -90,14 +99,37 @@ def fixed_messages():
     yield from ((kind, message) for kind, message, _ in (*generate_texts.messages(step=7), *generate_values.messages()))
 
 
+def many_columns(count, seed):
+    yield from ((kind, message) for kind, message, _ in generate_columns.messages())
+    yield from wide_messages(count // 400, seed)
+
+
+def cards_by_size():
+    """All cards at the edges of their form, in a table that has all columns; those that fit that one also in smaller tables, where some are past the
+    last column; and cards made in each room that may be just enough."""
+    fitting = cards.wide_table()
+    for columns in (0, 1, 2, cards.NEAR_COLUMNS - 1, cards.NEAR_COLUMNS, cards.NEAR_COLUMNS + 1, 256, 257, MOST_COLUMNS - 1):
+        yield REPLY, encode(REPLY, generate_values.reply(0, cards.wide_table(columns)))
+        yield from ((CARD_FRAME, cards.card_of(at, fitting["types"][at], fitting["names"][at])) for at in cards.POSITIONS)
+    yield REPLY, encode(REPLY, generate_values.reply(0, fitting))
+    yield from ((CARD_FRAME, card) for card in cards.edges())
+    yield from ((MAKE_FRAME, bytes([room]) + fitting["names"][at]) for at in cards.POSITIONS for room in ROOMS)
+
+
 def made_up_card(rng, message):
     """The card of a column of the first table, or of one that there isn't; mostly with a byte or two changed, or of another size."""
     types, names = columns_of(message)
-    at = rng.randrange(len(names)) if names else 0
-    card = bytearray(cards.card_of(at, types[at], names[at][:cards.MOST_NAME]) if names else cards.card_of(0, BIGINT, b"N"))
+    at = rng.randrange(len(names)) if names else rng.choice(cards.POSITIONS)
+    card = bytearray(cards.card_of(at, types[at], names[at][:cards.MOST_NAME]) if names else cards.card_of(at, BIGINT, b"N"))
     for _ in range(rng.choice((0, 1, 1, 2))):
-        card[rng.choice((0, 1, 2, 3, 4, rng.randrange(cards.SIZE)))] = rng.choice((0, 1, 2, 27, 32, 33, 63, 64, 127, 128, rng.randrange(256)))
-    return bytes(card[:rng.choice((0, 1, 35))] if rng.random() < 0.1 else card)
+        card[rng.choice((0, 1, 2, 3, 4, rng.randrange(len(card))))] = rng.choice((*cards.EDGE_BYTES, rng.randrange(256)))
+    return bytes(card[:rng.choice((0, 1, len(card) - 1))] if rng.random() < 0.1 else card)
+
+
+def made_up_name(rng, message):
+    """The room for a card, and the name of a column of the first table, or one that it hasn't."""
+    _, names = columns_of(message)
+    return bytes([rng.choice((*ROOMS, rng.randint(0, BUFFER)))]) + rng.choice(names or [b"N"])
 
 
 def columns_of(message):
@@ -114,6 +146,32 @@ def twins():
     one = generate_values.table([BIGINT, BIGINT, STRING], [b"ID", b"NAME", b"NOTE"])
     other = generate_values.table([BIGINT, TINYINT, STRING], [b"ID", b"NAME", b"TEXT"])
     return encode(REPLY, generate_values.reply(0, one, other))
+
+
+def wide_twins():
+    """Tables of as many columns as can be, alike but for the type of some and the name of others; then two with fewer."""
+    one, other = cards.wide_table(), cards.wide_table()
+    for at in cards.POSITIONS[::2]:
+        other["types"][at] = COLUMN_TYPES[(at + 1) % len(COLUMN_TYPES)]
+    for at in cards.POSITIONS[1::2]:
+        other["names"][at] = other["names"][at][:-1] + b"x"
+    fewer = [cards.wide_table(columns) for columns in (cards.NEAR_COLUMNS + 1, cards.NEAR_COLUMNS)]
+    return encode(REPLY, generate_values.reply(0, one, other, *fewer))
+
+
+def long_names():
+    """Columns of both kinds of card, with names that just fit one or just don't."""
+    names = [b"n" * (cards.MOST_NAME - 4 + at % 2) + b"%04d" % at for at in range(2 * cards.NEAR_COLUMNS)]
+    return encode(REPLY, generate_values.reply(0, generate_values.table([BIGINT] * len(names), names)))
+
+
+def equal_names():
+    """Names that stand twice, the first time at one side of where cards become far ones, and then at both."""
+    table = cards.wide_table()
+    first, last = cards.NEAR.highest, cards.FAR.lowest
+    for at, other in ((first, last), (last + 1, MOST_COLUMNS - 1), (first - 1, MOST_COLUMNS - 2)):
+        table["names"][other] = table["names"][at]
+    return encode(REPLY, generate_values.reply(0, table))
 
 
 def longest_names():
@@ -135,10 +193,11 @@ class Shown:
         except Refused as no:
             self.refusal = refused(no.number, no.place)
         self.places = {field[2:]: field[:2] for field in self.fields}
+        self.firsts = [first_places(table["names"]) for table in self.record["tables"]] if kind == REPLY and not self.refusal else []
 
     def lines(self):
         if self.refusal:
-            return [line(call, self.refusal) for call in ASKED_ANY + ASKED_REFUSED.get(self.kind, ())]
+            return [refusal_line(call, self.refusal) for call in ASKED_ANY + ASKED_REFUSED.get(self.kind, ())]
         kinds = {LOGIN: self.login, LOGIN_REPLY: self.login_reply, INVOCATION: self.invocation, REPLY: self.reply}
         return [*self.any(), *kinds[self.kind]()]
 
@@ -194,7 +253,7 @@ class Shown:
             yield from self.table(t, table)
         past = refused(PAST_END, 0)
         for call in ASKED_REFUSED[REPLY][2:]:  # of a table that there isn't; what isn't a card comes before that
-            yield line(call, past if call != "open_card" else refused(BROKEN_CARD, 0))
+            yield refusal_line(call, past if call != "open_card" else refused(BROKEN_CARD, 0))
 
     def table(self, t, table):
         types, names, past = table["types"], table["names"], refused(PAST_END, 0)
@@ -218,21 +277,29 @@ class Shown:
         yield from [line("cell", past), line("cell_place", past)] * (len(types) + 1)
 
     def found(self, t, name):
-        if t == len(self.record["tables"]):
+        if t == len(self.firsts):
             return refused(PAST_END, 0)
-        names = self.record["tables"][t]["names"]
-        return names.index(name) if name in names else refused(NO_COLUMN, 0)
+        return self.firsts[t].get(name, refused(NO_COLUMN, 0))
 
     def card(self, t, name):
-        table = self.record["tables"][t]
-        if name not in table["names"]:
-            return [line("make_card", refused(NO_COLUMN, 0))] * 2
-        at = table["names"].index(name)
+        """What is told of a column's card; of what has none, both refusals."""
+        at = self.found(t, name)
+        if isinstance(at, str) or len(name) > cards.MOST_NAME:
+            return [self.made(t, name, 0), self.made(t, name, BUFFER)]
+        card = cards.card_of(at, self.record["tables"][t]["types"][at], name)
+        return [self.made(t, name, len(card) - 1), self.made(t, name, BUFFER), line("open_card", at), line("open_card", self.opened(t + 1, card))]
+
+    def made(self, t, name, room):
+        """A card that is made in some room: the message's own refusal, then whether there is a table, a column, and whether its name and the card fit."""
+        at = self.refusal or self.found(t, name)
+        if isinstance(at, str):
+            return refusal_line("make_card", at)
         if len(name) > cards.MOST_NAME:
-            return [line("make_card", refused(LIMIT, self.places[F_COLUMN_NAME, t, 0, at][0]))] * 2
-        card = cards.card_of(at, table["types"][at], name)
-        return [line("make_card", refused(OUTPUT_SHORT, cards.SIZE)), line("make_card", "%d %s" % (at, card.hex())), line("open_card", at),
-                line("open_card", self.opened(t + 1, card))]
+            return refusal_line("make_card", refused(LIMIT, self.places[F_COLUMN_NAME, t, 0, at][0]))
+        card = cards.card_of(at, self.record["tables"][t]["types"][at], name)
+        if room < len(card):
+            return refusal_line("make_card", refused(OUTPUT_SHORT, len(card)))
+        return line("make_card", at, card.ljust(BUFFER, MARK).hex())
 
     def opened(self, t, card):
         if t >= len(self.record["tables"]):
@@ -270,6 +337,19 @@ class Shown:
             return 0, 0, 0
         start, size = self.part(field)
         return (1, 0, 0) if size < 0 else (2, start, size)
+
+
+def first_places(names):
+    """Where each name stands first."""
+    places = {}
+    for at, name in enumerate(names):
+        places.setdefault(name, at)
+    return places
+
+
+def refusal_line(call, refusal):
+    """Making a card also tells what stands where it was to be made, and so that nothing was written there."""
+    return line(call, refusal, *([(MARK * BUFFER).hex()] if call == "make_card" else []))
 
 
 def line(call, *told):
