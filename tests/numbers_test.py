@@ -11,6 +11,9 @@ sys.dont_write_bytecode = True
 ROOT = pathlib.Path(__file__).resolve().parents[1]
 sys.path.insert(0, str(ROOT / "tools"))
 
+sys.path.insert(0, str(ROOT / "tests" / "second"))
+
+import cards
 from explain import paper
 
 
@@ -108,6 +111,70 @@ class Calls(unittest.TestCase):
         self.assertEqual(len(GROUPS), len(table("Group", "Calls")))
         for listed in (*GROUPS.values(), *GROUPS_OF.values()):
             self.assertEqual(len(set(listed)), len(listed), listed)
+
+
+def count(text):
+    return int(text.replace(",", ""))
+
+
+def places(text):
+    """The first and the last place of a cell: one, two, or from one to another."""
+    found = re.findall(r"[\d,]*\d", text.replace(", ", " "))
+    return count(found[0]), count(found[-1])
+
+
+class Cards(unittest.TestCase):
+    """Their two kinds, by name: kind byte, size, positions; and the bytes of each."""
+
+    ROWS = table("Card", "Kind byte", "Bytes in all", "Positions", "Position at", "Type at", "Name length at", "Name at")
+    SAID = {name: (count(kind), count(size), *places(positions)) for name, kind, size, positions, *_ in ROWS}
+    MOST_COLUMNS = SAID["far"][3] + 1
+
+    def test_their_bytes_follow_each_other(self):
+        for name, _, size, _, *parts in self.ROWS:
+            (first, last), *rest = map(places, parts)
+            self.assertEqual(first, 1, name)
+            for begin, end in rest:
+                self.assertEqual(begin, last + 1, name)
+                last = end
+            self.assertEqual((last + 1, end - begin + 1), (count(size), cards.MOST_NAME), name)
+
+    def test_each_position_has_one(self):
+        self.assertEqual(list(self.SAID), ["near", "far"])
+        self.assertEqual([low for *_, low, _ in self.SAID.values()], [0, self.SAID["near"][3] + 1])
+
+    def test_the_page_says_them_where_they_are_refused(self):
+        limit, short, broken = (" ".join(row[2:4]) for row in REFUSALS if row[0] in ("3", "8", "12"))
+        self.assertIn(" {:,} columns, on a card {} bytes of a name".format(self.MOST_COLUMNS, cards.MOST_NAME), limit)
+        self.assertIn("the bytes needed: %d for a near card, %d for a far one;" % tuple(size for _, size, *_ in self.SAID.values()), short)
+        self.assertIn("a kind byte that isn't %d or %d" % tuple(kind for kind, *_ in self.SAID.values()), broken)
+        self.assertIn("longer than %d bytes" % cards.MOST_NAME, broken)
+
+    def test_the_header_has_their_sizes(self):
+        sizes = dict(numbered(r"CHALOENPIK_(\w+) = (\d+)", part(HEADER, "/* Sizes. */", "};")))
+        self.assertEqual((sizes["NEAR_CARD"], sizes["FAR_CARD"]), tuple(size for _, size, *_ in self.SAID.values()))
+        self.assertEqual((sizes["FAR_POSITION"], sizes["TYPES"]), (self.SAID["far"][2], self.MOST_COLUMNS))
+
+    def test_rust_has_them(self):
+        sizes = dict(numbered(r"const (\w+): usize = (\d+);", source("bindings/rust/src/card.rs")))
+        self.assertEqual((sizes["NEAR_SIZE"], sizes["FAR_POSITION"], sizes["MOST_SIZE"]), (self.SAID["near"][1], self.SAID["far"][2], self.SAID["far"][1]))
+        self.assertIn("pub type Types = [u8; %d];" % self.MOST_COLUMNS, source("bindings/rust/src/foreign.rs"))
+
+    def test_the_proved_code_and_its_definition_have_them(self):
+        code, definition = source("crates/cards/src/lib.rt"), source("crates/cards/specs/Card.antt")
+        wanted = {name: {"number": kind, "width": cards.FORMS[kind - 1].width, "low": low, "high": high} for name, (kind, _, low, high) in self.SAID.items()}
+        kinds = re.findall(r"^const (\w+): Kind = Kind \{(.+?)\}", code, re.M | re.S)
+        self.assertEqual({name.lower(): dict(numbered(r"(\w+): (\d+)", fields)) for name, fields in kinds}, wanted)
+        kinds = re.findall(r"^(near|far) = record \{(.+?)\}", definition, re.M)
+        self.assertEqual({name: dict(numbered(r"(\w+) = (\d+)", fields)) for name, fields in kinds}, wanted)
+        self.assertEqual(numbered(r"pub const (MOST_SIZE): usize = (\d+);", code), [("MOST_SIZE", self.SAID["far"][1])])
+        self.assertEqual(numbered(r"pub const (MOST_COLUMNS): u64 = (\d+);", source("crates/format/src/lib.rt")), [("MOST_COLUMNS", self.MOST_COLUMNS)])
+        self.assertEqual(numbered(r"^(mostColumns) = (\d+)$", source("crates/format/specs/Message.antt")), [("mostColumns", self.MOST_COLUMNS)])
+
+    def test_the_second_reader_has_them(self):
+        second = [(form.kind, form.size, form.lowest, form.highest) for form in cards.FORMS]
+        self.assertEqual(list(self.SAID.values()), second)
+        self.assertEqual(cards.MOST_COLUMNS, self.MOST_COLUMNS)
 
 
 class Fields(unittest.TestCase):
