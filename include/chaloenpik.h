@@ -20,9 +20,9 @@
 #include <string.h>
 
 #define CHALOENPIK_VERSION_MAJOR 0
-#define CHALOENPIK_VERSION_MINOR 2
+#define CHALOENPIK_VERSION_MINOR 3
 #define CHALOENPIK_VERSION_PATCH 0
-#define CHALOENPIK_VERSION "0.2.0"
+#define CHALOENPIK_VERSION "0.3.0"
 
 #ifdef __cplusplus
 extern "C" {
@@ -109,9 +109,11 @@ enum {
 enum {
     CHALOENPIK_MOST_BYTES = 4194308, /* of a message; no longer one is accepted */
     CHALOENPIK_ENTRY = 6,            /* numbers of an entry of the field list */
-    CHALOENPIK_CARD = 36,            /* bytes of a shortcut card */
+    CHALOENPIK_NEAR_CARD = 36,       /* bytes of the shortcut card of a column at a position below CHALOENPIK_FAR_POSITION */
+    CHALOENPIK_FAR_CARD = 37,        /* bytes of one at that position or above: the most that a card has */
+    CHALOENPIK_FAR_POSITION = 64,    /* the first position that a far card holds */
     CHALOENPIK_STATE = 11,           /* numbers of a writer's state */
-    CHALOENPIK_TYPES = 64,           /* bytes for the types of an open table's columns: the most columns that a table has */
+    CHALOENPIK_TYPES = 1024,         /* bytes for the types of an open table's columns: the most columns that a table has */
     CHALOENPIK_RING_KEPT = 38,       /* bytes that are kept behind the vertices of a ring */
     CHALOENPIK_AREA_KEPT = 33,       /* bytes that are kept behind the rings of an area */
     CHALOENPIK_AREA_STATE = 5        /* numbers of the state of writing an area */
@@ -240,12 +242,22 @@ uint64_t chaloenpik_cell(const uint8_t *message, size_t length, size_t table, si
    a text or binary cell is its length and its body. */
 uint64_t chaloenpik_cell_place(const uint8_t *message, size_t length, size_t table, size_t row, size_t column, uint64_t part[2]);
 
-/* ---- Shortcut cards: a column kept by its position, type and name, to be found again without a search. */
+/* ---- Shortcut cards: a column kept by its position, type and name, to be found again without a search. There are two kinds, near and far, by
+   the column's position, so that each column has one card. A near card is what a card was up to version 0.2.0: one that was kept then opens
+   the same column as it did. A name of more than 32 bytes has no card. */
 
-/* Writes the card of the first column of a name in front of `out`; the value is the column's position. 8 at CHALOENPIK_CARD: no room. */
+/* How many bytes the card of a column at a position has: CHALOENPIK_NEAR_CARD or CHALOENPIK_FAR_CARD. */
+static inline size_t chaloenpik_card_size(uint64_t position) {
+    return position < CHALOENPIK_FAR_POSITION ? CHALOENPIK_NEAR_CARD : CHALOENPIK_FAR_CARD;
+}
+
+/* Writes the card of the first column of a name in front of `out`; the value is the column's position. An `out` of CHALOENPIK_FAR_CARD bytes
+   takes any card; the first chaloenpik_card_size(position) of them are the card, and those behind it stay as they were. 8 at the card's size:
+   no room. 3 at the name's length in the message: the name is too long for a card. */
 uint64_t chaloenpik_make_card(const uint8_t *message, size_t length, size_t table, const uint8_t *name, size_t name_length, uint8_t *out, size_t size);
 
-/* The position of the column that a card stands for. 10 at 0: the table has another column there, or none; 12: no card. */
+/* The position of the column that a card stands for. `card_length` is the card's own size, and not that of a buffer it was made in. 10 at 0: the
+   table has another column there, or none; 12: no card. */
 uint64_t chaloenpik_open_card(const uint8_t *message, size_t length, size_t table, const uint8_t *card, size_t card_length);
 
 /* ---- Writing. `out` has room for `size` bytes; the value is the position that was reached, which after the last step is the
@@ -263,8 +275,12 @@ uint64_t chaloenpik_write_login_response(uint8_t *out, size_t size, uint8_t vers
 
 /* The other kinds are written by steps, which keep where they are in numbers that the caller lends: the stage, the position, and
    what is open. Beginning a message sets them. Any numbers may stand in them: a step that they don't permit is refused 13, at
-   the low 56 bits of the position. Opening a table sets the types of its columns, and its steps look at them. A step costs by what it
-   writes, and not by what was written before. */
+   the low 56 bits of the position. A step costs by what it writes and, inside a table, by how many columns that has;
+   not by what was written before.
+
+   The types of an open table's columns stand beside the state, in CHALOENPIK_TYPES bytes that the caller lends. Opening a table of n columns sets
+   the first n of them, and each step inside it looks at those. The others are neither read nor cleared, and none is copied: so they need no value
+   before a table is opened, and a table of two columns doesn't cost what one of CHALOENPIK_TYPES does. */
 
 /* Begins an invocation; `client` has 8 bytes. */
 uint64_t chaloenpik_begin_call(uint8_t *out, size_t size, uint64_t state[CHALOENPIK_STATE], uint8_t version,

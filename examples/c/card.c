@@ -13,10 +13,11 @@ static uint8_t message[CHALOENPIK_MOST_BYTES + 1];
 static size_t length;
 
 static int make(const char *column, const char *name) {
-    uint8_t card[CHALOENPIK_CARD];
+    uint8_t card[CHALOENPIK_FAR_CARD];
     uint64_t position = found(column, chaloenpik_make_card(message, length, 0, (const uint8_t *)column, strlen(column), card, sizeof card));
+    size_t size = chaloenpik_card_size(position);
     FILE *file = fopen(name, "wb");
-    if (file == NULL || fwrite(card, 1, sizeof card, file) != sizeof card || fclose(file) != 0) {
+    if (file == NULL || fwrite(card, 1, size, file) != size || fclose(file) != 0) {
         perror(name);
         return 2;
     }
@@ -47,7 +48,8 @@ static size_t row_of(int64_t engine) {
 }
 
 static int limit(const char *file, int64_t engine) {
-    uint8_t card[CHALOENPIK_CARD + 1];
+    /* one more than the most, so that a file that is too long is refused and not cut */
+    uint8_t card[CHALOENPIK_FAR_CARD + 1];
     size_t size = read_file(file, card, sizeof card);
     size_t column = found("card", chaloenpik_open_card(message, length, 0, card, size)), row = row_of(engine);
     uint64_t cell[4], place[2];
