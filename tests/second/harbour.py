@@ -1,11 +1,17 @@
 #!/usr/bin/env python3
 """Makes samples/: messages of a made-up harbour whose engine control asks a database for the limits of its engines, a reply that lacks
-a column, one with the positions of boats, one with no-wake areas, and two that are refused, one in which a name is torn and one in which a limit is no decimal; and, for
-the program `limit`, its input and what it prints: the sample reply, the same with a row more, three in which the limit's column is no longer what it was, and one that
-lacks a later column."""
+a column, one with the positions of boats, one with no-wake areas, the big report of 400 columns, and two that are refused, one in which a name is torn and one in which a
+limit is no decimal; and, for the program `limit`, its input and what it prints: the sample reply, the same with a row more, three in which the limit's column is no longer
+what it was, one that lacks a later column, one that has the big report's columns behind its own, and the big report.
+
+    harbour.py          writes the files
+    harbour.py --big    puts out another input for `limit`, which makes a far card of it: the big report, the same with a row more, and two in which the limit's column is
+                        no longer what it was
+"""
 
 import pathlib
 import struct
+import sys
 
 import areas
 from encoder import encode
@@ -41,7 +47,6 @@ BOATS = {
         [9, b"Tug 9", (-0.0, 51.5), 1_762_000_030_000_000],
     ],
 }
-
 
 BERTHS = {
     "status": 0,
@@ -83,6 +88,39 @@ NO_WAKE = {
 }
 
 
+# What the engines' new control tells of each sensor, by the sensor's number and the engine's.
+SENSED = [
+    (b"MEAN", FLOAT, lambda sensor, engine: float_bits(sensor + engine / 4)),
+    (b"PEAK", FLOAT, lambda sensor, engine: float_bits(1.5 * sensor + engine)),
+    (b"ALARMS", SMALLINT, lambda sensor, engine: sensor * engine % 5),
+    (b"NOTE", STRING, lambda sensor, engine: b"cleaned" if (sensor + engine) % 7 == 0 else None),
+]
+REPORT_COLUMNS, LIMIT_AT = 400, 257  # of the limit's position both bytes of a card count
+
+
+def float_bits(number):
+    return struct.unpack(">Q", struct.pack(">d", number))[0]
+
+
+def sensed(count):
+    """A table of so many columns of sensors, with a row for each engine."""
+    columns = [(sensor, *SENSED[at % len(SENSED)]) for at, sensor in ((at, 1 + at // len(SENSED)) for at in range(count))]
+    return {"types": [wire_type for _, _, wire_type, _ in columns], "names": [b"SENSOR_%03d_%s" % (sensor, what) for sensor, what, _, _ in columns],
+            "rows": [[told(sensor, row[0]) for sensor, _, _, told in columns] for row in ENGINES["rows"]]}
+
+
+def engine_report(limit_at):
+    """The engines with columns of sensors, some before the limit's and the others behind all."""
+    more, own = sensed(REPORT_COLUMNS - len(ENGINES["types"])), ENGINES["names"].index(b"THROTTLE_LIMIT")
+    def joined(engines, sensors):
+        return engines[:own] + sensors[:limit_at - own] + engines[own:] + sensors[limit_at - own:]
+    return {"status": 0, "types": joined(ENGINES["types"], more["types"]), "names": joined(ENGINES["names"], more["names"]),
+            "rows": [joined(*rows) for rows in zip(ENGINES["rows"], more["rows"])]}
+
+
+BIG_REPORT = engine_report(LIMIT_AT)
+
+
 def reply(table):
     return {"version": 0, "client_data": REQUEST, "flags": FLAG_STATUS_STRING, "status": 1, "status_string": b"ok", "application": -128,
             "round_trip": 2, "tables": [table]}
@@ -119,6 +157,7 @@ MESSAGES = {
     "4-engines-without-vessel": (REPLY, reply(without(ENGINES, b"VESSEL"))),
     "4-positions": (REPLY, reply(BOATS)),
     "4-areas": (REPLY, reply(NO_WAKE)),
+    "4-big-report": (REPLY, reply(BIG_REPORT)),
 }
 
 # Replies that are refused, by the numbers.
@@ -151,8 +190,18 @@ def refusal(kind, message):
 def replies():
     more = dict(ENGINES, rows=[[5, b"Clam", None, 500_000_000_000, 0, (0.0, 0.0), 0]] + ENGINES["rows"])
     tables = [ENGINES, more, without(ENGINES, b"VESSEL"), changed(ENGINES, b"THROTTLE_LIMIT", names=b"THROTTLE_LIMITS"),
-              changed(ENGINES, b"THROTTLE_LIMIT", types=VARBINARY, value=None), without(ENGINES, b"SERVICED")]
+              changed(ENGINES, b"THROTTLE_LIMIT", types=VARBINARY, value=None), without(ENGINES, b"SERVICED"),
+              engine_report(ENGINES["names"].index(b"THROTTLE_LIMIT")), BIG_REPORT]
     return [encode(REPLY, reply(table)) for table in tables]
+
+
+def big_replies():
+    more = dict(BIG_REPORT, rows=BIG_REPORT["rows"][:1] + BIG_REPORT["rows"])
+    return [encode(REPLY, reply(table)) for table in (BIG_REPORT, more, without(BIG_REPORT, b"VESSEL"), ENGINES)]
+
+
+def framed(messages):
+    return b"".join(len(message).to_bytes(4, "big") + message for message in messages)
 
 
 def limits(messages):
@@ -177,9 +226,12 @@ def limits(messages):
 
 
 if __name__ == "__main__":
+    if sys.argv[1:] == ["--big"]:
+        sys.stdout.buffer.write(framed(big_replies()))
+        sys.exit()
     SAMPLES.mkdir(exist_ok=True)
     for name, message in samples().items():
         (SAMPLES / name).write_bytes(message)
     program, messages = SAMPLES.parent / "crates" / "limit", replies()
-    (program / "stdin").write_bytes(b"".join(len(reply).to_bytes(4, "big") + reply for reply in messages))
+    (program / "stdin").write_bytes(framed(messages))
     (program / "stdout").write_text(limits(messages))
