@@ -43,6 +43,7 @@ ENGINES = ROOT / "samples" / "4-engines.bin"
 POSITIONS = ROOT / "samples" / "4-positions.bin"
 AREAS = ROOT / "samples" / "4-areas.bin"
 BROKEN = ROOT / "samples" / "4-engines-limit-broken.bin"
+BIG = ROOT / "samples" / "4-big-report.bin"
 NO_LONGER_GIVEN = "refused %d " % 7  # which was split by cause
 
 
@@ -212,6 +213,46 @@ class InsurersQuestion(unittest.TestCase):
         self.assertTrue(any("85 more of the same" in line for line in told))
         rows = [json.loads(line) for line in records.cell_records(chosen(message, "--cell", "0", "90", "N"))]
         self.assertEqual(sum(record.get("name") == "row length" for record in rows), 91)
+
+
+class BigReport(unittest.TestCase):
+    """An answer about a table of hundreds of columns is no longer than people read."""
+
+    def setUp(self):
+        self.message = BIG.read_bytes()
+
+    def test_the_insurers_question(self):
+        told = lines.cell_lines(chosen(self.message, "--cell", "0", "--where", "ENGINE_ID=2", "--column", "THROTTLE_LIMIT"))
+        self.assertEqual(told[0], "table 0, row 1, column 257 THROTTLE_LIMIT (decimal) is 0.800000000000")
+        self.assertEqual([line.split(",")[0].strip() for line in told if "more of the same" in line],
+                         [".. %d more of the same" % count for count in (256 - 6, 400 - 2 - 6, 2 + 63 - 6)])  # types, names' lengths, texts' lengths
+        self.assertLess(len(told), 60)
+
+    def test_every_column_keeps_its_position(self):
+        fields = read_by_second(self.message)
+        for position, name in enumerate(harbour.BIG_REPORT["names"]):
+            self.assertTrue(fields.column_text(0, position).startswith("column %d %s (" % (position, name.decode())))
+            self.assertEqual(cells.Cell(fields, 0, 3, position).column, cells.Chosen(fields, command.Options(["4", "x", "--cell", "0", "3", name.decode()])).cell.column)
+
+    def test_a_column_that_is_not_there(self):
+        for word, told in (("limit", "THROTTLE_LIMIT comes"), ("ENGINE_IDS", "ENGINE_ID, ENGINE come"), ("400", "none comes"),
+                           ("sensor_09", "%s, .. come" % ", ".join("SENSOR_%03d_%s" % (sensor, what) for sensor in (90, 91) for what in ("MEAN", "PEAK", "ALARMS", "NOTE")))):
+            with self.assertRaises(cells.NotThere) as stopped:
+                chosen(self.message, "--cell", "0", "0", word)
+            self.assertEqual(str(stopped.exception), "table 0 has no column %s; it has 400 columns, and of their names %s near (without --cell all are told)" % (word, told))
+
+    def test_columns_of_one_name(self):
+        message = reply([wire.TINYINT] * 300, [b"N"] * 300, [[1] * 300])
+        self.assertIn("300 columns have this name, 0, 1, 2, 3, 4, 5, 6, 7, ..: this is the one asked for by its number", chosen(message, "--cell", "0", "0", "299").notes)
+
+    def test_a_value_that_breaks_its_rule(self):
+        message = encoder.encode(wire.REPLY, harbour.reply(harbour.with_cell(harbour.BIG_REPORT, 1, b"THROTTLE_LIMIT", 10**38)))
+        with self.assertRaises(reader.Refused) as stopped:
+            reader.read(wire.REPLY, message)
+        told = lines.refusal_lines(refusals.Refusal(wire.REPLY, message, (stopped.exception.number, stopped.exception.place)))
+        self.assertTrue(told[1].startswith("The field is: cell, table 0, row 1, column 257 THROTTLE_LIMIT (decimal). "))
+        self.assertEqual(told[4], 'Its row begins with ENGINE_ID 2, VESSEL "Bodil", ENGINE "starboard", SENSOR_001_MEAN 1.5.')
+        self.assertLess(len(told), 60)
 
 
 def asked_of_second(bodies, turned=False):
@@ -528,7 +569,7 @@ class Refused(AskedOfSecond):
                 (damaged(m, 4, 2), ["The field is: version. Its bytes are 02: 2.", "It is 0 or 1, and this one is 2."]),
                 (damaged(m, 28, 0, 0, 1, 0x8d), ["The field is: table length, table 0. Its bytes are 00 00 01 8d: 397 bytes.",
                                                  "It says 397 bytes, and 396 are there, up to the end of the message at 428: 1 byte is missing."]),
-                (damaged(m, 37, 0, 65), ["The field is: column count, table 0. Its bytes are 00 41: 65.", "It says 65, and the limit is 64."]),
+                (damaged(m, 37, 4, 1), ["The field is: column count, table 0. Its bytes are 04 01: 1025.", "It says 1025, and the limit is 1024."]),
                 (damaged(m, 41, 1), ["The field is: column type, table 0, column 2 (null). Its bytes are 01: 1: null.", "A column or an element of an array can't be null."]),
                 (damaged(m, 131, 0, 0, 0, 5), ["The field is: row length, table 0, row 4, at 428; the message has 428 bytes.",
                                                "It would have 4 bytes, and 0 are there, up to the end of table 0 at 428.",
@@ -941,6 +982,28 @@ class WithTheProvedLibrary(unittest.TestCase):
             stored = listing.listing(kind, file.read_bytes())
             with mock.patch.object(paper, "MOST_LISTED", -1):
                 self.assertEqual(listing.listing(kind, file.read_bytes()), stored)
+
+    def test_many_columns(self):
+        """Both programs list as many as a table may have, and refuse one more."""
+        def wide(columns):
+            return reply([wire.TINYINT] * columns, [b"C%d" % column for column in range(columns)], [[column % 100 for column in range(columns)]])
+        most = wide(wire.MOST_COLUMNS)
+        for longest in (paper.MOST_LISTED, -1):
+            with mock.patch.object(paper, "MOST_LISTED", longest):
+                self.assertEqual(listing.listing(4, most), (None, read_by_second(most).numbers))
+                self.assertEqual(listing.listing(4, wide(wire.MOST_COLUMNS + 1))[0], (paper.LIMIT, 37))
+        done = self.run_it("4", self.path("most", most), "--cell", "0", "0", "C1023")
+        self.assertEqual((done.returncode, done.stdout.splitlines()[0]), (0, "table 0, row 0, column 1023 C1023 (tinyint) is 23"))
+        done = self.run_it("4", self.path("more", wide(wire.MOST_COLUMNS + 1)))
+        self.assertEqual((done.returncode, done.stdout.splitlines()[2]), (1, "It says 1025, and the limit is 1024."))
+
+    def test_a_far_card(self):
+        """The program `limit`, whose own input has it make a near card."""
+        building.proved("limit")
+        messages = harbour.big_replies()
+        printed = listing.run(ROOT / "target" / "bin" / "limit", harbour.framed(messages)).decode("ascii")
+        self.assertEqual(printed, harbour.limits(messages))
+        self.assertEqual([line.split(",")[0] for line in printed.splitlines()], ["limit 800000000000 x 10^-12"] * 2 + ["card refused 10 0"] * 2)
 
     def test_the_whole_command(self):
         done = self.run_it("4", str(SAMPLE))

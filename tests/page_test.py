@@ -122,13 +122,20 @@ class Told(unittest.TestCase):
         self.compare((kind, message, messages.listed(kind, message)) for kind, message in messages.edges())
 
     def test_the_fields_before_a_refusal(self):
-        """Also where a column's type is read and its name is not."""
+        """Also where a column's type is read and its name is not. Of a table with many columns it is enough to stop now and then."""
         for message, kind in SAMPLES.items():
             entries = messages.listed(kind, message)
-            self.compare((kind, message, entries[:count]) for count in range(len(entries)))
+            self.compare((kind, message, entries[:count]) for count in range(0, len(entries), 1 + len(entries) // 100))
 
     def test_the_fields_up_to_a_fault(self):
         self.compare(messages.refused(500))
+
+    def test_the_most_columns(self):
+        """More than a byte counts, some of them without a name; then a table of few, whose columns are others."""
+        names = [b"C%d" % column if column % 7 else b"" for column in range(messages.MOST_COLUMNS)]
+        wide = {"status": 0, "types": [3 + column % 2 for column in range(len(names))], "names": names, "rows": [[column % 100 for column in range(len(names))]] * 2}
+        kind, message = messages.reply([wide, {"status": 0, "types": [9], "names": [b"S"], "rows": [[b"x"]]}])
+        self.compare([(kind, message, messages.listed(kind, message))])
 
     def test_more_than_256_templates(self):
         rows = [[b"x" * size] for size in range(1, 300)]

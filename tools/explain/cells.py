@@ -1,5 +1,6 @@
 """One cell, as the insurer asks for it: which one is meant, and the bytes that are it, that name it, and that fix its place."""
 
+import difflib
 import fractions
 import struct
 
@@ -14,6 +15,7 @@ TO_TABLE = (paper.MESSAGE_LENGTH, paper.FLAG_BYTE, paper.STATUS_LENGTH, paper.AP
 TO_ROW = (paper.METADATA_LENGTH, paper.COLUMN_COUNT, paper.COLUMN_NAME_LENGTH, paper.ROW_COUNT, paper.ROW_LENGTH)
 
 VALUE, NAMES, PLACE = "value", "name", "place"
+MOST_TOLD = 8  # rows, or columns, told in a sentence; a table may have a thousand
 
 
 class NotThere(Exception):
@@ -98,7 +100,14 @@ class Chosen:
             return self.names.index(word)
         if word.isdigit() and int(word) < len(self.names):
             return int(word)
-        raise NotThere("table %d has no column %s; it has %s" % (self.table, shown_name(word), ", ".join(map(shown_name, self.names)) or "none"))
+        raise NotThere("table %d has no column %s; it has %s" % (self.table, shown_name(word), self.columns_told(word)))
+
+    def columns_told(self, word):
+        """All names, or of many those that come near a word."""
+        if len(self.names) <= MOST_TOLD:
+            return ", ".join(map(shown_name, self.names)) or "none"
+        found = list(map(shown_name, near(word, self.names))) or ["none"]
+        return "%d columns, and of their names %s %s near (without --cell all are told)" % (len(self.names), some(found), "come" if found[1:] else "comes")
 
     def key_column(self, where):
         """The column that the words before a = name."""
@@ -123,8 +132,7 @@ class Chosen:
         if len(rows) == 1:
             self.notes.append("row %d is the only one of %s whose %s is %s" % (rows[0], values.count_of(count, "row"), name, word))
         else:
-            others = ", ".join(map(str, rows[1:9])) + (", .." if len(rows) > 9 else "")
-            self.notes.append("%d rows have the %s %s: this is the first of them; the others are %s" % (len(rows), name, word, others))
+            self.notes.append("%d rows have the %s %s: this is the first of them; the others are %s" % (len(rows), name, word, some(rows[1:])))
         if rows[0] > 0:
             self.notes.append("the rows before it were looked at and passed over: they have another %s" % name)
 
@@ -134,7 +142,19 @@ class Chosen:
         same = [other for other, name in enumerate(self.names) if name == self.names[column]]
         if len(same) > 1:
             which = "the first, as the search for a name takes it" if column == same[0] else "the one asked for by its number"
-            self.notes.append("%d columns have this name, %s: this is %s" % (len(same), " and ".join(map(str, same)), which))
+            self.notes.append("%d columns have this name, %s: this is %s" % (len(same), some(same) if same[2:] else "%d and %d" % tuple(same), which))
+
+
+def some(things):
+    """The first of some things, one after the other."""
+    return ", ".join(map(str, things[:MOST_TOLD])) + (", .." if len(things) > MOST_TOLD else "")
+
+
+def near(word, names):
+    """The names that have a word in them, in small letters or capitals; if there is none, those that are spelt much like it."""
+    as_text = {name.decode("latin-1"): name for name in names}
+    having = [name for name in as_text.values() if word.lower() in name.lower()]
+    return having or [as_text[it] for it in difflib.get_close_matches(word.decode("latin-1"), as_text, MOST_TOLD)]
 
 
 def names_of(explained, table):

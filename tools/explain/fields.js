@@ -17,7 +17,7 @@ class Message {
     const { templates, ids, count, paper } = this;
     const opens = templates.map(([number]) => number === paper.PARAMETER_TYPE || number === paper.table_fields[0]);
     const [sizes, firsts, seconds, thirds] = [1, 2, 3, 4].map(part => Int32Array.from(templates, template => template[part]));
-    const offset = new Uint32Array(count + 1), i = new Uint16Array(count), j = new Uint32Array(count), k = new Uint8Array(count);
+    const offset = new Uint32Array(count + 1), i = new Uint16Array(count), j = new Uint32Array(count), k = new Uint16Array(count);
     for (let field = 0, a = 0, b = 0, c = 0; field < count; field++) {
       const id = ids[field];
       offset[field + 1] = offset[field] + sizes[id];
