@@ -1,11 +1,10 @@
 //! The functions of include/chaloenpik.h.
 
-/// How many columns a table may have.
-pub const COLUMNS: usize = 64;
-
-/// The writer's state in numbers, and the types of the open table's columns.
+/// The writer's state in numbers.
 pub type State = [u64; 11];
-pub type Types = [u8; COLUMNS];
+
+/// The types of the open table's columns: as many as a table may have.
+pub type Types = [u8; 1024];
 
 /// How many bytes of a ring are kept as they came.
 pub const RING_KEPT: usize = 38;

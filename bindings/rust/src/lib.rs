@@ -131,7 +131,8 @@
 //!
 //! Only the calls of foreign functions. They ask nothing of their arguments but that each pointer has so many elements as its length
 //! says, and that memory lent for writing overlaps nothing else: slices and references have both by Rust's own rules. A writer's state
-//! can't be reached from outside; and whatever stood in it, a step would be carried out or refused, and would stay inside its buffer.
+//! can't be reached from outside; and whatever stood in it, a step would be carried out or refused, and would stay inside its buffer. The
+//! types of a table's columns stand in memory that has no value before a table is opened: a step reads those that opening it has set.
 
 #![warn(missing_docs)]
 
@@ -149,7 +150,7 @@ mod value;
 
 pub use area::{turn_holes, Area, AreaWriter, Ring, Vertex};
 pub use call::{element, invocation, parameter, CallWriter, Invocation, Parameter};
-pub use card::{make_card, open_card, Card, CARD_SIZE};
+pub use card::{make_card, open_card, Card};
 pub use field::{field, fields, owner, Field};
 pub use foreign::{AREA_KEPT, RING_KEPT};
 pub use login::{login_request, login_response, write_login_request, write_login_response, LoginRequest, LoginResponse, Welcome};

@@ -6,6 +6,7 @@ use crate::table::Column;
 use crate::value::{part, text, Form, Value, WireType};
 use crate::written;
 use std::fmt;
+use std::mem::MaybeUninit;
 
 /// A status string: a flag lets it be absent, and it may be null.
 #[derive(Clone, Copy, Debug, Default, PartialEq, Eq)]
@@ -151,8 +152,10 @@ pub struct ColumnEntry {
 pub struct ReplyWriter<'b> {
     out: &'b mut [u8],
     state: State,
-    /// The types of the open table's columns.
-    types: Types,
+    /// The types of the open table's columns. Opening a table sets as many as it has, and the steps inside it read no other, so that they need
+    /// no value before. There is room for all that a table may have: in a box, so that moving the writer doesn't copy it, and not lent by the
+    /// caller, who has nothing to do with it. That is one allocation for a reply, and none for a step inside a table.
+    types: Box<MaybeUninit<Types>>,
     position: usize,
 }
 
@@ -195,7 +198,7 @@ impl<'b> ReplyWriter<'b> {
                 exception.len(),
             )
         })?;
-        Ok(ReplyWriter { out, state, types: [0; foreign::COLUMNS], position })
+        Ok(ReplyWriter { out, state, types: Box::new(MaybeUninit::uninit()), position })
     }
 
     /// How many bytes are written.
@@ -203,7 +206,8 @@ impl<'b> ReplyWriter<'b> {
         self.position
     }
 
-    /// Opens a table with columns of these names and types: pairs of both, or the columns of a [`crate::Table`].
+    /// Opens a table with columns of these names and types: pairs of both, or the columns of a [`crate::Table`]. Refused 3: they are more than
+    /// 1,024.
     pub fn open_table<'c, C: Into<Column<'c>>>(&mut self, status: i8, columns: impl IntoIterator<Item = C>) -> Result<&mut Self, Refusal> {
         let (mut entries, mut names) = (Vec::new(), Vec::new());
         for Column { name, wire_type } in columns.into_iter().map(Into::into) {
@@ -222,7 +226,7 @@ impl<'b> ReplyWriter<'b> {
                 self.out.as_mut_ptr(),
                 self.out.len(),
                 &mut self.state,
-                &mut self.types,
+                self.types.as_mut_ptr(),
                 status as u8,
                 numbers.as_ptr(),
                 numbers.len(),
@@ -260,7 +264,7 @@ impl<'b> ReplyWriter<'b> {
     /// The next cell of the open row. Refused 6: it isn't of its column's type; 13: the row has all its cells.
     pub fn cell<'v>(&mut self, value: impl Into<Value<'v>>) -> Result<&mut Self, Refusal> {
         let value = value.into();
-        let (out, size, state, types) = (self.out.as_mut_ptr(), self.out.len(), &mut self.state, &self.types);
+        let (out, size, state, types) = (self.out.as_mut_ptr(), self.out.len(), &mut self.state, self.types.as_ptr());
         let wire_type = value.wire_type().byte();
         let answer = match value.form() {
             // SAFETY: as above.
@@ -303,7 +307,7 @@ impl<'b> ReplyWriter<'b> {
 
     fn in_table(&mut self, step: TableStep) -> Result<&mut Self, Refusal> {
         // SAFETY: as above.
-        let answer = unsafe { step(self.out.as_mut_ptr(), self.out.len(), &mut self.state, &self.types) };
+        let answer = unsafe { step(self.out.as_mut_ptr(), self.out.len(), &mut self.state, self.types.as_ptr()) };
         self.reached(answer)
     }
 }

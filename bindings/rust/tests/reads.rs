@@ -1,6 +1,6 @@
 use chaloenpik::{
     accept, cell, cell_place, column_name, column_type, columns, element, field, fields, find_column, invocation, login_request,
-    login_response, make_card, open_card, owner, parameter, response, rows, tables, Cause, Decimal, Field, Kind, Optional, Parameter,
+    login_response, make_card, open_card, owner, parameter, response, rows, tables, Card, Cause, Decimal, Field, Kind, Optional, Parameter,
     Refusal, Value, Welcome, WireType,
 };
 
@@ -10,6 +10,7 @@ const CALL: &[u8] = include_bytes!("../../../samples/3-engine-limits.bin");
 const REPLY: &[u8] = include_bytes!("../../../samples/4-engines.bin");
 const AREAS: &[u8] = include_bytes!("../../../samples/4-areas.bin");
 const WITHOUT_VESSEL: &[u8] = include_bytes!("../../../samples/4-engines-without-vessel.bin");
+const BIG_REPORT: &[u8] = include_bytes!("../../../samples/4-big-report.bin");
 const PAST_END: Refusal = Refusal { cause: Cause::PastEnd, place: 0 };
 const NO_COLUMN: Refusal = Refusal { cause: Cause::NoColumn, place: 0 };
 
@@ -154,6 +155,48 @@ fn a_card_fits_while_its_column_stays() {
     assert_eq!(open_card(WITHOUT_VESSEL, 0, &card), refused(Cause::CardMisfit, 0));
     assert_eq!(open_card(REPLY, 0, &card[..35]), refused(Cause::BadCard, 35));
     assert_eq!(make_card(REPLY, 0, "LIMIT"), Err(NO_COLUMN));
+}
+
+/// A card with other bytes at a place.
+fn card_with(card: Card, place: usize, bytes: &[u8]) -> Vec<u8> {
+    let mut changed = card.to_vec();
+    changed[place..place + bytes.len()].copy_from_slice(bytes);
+    changed
+}
+
+#[test]
+fn near_and_far_cards() {
+    let (near, far) = (make_card(BIG_REPORT, 0, "ENGINE_ID").unwrap(), make_card(BIG_REPORT, 0, "THROTTLE_LIMIT").unwrap());
+    assert_eq!((near.len(), far.len()), (36, Card::MOST_SIZE));
+    assert_eq!(&near[..4], &[1, 0, WireType::Integer.byte(), 9]);
+    assert_eq!(&far[..5], &[2, 1, 1, WireType::Decimal.byte(), 14]);
+    assert_eq!((open_card(BIG_REPORT, 0, &near), open_card(BIG_REPORT, 0, &far)), (Ok(0), Ok(257)));
+    assert_eq!((open_card(REPLY, 0, &near), open_card(REPLY, 0, &far)), (Ok(0), refused(Cause::CardMisfit, 0)));
+
+    for (broken, place) in [
+        (near[..35].to_vec(), 35),
+        (far[..36].to_vec(), 36),
+        ([&near[..], &[0]].concat(), 36),
+        ([&far[..], &[0]].concat(), 37),
+        (card_with(far, 0, &[3]), 0),
+        (card_with(near, 1, &[64]), 1),
+        (card_with(far, 1, &[0, 63]), 1),
+        (card_with(far, 1, &[4, 0]), 1),
+        (card_with(far, 3, &[0]), 3),
+        (card_with(far, 4, &[33]), 4),
+        (card_with(far, 36, &[1]), 36),
+    ] {
+        assert_eq!(open_card(BIG_REPORT, 0, &broken), refused(Cause::BadCard, place));
+    }
+}
+
+#[test]
+fn a_card_is_its_bytes() {
+    let (near, far) = (make_card(BIG_REPORT, 0, "ENGINE_ID").unwrap(), make_card(BIG_REPORT, 0, "THROTTLE_LIMIT").unwrap());
+    assert_eq!(near, make_card(REPLY, 0, "ENGINE_ID").unwrap());
+    assert_ne!(near, far);
+    assert_eq!(near.as_ref(), &near[..]);
+    assert_eq!(format!("{near:?}"), format!("Card({:?})", &near[..]));
 }
 
 #[test]

@@ -11,6 +11,7 @@ const LOGIN_REPLY: &[u8] = include_bytes!("../../../samples/2-login-reply.bin");
 const CALL: &[u8] = include_bytes!("../../../samples/3-engine-limits.bin");
 const REPLY: &[u8] = include_bytes!("../../../samples/4-engines.bin");
 const WITHOUT_VESSEL: &[u8] = include_bytes!("../../../samples/4-engines-without-vessel.bin");
+const BIG_REPORT: &[u8] = include_bytes!("../../../samples/4-big-report.bin");
 
 /// The bytes that the field list has for a cell: the entries of its length and its body, which have its indices.
 fn listed(list: &[Field], indices: [usize; 3]) -> Range<usize> {
@@ -78,6 +79,7 @@ fn hold_cells(message: &[u8], number: usize, table: &Table<'_>, list: &[Field]) 
 fn the_samples() -> Result<(), Refusal> {
     hold_against_the_proved(REPLY)?;
     hold_against_the_proved(WITHOUT_VESSEL)?;
+    hold_against_the_proved(BIG_REPORT)?;
     for other in [LOGIN, LOGIN_REPLY, CALL] {
         let refusal = accept(Kind::Response, other).unwrap_err();
         assert_eq!(Table::new(other, 0).map(|_| ()), Err(refusal));
@@ -94,6 +96,11 @@ fn the_insurer_s_question() -> Result<(), Refusal> {
     assert_eq!(limit.place, 238..254);
     let vessel = table.row(1)?.get("VESSEL")?;
     assert_eq!((vessel.value, &REPLY[vessel.place]), (Value::from("Bodil"), &b"\0\0\0\x05Bodil"[..]));
+
+    let table = Table::new(BIG_REPORT, 0)?;
+    assert_eq!((table.columns().len(), table.find("THROTTLE_LIMIT")?), (400, 257));
+    let limit = table.row(1)?.get("THROTTLE_LIMIT")?;
+    assert_eq!((limit.value.to_string().as_str(), limit.place), ("0.8", 12021..12037));
     Ok(())
 }
 

@@ -179,6 +179,39 @@ fn columns_are_given_as_pairs_of_any_names() -> Result<(), Refusal> {
     Ok(())
 }
 
+/// As many columns as a table may have, and one more; then a table of few, which has nothing of those before it.
+#[test]
+fn the_most_columns() -> Result<(), Refusal> {
+    const MOST: usize = 1024;
+    let names: Vec<String> = (0..=MOST).map(|column| format!("C{column}")).collect();
+    let all: Vec<(&str, WireType)> = names.iter().map(|name| (name.as_str(), WireType::Smallint)).collect();
+    let mut out = vec![0; 20_000];
+    let mut w = ReplyWriter::begin(&mut out, ReplyHead::default())?;
+    let place = w.position();
+    assert_eq!(w.open_table(0, &all).map(|_| ()), Err(Refusal { cause: Cause::OverLimit, place }));
+    w.open_table(0, &all[..MOST])?.row((0..MOST).map(|column| Value::Smallint(column as i16)))?;
+    assert_eq!(cause(w.row([Value::Smallint(0)])), Cause::WrongStage);
+    w.close_table()?.open_table(0, [("A", WireType::Integer)])?.row([Value::Integer(1)])?;
+    assert_eq!(cause(w.row([Value::Smallint(1)])), Cause::WireType);
+    w.close_table()?;
+    let message = w.finish()?;
+
+    let table = Table::new(message, 0)?;
+    assert_eq!(table.columns().len(), MOST);
+    for (column, name) in names[..MOST].iter().enumerate() {
+        assert_eq!(table.row(0)?.get(name)?.value, Value::Smallint(column as i16));
+        assert_eq!(cell(message, 0, 0, column), Ok(Value::Smallint(column as i16)));
+    }
+    assert_eq!(cell(message, 1, 0, 0), Ok(Value::Integer(1)));
+    Ok(())
+}
+
+/// The room for the types of as many columns as a table may have isn't moved with the writer.
+#[test]
+fn a_writer_is_small() {
+    assert!(std::mem::size_of::<ReplyWriter<'_>>() < 200);
+}
+
 #[test]
 fn a_refused_row_leaves_the_writer_as_it_was() -> Result<(), Refusal> {
     let mut out = [0; 100];
