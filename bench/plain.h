@@ -16,6 +16,9 @@ enum {
     PLAIN_DECIMAL = 22, PLAIN_VARBINARY = 25, PLAIN_POINT = 26, PLAIN_GEOGRAPHY = 27
 };
 
+/* The most columns of a table. */
+enum { PLAIN_COLUMNS = 1024 };
+
 /* Whether a message is a response. */
 plain_refusal plain_accept(const uint8_t *message, size_t length);
 
@@ -50,7 +53,7 @@ typedef struct {
     plain_stage stage;
     size_t count_at, table_at, rows_at, row_at;
     uint32_t tables, rows, cells, columns;
-    uint8_t types[64];
+    uint8_t types[PLAIN_COLUMNS]; /* as many as the open table has columns: a step sets no others, and copies none */
 } plain_writer;
 
 typedef struct {

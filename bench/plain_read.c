@@ -84,7 +84,7 @@ WALK metadata(reader *r, size_t table_end, lister *l, size_t i, const uint8_t **
     if (!length(r, table_end, INT32_MAX, l, 42, i, 0, 0, &size)) return false;
     size_t end = r->at + size;
     if (!block(r, end, 1, l, 43, i, 0, 0)) return false;
-    if (!count(r, end, MOST_COLUMNS, l, 44, i, columns)) return false;
+    if (!count(r, end, PLAIN_COLUMNS, l, 44, i, columns)) return false;
     *types = r->m + r->at;
     for (size_t k = 0; k < *columns; k++) {
         if (!block(r, end, 1, l, 45, i, 0, k)) return false;
@@ -232,21 +232,34 @@ plain_refusal plain_find_column(const uint8_t *m, size_t size, size_t table, con
     return refused(NO_COLUMN, 0);
 }
 
-/* Whether a card has its form, and where it breaks it. */
-static bool card_fine(const uint8_t *card, size_t size, size_t *wrong) {
+/* What a card says. */
+typedef struct {
+    size_t position, name_size;
+    uint8_t type;
+    const uint8_t *name;
+} card_content;
+
+/* Whether a card has the form of its kind, and where it breaks it. */
+static bool card_fine(const uint8_t *card, size_t size, card_content *is, size_t *wrong) {
     *wrong = 0;
-    if (size == 0 || card[0] != 1) return false;
-    *wrong = size < CARD ? size : CARD;
-    if (size != CARD) return false;
+    if (size == 0 || (card[0] != NEAR_KIND && card[0] != FAR_KIND)) return false;
+    bool far = card[0] == FAR_KIND;
+    size_t whole = far ? FAR_CARD : NEAR_CARD, type_at = far ? 3 : 2, name_at = type_at + 2;
+    *wrong = size < whole ? size : whole;
+    if (size != whole) return false;
     *wrong = 1;
-    if (card[1] >= MOST_COLUMNS) return false;
-    *wrong = 2;
-    if (!is_column_type(card[2])) return false;
-    *wrong = 3;
-    if (card[3] > CARD - CARD_NAME) return false;
-    for (*wrong = CARD_NAME; *wrong < CARD_NAME + (size_t)card[3]; ++*wrong)
+    is->position = far ? load16(card + 1) : card[1];
+    if (far ? is->position < FAR_POSITION || is->position >= PLAIN_COLUMNS : is->position >= FAR_POSITION) return false;
+    *wrong = type_at;
+    is->type = card[type_at];
+    if (!is_column_type(is->type)) return false;
+    *wrong = type_at + 1;
+    is->name_size = card[type_at + 1];
+    if (is->name_size > CARD_NAME) return false;
+    is->name = card + name_at;
+    for (*wrong = name_at; *wrong < name_at + is->name_size; ++*wrong)
         if (card[*wrong] > 127) return false;
-    for (; *wrong < CARD; ++*wrong)
+    for (; *wrong < whole; ++*wrong)
         if (card[*wrong] != 0) return false;
     return true;
 }
@@ -254,14 +267,15 @@ static bool card_fine(const uint8_t *card, size_t size, size_t *wrong) {
 plain_refusal plain_open_card(const uint8_t *m, size_t size, size_t table, const uint8_t *card, size_t card_size, size_t *column) {
     plain_refusal no = plain_accept(m, size);
     size_t at, wrong;
+    card_content is;
     if (no.number != 0) return no;
-    if (!card_fine(card, card_size, &wrong)) return refused(CARD_FORM, wrong);
+    if (!card_fine(card, card_size, &is, &wrong)) return refused(CARD_FORM, wrong);
     if (!table_at(m, size, table, &at)) return refused(PAST_END, 0);
-    size_t columns = load16(m + at + 9), position = card[1];
-    if (position >= columns || m[at + 11 + position] != card[2]) return refused(STALE, 0);
+    size_t columns = load16(m + at + 9);
+    if (is.position >= columns || m[at + 11 + is.position] != is.type) return refused(STALE, 0);
     at += 11 + columns;
-    for (size_t k = 0; k < position; k++) at += 4 + load32(m + at);
-    if (!is_named(m + at, card + CARD_NAME, card[3])) return refused(STALE, 0);
-    *column = position;
+    for (size_t k = 0; k < is.position; k++) at += 4 + load32(m + at);
+    if (!is_named(m + at, is.name, is.name_size)) return refused(STALE, 0);
+    *column = is.position;
     return no;
 }

@@ -8,12 +8,12 @@ enum {
     STAGE = 13, BAD_TEXT = 20, BAD_DECIMAL = 21, BAD_POINT = 22, BAD_FLAGS = 23, BAD_NAME = 24, BAD_GEOGRAPHY = 25
 };
 
-enum { MOST_MESSAGE = 4194304, MOST_BODY = 1048576, MOST_ROW = 2097152, MOST_COLUMNS = 64, MOST_ITEMS = 32767 };
+enum { MOST_MESSAGE = 4194304, MOST_BODY = 1048576, MOST_ROW = 2097152, MOST_ITEMS = 32767 };
 
 enum { FLAG_STATUS = 32, FLAG_EXCEPTION = 64, FLAG_APPLICATION = 128, OTHER_FLAGS = 31 };
 
-/* A shortcut card: how many bytes it has, and where its name stands in it. */
-enum { CARD = 36, CARD_NAME = 4 };
+/* A shortcut card: its kind, a position of one byte (near) or of two (far), the type, the name's length, and a place for the name. */
+enum { NEAR_KIND = 1, FAR_KIND = 2, NEAR_CARD = 36, FAR_CARD = 37, FAR_POSITION = 64, CARD_NAME = 32 };
 
 /* An area: where its parts stand and how many bytes they have. */
 enum { HOLES_AT = 2, RINGS_AT = 3, AREA_HEAD = 7, RING_HEAD = 5, VERTEX = 24, RING_KEPT = 38, AREA_KEPT = 33, LEAST_VERTICES = 3 };

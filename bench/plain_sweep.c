@@ -1,7 +1,7 @@
 /* The plain reader and writer over frames, to be held against the second reader: standard input is a row of frames (4 bytes
    of size, big-endian, then one byte of kind, 4, and a message). For each it prints the field list, or `refused NUMBER PLACE`,
    and a line with a dot. It also asks for each cell and column, and writes each accepted message anew, and says where either differs, or
-   where a torn text, or what breaks another rule of its own, is written.
+   where a torn text, or what breaks another rule of its own, or too many columns are written, or a broken card is opened.
    With kind 27, the wire type of a geography, it is an area: behind its field list stands what it is with its holes turned. */
 #include "plain_rules.h"
 #include <stdio.h>
@@ -30,26 +30,48 @@ static size_t first_named(const uint64_t *name, size_t count) {
     size_t size = load32(message + name[0]);
     for (const uint64_t *e = entries; e < entries + 6 * count; e += 6)
         if (e[2] == 46 && e[3] == name[3] && load32(message + e[0]) == size && memcmp(message + e[0], message + name[0], 4 + size) == 0) return e[5];
-    return MOST_COLUMNS;
+    return PLAIN_COLUMNS;
 }
+
+/* A card, and where its type stands; behind that its name's length and its name. */
+typedef struct {
+    uint8_t bytes[FAR_CARD + 1];
+    size_t size, type_at;
+} made_card;
+
+static void set_position(made_card *c, size_t position) {
+    if (c->bytes[0] == FAR_KIND) store16(c->bytes + 1, (uint32_t)position);
+    else c->bytes[1] = (uint8_t)position;
+}
+
+static made_card card_of(bool far, size_t position, uint8_t type, const uint8_t *name, size_t name_size) {
+    made_card c = {.bytes = {far ? FAR_KIND : NEAR_KIND}, .size = far ? FAR_CARD : NEAR_CARD, .type_at = far ? 3 : 2};
+    set_position(&c, position);
+    c.bytes[c.type_at] = type;
+    c.bytes[c.type_at + 1] = (uint8_t)name_size;
+    memcpy(c.bytes + c.type_at + 2, name, name_size);
+    return c;
+}
+
+static plain_refusal opened(size_t size, size_t table, const made_card *c, size_t *column) { return plain_open_card(message, size, table, c->bytes, c->size, column); }
 
 /* The card of a column, if its name is short enough, opens that column alone: not with another type, name or position. */
 static bool card_agrees(size_t size, const uint64_t *name, uint8_t type) {
-    uint8_t card[CARD] = {1, (uint8_t)name[5], type, (uint8_t)load32(message + name[0])};
-    size_t column = MOST_COLUMNS;
-    if (load32(message + name[0]) > CARD - CARD_NAME) return true;
-    memcpy(card + CARD_NAME, message + name[0] + 4, card[3]);
-    if (plain_open_card(message, size, name[3], card, CARD, &column).number != 0 || column != name[5]) return false;
-    if (plain_open_card(message, size, name[3], card, CARD - 1, &column).number != CARD_FORM) return false;
-    for (size_t k = 2; k < CARD_NAME + (size_t)card[3]; k++) {
-        if (k == 3) continue;
-        uint8_t is = card[k];
-        card[k] = k == 2 ? (is == PLAIN_FLOAT ? PLAIN_POINT : PLAIN_FLOAT) : is ^ 1;
-        if (plain_open_card(message, size, name[3], card, CARD, &column).number != STALE) return false;
-        card[k] = is;
+    size_t name_size = load32(message + name[0]), column = PLAIN_COLUMNS;
+    bool far = name[5] >= FAR_POSITION;
+    if (name_size > CARD_NAME) return true;
+    made_card c = card_of(far, name[5], type, message + name[0] + 4, name_size);
+    if (opened(size, name[3], &c, &column).number != 0 || column != name[5]) return false;
+    for (size_t k = c.type_at; k < c.type_at + 2 + name_size; k++) {
+        if (k == c.type_at + 1) continue;
+        uint8_t is = c.bytes[k];
+        c.bytes[k] = k == c.type_at ? (is == PLAIN_FLOAT ? PLAIN_POINT : PLAIN_FLOAT) : is ^ 1;
+        if (opened(size, name[3], &c, &column).number != STALE) return false;
+        c.bytes[k] = is;
     }
-    card[1] = MOST_COLUMNS - 1;
-    return name[5] == MOST_COLUMNS - 1 || plain_open_card(message, size, name[3], card, CARD, &column).number == STALE || column == MOST_COLUMNS - 1;
+    size_t last = far ? PLAIN_COLUMNS - 1 : FAR_POSITION - 1;
+    set_position(&c, last);
+    return name[5] == last || opened(size, name[3], &c, &column).number == STALE || column == last;
 }
 
 /* The columns as the list has them. */
@@ -75,7 +97,7 @@ static bool put_cell(plain_writer *w, const plain_cell *c) {
 
 /* A table at `at`, whose columns' entries are made from its bytes. */
 static bool put_table(plain_writer *w, size_t size, size_t table, size_t at) {
-    plain_column columns[64];
+    plain_column columns[PLAIN_COLUMNS];
     size_t count = load16(message + at + 9), rows, name = at + 11 + count;
     for (size_t k = 0; k < count; k++) {
         columns[k].type = message[at + 11 + k];
@@ -163,6 +185,53 @@ static bool torn_cell_refused(size_t count) {
     return is_refused(plain_put_body(&w, PLAIN_STRING, false, torn, sizeof torn), BAD_TEXT, at) && w.at == at;
 }
 
+/* A table of one column too many isn't opened, and one of as many as there may be is. */
+static bool too_many_columns_refused(size_t count) {
+    static plain_column columns[PLAIN_COLUMNS + 1];
+    plain_writer w;
+    plain_opening o = opening(count);
+    for (size_t k = 0; k <= PLAIN_COLUMNS; k++) columns[k].type = PLAIN_BIGINT;
+    if (plain_begin(&w, again, MOST_FRAME, message[4], &o).number != 0) return false;
+    if (!is_refused(plain_open_table(&w, 0, columns, PLAIN_COLUMNS + 1, message, 0), LIMIT, w.at)) return false;
+    return plain_open_table(&w, 0, columns, PLAIN_COLUMNS, message, 0).number == 0;
+}
+
+static bool is_broken(size_t size, const made_card *c, size_t place) {
+    size_t column;
+    return is_refused(opened(size, 0, c, &column), CARD_FORM, place);
+}
+
+/* A card that breaks the form of its kind is refused at its first wrong byte, or at the smaller of the sizes. */
+static bool broken_cards_refused(size_t size) {
+    made_card none = {.bytes = {NEAR_KIND}}, other = card_of(false, 0, PLAIN_BIGINT, torn, 0);
+    for (size_t kind = 0; kind < 256; kind++) {
+        other.bytes[0] = (uint8_t)kind;
+        if (kind != NEAR_KIND && kind != FAR_KIND && !is_broken(size, &other, 0)) return false;
+    }
+    for (size_t far = 0; far < 2; far++) {
+        size_t least = far ? FAR_POSITION : 0, end = far ? PLAIN_COLUMNS : FAR_POSITION;
+        const made_card fine = card_of(far, least, PLAIN_BIGINT, torn, 2);
+        made_card c = fine;
+        for (c.size = 1; c.size < fine.size; c.size++)
+            if (!is_broken(size, &c, c.size)) return false;
+        c.size = fine.size + 1;
+        if (!is_broken(size, &c, fine.size)) return false;
+        c = fine, set_position(&c, end);
+        if (!is_broken(size, &c, 1)) return false;
+        c = fine, set_position(&c, least - 1);
+        if (!is_broken(size, &c, 1)) return false;
+        c = fine, c.bytes[c.type_at] = PLAIN_TINYINT - 1;
+        if (!is_broken(size, &c, c.type_at)) return false;
+        c = fine, c.bytes[c.type_at + 1] = CARD_NAME + 1;
+        if (!is_broken(size, &c, c.type_at + 1)) return false;
+        for (size_t k = c.type_at + 2; k < c.size; k++) {
+            c = fine, c.bytes[k] = 128;
+            if (!is_broken(size, &c, k)) return false;
+        }
+    }
+    return is_broken(size, &none, 0);
+}
+
 /* What breaks a rule of its own is refused by its number, at the writer's position: flags, a name, a decimal, a point, a geography. */
 static bool wrong_values_refused(size_t count) {
     const plain_column unnamed[] = {{PLAIN_DECIMAL, 0, 0}, {PLAIN_POINT, 0, 0}, {PLAIN_GEOGRAPHY, 0, 0}}, named = {PLAIN_STRING, 1, 2};
@@ -223,6 +292,8 @@ static void one(size_t size) {
     if (!written_alike(size, count)) printf("written anew, the message differs\n");
     if (!torn_opening_refused(count) || !torn_cell_refused(count)) printf("a torn text is written\n");
     if (!wrong_values_refused(count)) printf("what breaks a rule of its own is written\n");
+    if (!too_many_columns_refused(count)) printf("a table of too many columns is written\n");
+    if (!broken_cards_refused(size)) printf("a card that breaks its form isn't refused there\n");
 }
 
 static void one_area(size_t size) {

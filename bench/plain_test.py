@@ -12,6 +12,7 @@ ROOT = pathlib.Path(__file__).resolve().parents[1]
 sys.path.insert(0, str(ROOT / "tests" / "second"))
 
 import areas
+import generate_columns
 import generate_texts
 import generate_values
 from frames import frame
@@ -26,7 +27,8 @@ from wire import *
 def main(count=4000, seed=1):
     """What is accepted is written anew too, and areas are turned."""
     replies = [message for kind, message in messages(count, seed) if kind == REPLY]
-    replies += [message for kind, message, _ in (*generate_texts.messages(), *generate_values.messages()) if kind == REPLY]
+    edged = (*generate_texts.messages(), *generate_values.messages(), *generate_columns.messages())
+    replies += [message for kind, message, _ in edged if kind == REPLY]
     inside = [*edges(), *bodies(count, seed)]
     fine = [compared("replies", REPLY, replies, listing_of_reply, must=OF_READING),
             compared("areas", GEOGRAPHY, inside, listing_and_turned, must=(NO_ROOM, BAD_SIGN, LEFT_OVER, BAD_GEOGRAPHY))]

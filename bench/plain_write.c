@@ -9,12 +9,14 @@ static plain_refusal refused(uint32_t number, size_t place) {
     return no;
 }
 
-/* The message limit and the room for `bytes` more at the position. */
-static plain_refusal room_for(const plain_writer *w, size_t bytes) {
-    size_t reached = w->at + bytes;
-    if (reached > 4 + MOST_MESSAGE) return refused(LIMIT, w->at);
-    return reached > w->size ? refused(OUTPUT, reached) : fine;
+/* The message limit and the room for `bytes` more at a place of a buffer of `size`. */
+static plain_refusal room_at(size_t at, size_t size, size_t bytes) {
+    size_t reached = at + bytes;
+    if (reached > 4 + MOST_MESSAGE) return refused(LIMIT, at);
+    return reached > size ? refused(OUTPUT, reached) : fine;
 }
+
+static plain_refusal room_for(const plain_writer *w, size_t bytes) { return room_at(w->at, w->size, bytes); }
 
 static void put8(plain_writer *w, uint8_t n) { w->buffer[w->at++] = n; }
 
@@ -55,7 +57,6 @@ static uint32_t text_fault(bool there, bool null, const uint8_t *text, size_t si
 
 plain_refusal plain_begin(plain_writer *w, uint8_t *buffer, size_t size, uint8_t version, const plain_opening *o) {
     bool status = o->flags & FLAG_STATUS, app = o->flags & FLAG_APPLICATION, exception = o->flags & FLAG_EXCEPTION;
-    plain_writer begun = {.buffer = buffer, .size = size, .stage = PLAIN_REPLY};
     if (version > 1) return refused(BAD_VERSION, 0);
     if (o->flags & OTHER_FLAGS) return refused(BAD_FLAGS, 0);
     uint32_t fault = text_fault(status, o->status_null, o->status_string, o->status_size);
@@ -64,21 +65,22 @@ plain_refusal plain_begin(plain_writer *w, uint8_t *buffer, size_t size, uint8_t
     if (fault != 0) return refused(fault, 0);
     size_t taken = 4 + 1 + 8 + 1 + 1 + counted_size(status, o->status_null, o->status_size) + 1
                  + counted_size(app, o->app_null, o->app_size) + 4 + counted_size(exception, false, o->exception_size) + 2;
-    plain_refusal no = room_for(&begun, taken);
+    plain_refusal no = room_at(0, size, taken);
     if (no.number != 0) return no;
-    put32(&begun, 0);
-    put8(&begun, version);
-    put_bytes(&begun, o->client, 8);
-    put8(&begun, o->flags);
-    put8(&begun, o->status);
-    if (status) put_counted(&begun, o->status_null, o->status_string, o->status_size);
-    put8(&begun, o->app_status);
-    if (app) put_counted(&begun, o->app_null, o->app_string, o->app_size);
-    put32(&begun, (uint32_t)o->round_trip);
-    if (exception) put_counted(&begun, false, o->exception, o->exception_size);
-    begun.count_at = begun.at;
-    put16(&begun, 0);
-    *w = begun;
+    w->buffer = buffer, w->size = size, w->at = 0;
+    w->stage = PLAIN_REPLY, w->tables = 0;
+    put32(w, 0);
+    put8(w, version);
+    put_bytes(w, o->client, 8);
+    put8(w, o->flags);
+    put8(w, o->status);
+    if (status) put_counted(w, o->status_null, o->status_string, o->status_size);
+    put8(w, o->app_status);
+    if (app) put_counted(w, o->app_null, o->app_string, o->app_size);
+    put32(w, (uint32_t)o->round_trip);
+    if (exception) put_counted(w, false, o->exception, o->exception_size);
+    w->count_at = w->at;
+    put16(w, 0);
     return fine;
 }
 
@@ -92,7 +94,7 @@ static plain_refusal name_fault(const plain_writer *w, const plain_column *c, co
 
 plain_refusal plain_open_table(plain_writer *w, uint8_t status, const plain_column *columns, size_t count, const uint8_t *names, size_t names_size) {
     if (w->stage != PLAIN_REPLY) return refused(STAGE, w->at);
-    if (count > MOST_COLUMNS) return refused(LIMIT, w->at);
+    if (count > PLAIN_COLUMNS) return refused(LIMIT, w->at);
     size_t metadata = 3 + count;
     for (size_t k = 0; k < count; k++)
         if (!is_column_type(columns[k].type)) return refused(BAD_TYPE, w->at);

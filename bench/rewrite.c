@@ -80,7 +80,7 @@ static uint64_t plain_hand_begin(pen *p, const uint8_t *m) {
 }
 
 static uint64_t plain_hand_open_table(pen *p, uint8_t status, const columns *c) {
-    plain_column entries[MOST_COLUMNS];
+    plain_column entries[PLAIN_COLUMNS];
     for (size_t k = 0, at = c->names; k < c->count; k++) {
         size_t size = load32(c->message + at);
         plain_column entry = {c->types[k], at + 4, size};
@@ -124,7 +124,7 @@ static uint64_t proved_begin(pen *p, const uint8_t *m) {
 }
 
 static uint64_t proved_open_table(pen *p, uint8_t status, const columns *c) {
-    uint64_t entries[3 * MOST_COLUMNS];
+    uint64_t entries[3 * PLAIN_COLUMNS];
     for (size_t k = 0, at = c->names; k < c->count; k++) {
         size_t size = load32(c->message + at);
         entries[3 * k] = c->types[k];
