@@ -2,7 +2,8 @@
 
      bench short    a few runs at small sizes: ratios alone
      bench table    each shape at its full size: time of both and their ratio
-     bench sweep    each shape from 1 KB to 4 MB: time per byte of both */
+     bench sweep    each shape from 1 KB to 4 MB: time per byte of both
+     bench columns  writing, by how many columns a table has: time per cell of both */
 #include "plain_rules.h"
 #include "rewrite.h"
 #include "shapes.h"
@@ -19,8 +20,8 @@ enum { MOST_NUMBERS = 6 * 2200000 };
 static uint8_t message[MOST_SIZE], plain_message[MOST_SIZE], proved_message[MOST_SIZE];
 static uint64_t plain_list[MOST_NUMBERS], proved_list[MOST_NUMBERS];
 static uint64_t plain_numbers[4], proved_numbers[4];
-static uint8_t card[CHALOENPIK_CARD];
-static size_t last_row, last_column, last_name, last_name_size, copied;
+static uint8_t card[CHALOENPIK_FAR_CARD];
+static size_t last_row, last_column, last_name, last_name_size, card_size, copied;
 
 static double now_ns(void) {
     struct timespec t;
@@ -90,11 +91,11 @@ static uint64_t find_proved(const uint8_t *m, size_t size) { return chaloenpik_f
 
 static uint64_t open_plain(const uint8_t *m, size_t size) {
     size_t column = 0;
-    plain_refusal no = plain_open_card(m, size, 0, card, sizeof card, &column);
+    plain_refusal no = plain_open_card(m, size, 0, card, card_size, &column);
     return found_or(no, column);
 }
 
-static uint64_t open_proved(const uint8_t *m, size_t size) { return chaloenpik_open_card(m, size, 0, card, sizeof card); }
+static uint64_t open_proved(const uint8_t *m, size_t size) { return chaloenpik_open_card(m, size, 0, card, card_size); }
 
 static uint64_t write_plain(const uint8_t *m, size_t size) { return rewrite_plain(m, size, plain_message, MOST_SIZE); }
 
@@ -156,7 +157,8 @@ static bool last_name_known(size_t size) {
     uint64_t part[2];
     if (!last_cell_known(size) || chaloenpik_refusal(chaloenpik_column_name(message, size, 0, last_column, part)) != 0) return false;
     last_name = part[0], last_name_size = part[1];
-    return chaloenpik_refusal(chaloenpik_make_card(message, size, 0, message + last_name, last_name_size, card, sizeof card)) == 0;
+    card_size = chaloenpik_card_size(last_column);
+    return chaloenpik_refusal(chaloenpik_make_card(message, size, 0, message + last_name, last_name_size, card, card_size)) == 0;
 }
 
 static bool accepted(size_t size) { return plain_accept(message, size).number == 0; }
@@ -186,25 +188,23 @@ static bool messages_alike(uint64_t answer) {
     return chaloenpik_refusal(answer) == 0 && memcmp(message, plain_message, size) == 0 && memcmp(message, proved_message, size) == 0;
 }
 
-static const question questions[] = {
-    {"accept", always, accept_plain, accept_proved, nothing_written},
-    {"list", always, list_plain, list_proved, lists_alike},
-    {"cell", last_cell_known, cell_plain, cell_proved, cells_alike},
-    {"write", accepted, write_plain, write_proved, messages_alike},
-};
+static const question of_accept = {"accept", always, accept_plain, accept_proved, nothing_written};
+static const question of_list = {"list", always, list_plain, list_proved, lists_alike};
+static const question of_cell = {"cell", last_cell_known, cell_plain, cell_proved, cells_alike};
+static const question of_find = {"find", last_name_known, find_plain, find_proved, nothing_written};
+static const question of_open = {"open", last_name_known, open_plain, open_proved, nothing_written};
+static const question of_write = {"write", accepted, write_plain, write_proved, messages_alike};
+static const question of_area = {"accept", always, area_plain, area_proved, nothing_written};
+static const question of_area_list = {"list", always, area_list_plain, area_list_proved, lists_alike};
+static const question of_turn = {"turn", copies_made, turn_plain, turn_proved, copies_alike};
+static const question of_area_write = {"write", always, area_write_plain, area_write_proved, messages_alike};
 
-static const question column_questions[] = {
-    {"accept", always, accept_plain, accept_proved, nothing_written},
-    {"find", last_name_known, find_plain, find_proved, nothing_written},
-    {"open", last_name_known, open_plain, open_proved, nothing_written},
-};
-
-static const question area_questions[] = {
-    {"accept", always, area_plain, area_proved, nothing_written},
-    {"list", always, area_list_plain, area_list_proved, lists_alike},
-    {"turn", copies_made, turn_plain, turn_proved, copies_alike},
-    {"write", always, area_write_plain, area_write_proved, messages_alike},
-};
+/* What is asked of which shapes; the last is NULL. */
+static const question *const questions[] = {&of_accept, &of_list, &of_cell, &of_write, NULL};
+static const question *const column_questions[] = {&of_accept, &of_find, &of_open, NULL};
+static const question *const report_questions[] = {&of_accept, &of_list, &of_cell, &of_find, &of_open, &of_write, NULL};
+static const question *const area_questions[] = {&of_area, &of_area_list, &of_turn, &of_area_write, NULL};
+static const question *const wide_questions[] = {&of_write, NULL};
 
 static int by_size(const void *a, const void *b) {
     double x = *(const double *)a, y = *(const double *)b;
@@ -264,23 +264,24 @@ static times measured(const question *q, const shape *s, size_t size, size_t run
 
 typedef void print_line(const char *question, const char *shape, size_t size, times t);
 
-/* A line for each shape and size. */
-static void each_shape(const question *q, const shape *s, size_t count, size_t least, size_t most, size_t runs, print_line *print) {
-    for (size_t n = 0; n < count; n++)
-        for (size_t room = least; room <= most; room *= 4) {
-            size_t size = s[n].make(message, room);
-            if (q->ready(size)) print(q->name, s[n].name, size, measured(q, &s[n], size, runs));
-        }
+/* A line for each question, shape and size that has room for the shape. */
+static void each_of(const question *const *q, const shape *s, size_t count, size_t least, size_t most, size_t runs, print_line *print) {
+    for (; *q != NULL; q++)
+        for (size_t n = 0; n < count; n++)
+            for (size_t room = least; room <= most; room *= 4) {
+                size_t size = s[n].make(message, room);
+                if (size > 0 && (*q)->ready(size)) print((*q)->name, s[n].name, size, measured(*q, &s[n], size, runs));
+            }
 }
 
-/* Every question about replies; about columns, in replies of one size; and about areas, which have at most MOST_BODY bytes in a message. */
+/* Every question about replies; about columns, in replies of one size; about reports, which have both; and about areas, which have at most MOST_BODY bytes
+   in a message. */
 static void each(size_t least, size_t most, size_t runs, print_line *print) {
     size_t least_area = least < MOST_BODY ? least : MOST_BODY, most_area = most < MOST_BODY ? most : MOST_BODY;
-    for (size_t k = 0; k < sizeof questions / sizeof *questions; k++) each_shape(&questions[k], shapes, shape_count, least, most, runs, print);
-    for (size_t k = 0; k < sizeof column_questions / sizeof *column_questions; k++)
-        each_shape(&column_questions[k], column_shapes, column_shape_count, MOST_SIZE, MOST_SIZE, runs, print);
-    for (size_t k = 0; k < sizeof area_questions / sizeof *area_questions; k++)
-        each_shape(&area_questions[k], area_shapes, area_shape_count, least_area, most_area, runs, print);
+    each_of(questions, shapes, shape_count, least, most, runs, print);
+    each_of(column_questions, column_shapes, column_shape_count, MOST_SIZE, MOST_SIZE, runs, print);
+    each_of(report_questions, report_shapes, report_shape_count, least, most, runs, print);
+    each_of(area_questions, area_shapes, area_shape_count, least_area, most_area, runs, print);
 }
 
 static void print_ratio(const char *question, const char *shape, size_t size, times t) { printf("%-8s %-12s %9zu %7.2f\n", question, shape, size, t.ratio); }
@@ -291,6 +292,12 @@ static void print_times(const char *question, const char *shape, size_t size, ti
 
 static void print_times_a_byte(const char *question, const char *shape, size_t size, times t) {
     printf("%-8s %-12s %9zu %13.3f %13.3f %7.2f\n", question, shape, size, t.plain / (double)size, t.proved / (double)size, t.ratio);
+}
+
+static void print_times_a_cell(const char *question, const char *shape, size_t size, times t) {
+    uint64_t rows = chaloenpik_value(chaloenpik_rows(message, size, 0)), columns = chaloenpik_value(chaloenpik_columns(message, size, 0));
+    double cells = (double)(rows * columns);
+    printf("%-8s %7s %9zu %13.1f %13.1f %7.2f\n", question, shape, size, t.plain / cells, t.proved / cells, t.ratio);
 }
 
 static void print_short(void) {
@@ -308,13 +315,19 @@ static void print_sweep(void) {
     each(1024, MOST_MESSAGE, 9, print_times_a_byte);
 }
 
+static void print_columns(void) {
+    printf("%-8s %7s %9s %13s %13s %7s\n", "question", "columns", "bytes", "plain ns/cell", "proved ns/c.", "ratio");
+    each_of(wide_questions, wide_shapes, wide_shape_count, MOST_SIZE, MOST_SIZE, 9, print_times_a_cell);
+}
+
 int main(int count, char **words) {
     const char *what = count == 2 ? words[1] : "";
     if (strcmp(what, "short") == 0) print_short();
     else if (strcmp(what, "table") == 0) print_table();
     else if (strcmp(what, "sweep") == 0) print_sweep();
+    else if (strcmp(what, "columns") == 0) print_columns();
     else {
-        fprintf(stderr, "usage: bench short|table|sweep\n");
+        fprintf(stderr, "usage: bench short|table|sweep|columns\n");
         return 2;
     }
     return 0;

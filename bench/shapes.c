@@ -16,13 +16,39 @@ static void begin(plain_writer *w, uint8_t *buffer, size_t size) {
 }
 
 static void open_table(plain_writer *w, const uint8_t *types, size_t count, size_t name_size) {
-    plain_column columns[64];
+    plain_column columns[PLAIN_COLUMNS];
     for (size_t k = 0; k < count; k++) {
         columns[k].type = types[k];
         columns[k].name = k % 26;
         columns[k].name_size = name_size;
     }
     plain_open_table(w, 0, columns, count, letters, sizeof letters - 1);
+}
+
+/* How the columns of a family are named: by what all share, and by the column's number, in one order or the other. */
+typedef struct {
+    size_t digits;
+    bool number_first;
+} naming;
+
+static void put_digits(uint8_t *at, size_t digits, size_t number) {
+    for (; digits > 0; digits--, number /= 10) at[digits - 1] = (uint8_t)('0' + number % 10);
+}
+
+/* Whether there was room for the columns of a family. */
+static bool open_family(plain_writer *w, const uint8_t *types, size_t count, naming by) {
+    static const uint8_t shared[] = "HARBOUR_ENGINE_LIMIT";
+    enum { SHARED = sizeof shared - 1, MOST_DIGITS = 4 };
+    uint8_t names[PLAIN_COLUMNS * (SHARED + MOST_DIGITS)];
+    plain_column columns[PLAIN_COLUMNS];
+    size_t each = SHARED + by.digits;
+    for (size_t k = 0; k < count; k++) {
+        uint8_t *name = names + k * each;
+        memcpy(by.number_first ? name + by.digits : name, shared, SHARED);
+        put_digits(by.number_first ? name : name + SHARED, by.digits, k);
+        columns[k].type = types[k], columns[k].name = k * each, columns[k].name_size = each;
+    }
+    return plain_open_table(w, 0, columns, count, names, count * each).number == 0;
 }
 
 /* Puts a value of a type into the open row. */
@@ -100,25 +126,30 @@ static plain_refusal put_prose(plain_writer *w, uint8_t type, uint64_t *state) {
     return plain_put_body(w, type, false, text, (size_t)(end - text));
 }
 
-/* Rows of some types until the buffer is full. The row that doesn't fit any more is taken back. */
-static size_t fill_with(put_value *put, uint8_t *buffer, size_t size, const uint8_t *types, size_t count) {
-    plain_writer w;
+/* Rows of the open table until the buffer is full. The row that doesn't fit any more is taken back. */
+static size_t fill_rows(put_value *put, plain_writer *w) {
     uint64_t state = 1;
-    begin(&w, buffer, size);
-    open_table(&w, types, count, 6);
     for (;;) {
-        plain_writer before = w;
-        bool whole = plain_open_row(&w).number == 0;
-        for (size_t k = 0; whole && k < count; k++) whole = put(&w, types[k], &state).number == 0;
+        size_t at = w->at;
+        uint32_t rows = w->rows;
+        bool whole = plain_open_row(w).number == 0;
+        for (size_t k = 0; whole && k < w->columns; k++) whole = put(w, w->types[k], &state).number == 0;
         if (!whole) {
-            w = before;
+            w->at = at, w->rows = rows, w->stage = PLAIN_TABLE;
             break;
         }
-        plain_close_row(&w);
+        plain_close_row(w);
     }
-    plain_close_table(&w);
-    plain_finish(&w);
-    return w.at;
+    plain_close_table(w);
+    plain_finish(w);
+    return w->at;
+}
+
+static size_t fill_with(put_value *put, uint8_t *buffer, size_t size, const uint8_t *types, size_t count) {
+    plain_writer w;
+    begin(&w, buffer, size);
+    open_table(&w, types, count, 6);
+    return fill_rows(put, &w);
 }
 
 static size_t fill(uint8_t *buffer, size_t size, const uint8_t *types, size_t count) { return fill_with(put_any, buffer, size, types, count); }
@@ -171,11 +202,16 @@ static size_t tinyints(uint8_t *buffer, size_t size) {
     return fill(buffer, size, types, sizeof types);
 }
 
+static const uint8_t every_type[] = {PLAIN_INTEGER, PLAIN_STRING, PLAIN_DECIMAL, PLAIN_TIMESTAMP, PLAIN_POINT, PLAIN_TINYINT, PLAIN_VARBINARY, PLAIN_BIGINT, PLAIN_FLOAT, PLAIN_SMALLINT, PLAIN_GEOGRAPHY};
+
+static void take_turns(uint8_t *types, size_t count, const uint8_t *cycle, size_t turn) {
+    for (size_t k = 0; k < count; k++) types[k] = cycle[k % turn];
+}
+
 /* 64 columns, of every type in turn. */
 static size_t mixed(uint8_t *buffer, size_t size) {
-    const uint8_t cycle[] = {PLAIN_INTEGER, PLAIN_STRING, PLAIN_DECIMAL, PLAIN_TIMESTAMP, PLAIN_POINT, PLAIN_TINYINT, PLAIN_VARBINARY, PLAIN_BIGINT, PLAIN_FLOAT, PLAIN_SMALLINT, PLAIN_GEOGRAPHY};
     uint8_t types[64];
-    for (size_t k = 0; k < sizeof types; k++) types[k] = cycle[k % sizeof cycle];
+    take_turns(types, sizeof types, every_type, sizeof every_type);
     return fill(buffer, size, types, sizeof types);
 }
 
@@ -238,32 +274,65 @@ static size_t names(uint8_t *buffer, size_t size) {
     return (size_t)(p - buffer);
 }
 
-/* 64 columns of bigints and one row. Each name is a part that all share and the column's number, in one order or the other. */
-static size_t family(uint8_t *buffer, size_t size, bool number_first) {
-    static const uint8_t shared[] = "HARBOUR_ENGINE_LIMIT";
-    enum { SHARED = sizeof shared - 1, NUMBER = 2, NAME = SHARED + NUMBER };
-    uint8_t names[MOST_COLUMNS * NAME];
-    plain_column columns[MOST_COLUMNS];
+/* One row of so many bigints. */
+static size_t family(uint8_t *buffer, size_t size, size_t count, naming by) {
+    uint8_t types[PLAIN_COLUMNS];
     plain_writer w;
-    for (size_t k = 0; k < MOST_COLUMNS; k++) {
-        uint8_t *name = names + k * NAME, *number = number_first ? name : name + SHARED;
-        memcpy(number_first ? name + NUMBER : name, shared, SHARED);
-        number[0] = (uint8_t)('0' + k / 10), number[1] = (uint8_t)('0' + k % 10);
-        columns[k].type = PLAIN_BIGINT, columns[k].name = k * NAME, columns[k].name_size = NAME;
-    }
+    memset(types, PLAIN_BIGINT, count);
     begin(&w, buffer, size);
-    plain_open_table(&w, 0, columns, MOST_COLUMNS, names, sizeof names);
+    open_family(&w, types, count, by);
     plain_open_row(&w);
-    for (size_t k = 0; k < MOST_COLUMNS; k++) plain_put_number(&w, PLAIN_BIGINT, k);
+    for (size_t k = 0; k < count; k++) plain_put_number(&w, PLAIN_BIGINT, k);
     plain_close_row(&w);
     plain_close_table(&w);
     plain_finish(&w);
     return w.at;
 }
 
-static size_t begin_alike(uint8_t *buffer, size_t size) { return family(buffer, size, false); }
+static const naming of_two_digits = {2, false}, two_digits_first = {2, true}, of_four_digits = {4, false};
 
-static size_t end_alike(uint8_t *buffer, size_t size) { return family(buffer, size, true); }
+static size_t begin_alike(uint8_t *buffer, size_t size) { return family(buffer, size, 64, of_two_digits); }
+
+static size_t end_alike(uint8_t *buffer, size_t size) { return family(buffer, size, 64, two_digits_first); }
+
+static size_t alike_400(uint8_t *buffer, size_t size) { return family(buffer, size, 400, of_four_digits); }
+
+static size_t alike_1024(uint8_t *buffer, size_t size) { return family(buffer, size, PLAIN_COLUMNS, of_four_digits); }
+
+/* Rows of so many columns of a family, of some types in turn. 0 if there is no room for one. */
+static size_t report(uint8_t *buffer, size_t size, size_t count, const uint8_t *cycle, size_t turn) {
+    uint8_t types[PLAIN_COLUMNS];
+    plain_writer w;
+    take_turns(types, count, cycle, turn);
+    begin(&w, buffer, size);
+    if (!open_family(&w, types, count, of_four_digits)) return 0;
+    size_t taken = fill_rows(put_any, &w);
+    return w.rows > 0 ? taken : 0;
+}
+
+/* Those whose size is fixed and that have no rule. */
+static const uint8_t number_types[] = {PLAIN_TINYINT, PLAIN_SMALLINT, PLAIN_INTEGER, PLAIN_BIGINT, PLAIN_FLOAT, PLAIN_TIMESTAMP};
+
+static size_t numbers_400(uint8_t *buffer, size_t size) { return report(buffer, size, 400, number_types, sizeof number_types); }
+
+static size_t numbers_1024(uint8_t *buffer, size_t size) { return report(buffer, size, PLAIN_COLUMNS, number_types, sizeof number_types); }
+
+static size_t mixed_400(uint8_t *buffer, size_t size) { return report(buffer, size, 400, every_type, sizeof every_type); }
+
+static size_t mixed_1024(uint8_t *buffer, size_t size) { return report(buffer, size, PLAIN_COLUMNS, every_type, sizeof every_type); }
+
+static size_t wide(uint8_t *buffer, size_t size, size_t count) {
+    const uint8_t bigint = PLAIN_BIGINT;
+    return report(buffer, size, count, &bigint, 1);
+}
+
+static size_t wide_8(uint8_t *buffer, size_t size) { return wide(buffer, size, 8); }
+
+static size_t wide_64(uint8_t *buffer, size_t size) { return wide(buffer, size, 64); }
+
+static size_t wide_400(uint8_t *buffer, size_t size) { return wide(buffer, size, 400); }
+
+static size_t wide_1024(uint8_t *buffer, size_t size) { return wide(buffer, size, PLAIN_COLUMNS); }
 
 const shape shapes[] = {
     {"bigints", "rows of 8 bigints", bigints},
@@ -289,9 +358,29 @@ const size_t shape_count = sizeof shapes / sizeof *shapes;
 const shape column_shapes[] = {
     {"begin alike", "64 columns, whose names have one length and share their first twenty letters", begin_alike},
     {"end alike", "the same, but they share their last twenty letters", end_alike},
+    {"400 alike", "400 columns, whose names begin alike", alike_400},
+    {"1024 alike", "1024 columns, whose names begin alike", alike_1024},
 };
 
 const size_t column_shape_count = sizeof column_shapes / sizeof *column_shapes;
+
+const shape report_shapes[] = {
+    {"400 numbers", "rows of 400 columns of numbers, whose names begin alike", numbers_400},
+    {"1024 numbers", "the same, of 1024 columns", numbers_1024},
+    {"400 mixed", "rows of 400 columns of all types, whose names begin alike", mixed_400},
+    {"1024 mixed", "the same, of 1024 columns", mixed_1024},
+};
+
+const size_t report_shape_count = sizeof report_shapes / sizeof *report_shapes;
+
+const shape wide_shapes[] = {
+    {"8", "rows of 8 bigints", wide_8},
+    {"64", "rows of 64 bigints", wide_64},
+    {"400", "rows of 400 bigints", wide_400},
+    {"1024", "rows of 1024 bigints", wide_1024},
+};
+
+const size_t wide_shape_count = sizeof wide_shapes / sizeof *wide_shapes;
 
 static void put_ring(plain_area_writer *w, size_t vertices, uint64_t *state) {
     plain_open_ring(w, (uint8_t)made_up(state));
