@@ -31,6 +31,10 @@ passes-plain s l b t other p =
     let fixed-type : isCounted t ≡ false = simp (ne-eqb t 9 (λ e. other (inl e)), ne-eqb t 25 (λ e. other (inr (inl e))), ne-eqb t 27 (λ e. other (inr (inr e)))) in
     rw fixed-type (passes-into s fixed number-of (passes-ruled s (fixedFine t) (pick (eqb t 22) Decimal Point) p))
 
+-- a body's types have no size of their own
+pub unsized : (t : ℕ) → (t ≡ 9) ⊎ ((t ≡ 25) ⊎ (t ≡ 27)) → widthOf t ≡ 0
+unsized t is = ⊎-elim (λ e. rw e) (λ more. ⊎-elim (λ e. rw e) (λ e. rw e) more) is
+
 -- a type byte, and what it decides
 module _ {B : Type 0} (test : ℕ → Bool) (fault : Fault) (field : ℕ) (g : ℕ → Format B) (s : List ℕ) {at mid r t : ℕ} where
   pub passes-typed : Gives (number 1 0) s at t → Passes (number 1 field) s at mid → Passes (g t) s mid r → Passes (both (ruled test fault (number 1 field)) g) s at r

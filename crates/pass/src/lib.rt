@@ -42,6 +42,17 @@ pub fn pass_value(s: &[u8], at: usize, t: u8) -> usize
     }
 }
 
+// Past a cell. One of a fixed size is passed without a call, as a row may have a thousand of them.
+fn pass_cell(s: &[u8], at: usize, t: u8) -> usize
+    ensures { λ r. ⌜ ((l b : ℕ) → Passes (value l b t) (now (s .entry)) at r) ⌝ }
+{
+    let width = scan::width_of(t);
+    if width == 0 {
+        return pass_value(s, at, t);
+    }
+    pass_fixed(s, at, width)
+}
+
 // Past cells of a row, one for each of some columns' types.
 pub fn pass_cells(s: &[u8], from: usize, types: &[u8]) -> usize
     ensures { λ r. ⌜ Passes (each third 0 (map (value 50 51) (now (types .entry)))) (now (s .entry)) from r ⌝ }
@@ -49,7 +60,7 @@ pub fn pass_cells(s: &[u8], from: usize, types: &[u8]) -> usize
     let mut at = from;
     let mut k = 0;
     while k < types.len() {
-        at = pass_value(s, at, types[k]);
+        at = pass_cell(s, at, types[k]);
         k += 1;
     }
     at

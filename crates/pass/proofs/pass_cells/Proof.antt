@@ -18,11 +18,11 @@ abbrev μ-loop : tie.MeasureT-loop
 loop-holds : tie.Need-loop-holds Inv-loop μ-loop
 loop-holds c = let a = c .before .before .args in round-first third (λ i. value 50 51 (getD (a .types .now) i 0)) (a .s .now) (length (a .types .now)) (a .from)
 
-shared-slice-read-pass-value : tie.Need-shared-slice-read-pass-value Inv-loop μ-loop
-shared-slice-read-pass-value c = c .before .loop-test .taken
+shared-slice-read-pass-cell : tie.Need-shared-slice-read-pass-cell Inv-loop μ-loop
+shared-slice-read-pass-cell c = c .before .loop-test .taken
 
-pass-value-requires : tie.Need-pass-value-requires Inv-loop μ-loop
-pass-value-requires c κs = search needs
+pass-cell-requires : tie.Need-pass-cell-requires Inv-loop μ-loop
+pass-cell-requires c κs = search needs
 
 add-k : tie.Need-add-k Inv-loop μ-loop
 add-k c = let few = c .before .before .loop-test .taken in omega arith
@@ -34,7 +34,7 @@ loop-again : tie.Need-loop-again Inv-loop μ-loop
 loop-again c =
     let a = c .before .before .before .before .before .before .args in
     let l = c .before .before .before .loop in
-    round-next third (λ i. value 50 51 (getD (a .types .now) i 0)) (a .s .now) (length (a .types .now)) (a .from) (l .k) (c .before .before .loop-test .taken) (l .inv) (c .pass-value .ensures 50 51)
+    round-next third (λ i. value 50 51 (getD (a .types .now) i 0)) (a .s .now) (length (a .types .now)) (a .from) (l .k) (c .before .before .loop-test .taken) (l .inv) (c .pass-cell .ensures 50 51)
 
 returns : tie.Need-returns Inv-loop μ-loop
 returns c =
@@ -48,8 +48,8 @@ pass-cells-spec =
     Inv-loop
     μ-loop
     loop-holds
-    shared-slice-read-pass-value
-    pass-value-requires
+    shared-slice-read-pass-cell
+    pass-cell-requires
     add-k
     loop-less
     loop-again
