@@ -167,7 +167,6 @@ class Cards(unittest.TestCase):
         self.assertEqual({name.lower(): dict(numbered(r"(\w+): (\d+)", fields)) for name, fields in kinds}, wanted)
         kinds = re.findall(r"^(near|far) = record \{(.+?)\}", definition, re.M)
         self.assertEqual({name: dict(numbered(r"(\w+) = (\d+)", fields)) for name, fields in kinds}, wanted)
-        self.assertEqual(numbered(r"pub const (MOST_SIZE): usize = (\d+);", code), [("MOST_SIZE", self.SAID["far"][1])])
         self.assertEqual(numbered(r"pub const (MOST_COLUMNS): u64 = (\d+);", source("crates/format/src/lib.rt")), [("MOST_COLUMNS", self.MOST_COLUMNS)])
         self.assertEqual(numbered(r"^(mostColumns) = (\d+)$", source("crates/format/specs/Message.antt")), [("mostColumns", self.MOST_COLUMNS)])
 
