@@ -3,21 +3,25 @@ use Prim.Native.Nat.{ℕ}
 use mathlib.Core.Path.{_≡_, refl, sym, _∙_, ap}
 use mathlib.Core.Bool.{Bool, true, false}
 use mathlib.Core.List.{List}
-use lib.ListN.{getD}
-use lib.Dec.{eqb}
-use borrow.Author.Tests.{eqb-true, eqb-false, eq-eqb}
-use Rattle.format.specs.declared.Fault.the-variants.{CardForm}
+use lib.ListN.{length, getD}
+use lib.Dec.{leb, eqb}
+use native.Mathlib.Omega.{arith}
+use borrow.Author.Tests.{eqb-true, eqb-false, le-leb}
+use Rattle.format.specs.declared.Fault.the-variants.{Limit, CardForm}
 use Rattle.format.specs.Result.{Res, ok, no, bind, pick}
 use Rattle.format.specs.Message.{Message, Table, readMessage, responseLayout}
 use Rattle.format.proofs.Results.{ok-same, no-ok, passed, bound}
 use Rattle.places.specs.Places.{tablesOf, tableAt}
 use Rattle.places.specs.Entries.{entry}
-use Rattle.cards.specs.Card.{Card, near, far, sized, cardForm}
+use Rattle.places.proofs.Lists.{entry-below}
+use Rattle.query.specs.Answers.{firstNamed}
+use Rattle.cards.specs.Card.{Card, near, far, sized, cardForm, bytesIn, cardBytes, mostName}
 use Rattle.cards.specs.Answers.{opened, askOpen, cardOf, askCard}
 use Rattle.cards.proofs.Forms.{is-near, no-kind}
 use Rattle.earlier.specs.Before.{readBefore, formBefore, openBefore, cardBefore}
 use Rattle.earlier.specs.Kept.{Kept, same, wider}
 use Rattle.earlier.proofs.Readings.{read-as-before}
+use Rattle.earlier.proofs.Few.{few-columns}
 
 pub still-accepted : (timed : Bool) (m : List ℕ) (r : Message) → readBefore timed m ≡ ok r → readMessage (responseLayout timed) m ≡ ok r
 still-accepted timed m r e = go (read-as-before timed m)
@@ -52,6 +56,20 @@ module _ (m : List ℕ) {r : Message} (accepted : readBefore true m ≡ ok r) (t
 
   pub made-as-before : (name : List ℕ) → cardBefore m t name ≡ askCard m t name
   made-as-before name = ap (λ (x : Res Message). bind x (λ r. bind (entry (tablesOf r) t) (λ b. cardOf (tableAt true r t) b name))) (accepted ∙ sym now-accepted)
+
+-- a card that was made is a near one, and so has the bytes that it had
+pub made-near : (m : List ℕ) (t : ℕ) (name : List ℕ) (c : Card) → cardBefore m t name ≡ ok c → cardBytes c ≡ bytesIn near c
+made-near m t name c e =
+    let r = bound (readBefore true m) e in
+    let b = bound (entry (tablesOf (r .0)) t) (r .2) in
+    let i = bound (firstNamed name (b .0 .metadata .names) 0) (b .2) in
+    let y = bound (entry (b .0 .metadata .types) (i .0)) (i .2) in
+    let w = passed (leb (length name) mostName) Limit _ (y .2) in
+    let below = entry-below (b .0 .metadata .types) (i .0) (y .1) in
+    let few = few-columns true m (r .0) (r .1) t (b .0) (b .1) in
+    let position : i .0 ≡ c .position = ap (λ (z : Card). z .position) (ok-same (w .1)) in
+    let near-one : leb (c .position) (near .high) ≡ true = le-leb (c .position) (near .high) (omega (arith, position, below, few)) in
+    ap (λ (u : Bool). bytesIn (pick u near far) c) near-one
 
 -- whatever a card opened it opens
 pub still-opens : (m : List ℕ) (t : ℕ) (bs : List ℕ) (i : ℕ) → openBefore m t bs ≡ ok i → askOpen m t bs ≡ ok i
