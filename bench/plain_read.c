@@ -45,9 +45,8 @@ WALK count(reader *r, size_t end, uint32_t most, lister *l, unsigned field, size
 WALK name(reader *r, size_t end, lister *l, size_t i, size_t k) {
     size_t at = r->at;
     if (!counted(r, end, false, l, 46, i, 0, k)) return false;
-    for (size_t p = at + 4; p < r->at; p++)
-        if (r->m[p] > 127) return refuse(r, BAD_NAME, p);
-    return true;
+    size_t size = r->at - (at + 4), low = ascii_run(r->m + at + 4, size);
+    return low == size || refuse(r, BAD_NAME, at + 4 + low);
 }
 
 WALK cell(reader *r, size_t end, uint8_t type, lister *l, size_t i, size_t j, size_t k) {

@@ -87,9 +87,7 @@ plain_refusal plain_begin(plain_writer *w, uint8_t *buffer, size_t size, uint8_t
 static plain_refusal name_fault(const plain_writer *w, const plain_column *c, const uint8_t *names, size_t names_size) {
     if (c->name > names_size || c->name_size > names_size - c->name) return refused(PAST_END, 0);
     if (c->name_size > MOST_BODY) return refused(LIMIT, w->at);
-    for (size_t p = 0; p < c->name_size; p++)
-        if (names[c->name + p] > 127) return refused(BAD_NAME, w->at);
-    return fine;
+    return ascii_run(names + c->name, c->name_size) == c->name_size ? fine : refused(BAD_NAME, w->at);
 }
 
 plain_refusal plain_open_table(plain_writer *w, uint8_t status, const plain_column *columns, size_t count, const uint8_t *names, size_t names_size) {
