@@ -6,7 +6,7 @@ use mathlib.Core.List.{List, [], _∷_, _++_}
 use mathlib.Core.Option.{Option, some, none}
 use lib.ListN.{length, getD, take, drop, replicate, length-append, length-replicate, length-drop, take-append-drop}
 use lib.Seq.{take-at, drop-at, take-all, drop-drop, length-take-le}
-use lib.Dec.{leb, eqb, lit<}
+use lib.Dec.{leb, eqb}
 use native.Mathlib.Nat.{le-of-eq, add-sub-cancel-left, mod-eq-of-lt, min-eq-left}
 use native.Mathlib.Omega.{arith}
 use borrow.Author.Tests.{leb-true, leb-false, eqb-true, lt-ltb, le-ltb, le-leb, lt-leb, eq-eqb, ne-eqb}

@@ -4,7 +4,7 @@ use mathlib.Core.Path.{_≡_, refl}
 use mathlib.Core.List.{List, [], _∷_, map}
 use lib.ListN.{replicate, take}
 use Rattle.format.specs.declared.Fault.the-variants.{CardForm}
-use Rattle.format.specs.Result.{Res, ok, no}
+use Rattle.format.specs.Result.{ok, no}
 use Rattle.format.specs.Number.{numAt, numBytes}
 use Rattle.cards.specs.Card.{Card, aCard, near, far, wrongFrom, cardRest, cardBody, cardForm, bytesIn, cardBytes}
 

@@ -1,12 +1,12 @@
 -- A table that was read had at most 64 columns: what holds of every value that a format reads, from the column count to the message.
 use Prim.Native.Nat.{ℕ, zero, suc, _+_, _≤_}
-use mathlib.Core.Path.{_≡_, refl, sym, _∙_, ap}
-use mathlib.Core.Bool.{Bool, true, _||_}
+use mathlib.Core.Path.{_≡_, refl, ap}
+use mathlib.Core.Bool.{Bool, _||_}
 use mathlib.Core.List.{List, [], _∷_}
 use lib.ListN.{length, take, replicate}
 use lib.Dec.{leb, ltb, eqb}
 use borrow.Author.Tests.{leb-true}
-use Rattle.format.specs.Result.{Res, ok, no, bind, pick}
+use Rattle.format.specs.Result.{ok, no, bind, pick}
 use Rattle.format.specs.Number.{half}
 use Rattle.format.specs.Format.{Format, Index, number, nothing, ruled, room, into, both, each}
 use Rattle.format.specs.Message.{count, list, first, third, unlimited, mostItems, Table, Message, mostMessage}

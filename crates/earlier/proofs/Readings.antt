@@ -1,21 +1,20 @@
 -- A reply is read as before, unless it has a column count that was too large: each way to make a format keeps that, and so do the formats on the way from the count to the message.
 use Prim.Native.Nat.{ℕ, zero, suc, _+_, _<_, _≤_}
-use mathlib.Core.Path.{_≡_, refl, sym, _∙_, ap}
+use mathlib.Core.Path.{_≡_, refl, ap}
 use mathlib.Core.Bool.{Bool, true, false, _||_}
-use mathlib.Core.List.{List, [], _∷_}
-use lib.ListN.{length, getD, take, replicate, length-take}
+use mathlib.Core.List.{List}
+use lib.ListN.{length, take, replicate, length-take}
 use lib.Seq.{getD-take}
 use lib.Dec.{leb, ltb, eqb}
 use native.Mathlib.Omega.{arith}
-use borrow.Author.Tests.{leb-true, leb-false, le-leb}
-use Rattle.format.specs.declared.Fault.{Fault}
+use borrow.Author.Tests.{leb-true, leb-false}
 use Rattle.format.specs.declared.Fault.the-variants.{Negative, Limit, Short, Extra}
 use Rattle.format.specs.Result.{Res, ok, no, bind, pick}
 use Rattle.format.specs.Number.{numAt, half}
 use Rattle.format.specs.Format.{Format, Index, number, ruled, room, into, both, each}
-use Rattle.format.specs.Message.{count, list, inMetadata, metadataOf, metadata, inTable, tableOf, table, responseOf, response, contentOf, message, readMessage, responseLayout, mostMessage, filled, mostColumns}
+use Rattle.format.specs.Message.{count, list, metadata, table, response, contentOf, message, readMessage, responseLayout, mostMessage, filled, mostColumns}
 use Rattle.earlier.specs.Before.{mostBefore, tableBefore, responseBefore, readBefore}
-use Rattle.earlier.specs.Kept.{Wider, Kept, same, wider}
+use Rattle.earlier.specs.Kept.{Kept, same, wider}
 
 -- a number in a room is one in what the room is cut from
 numAt-take : (k e : ℕ) (s : List ℕ) (p : ℕ) → p + k ≤ length (take e s) → numAt k (take e s) p ≡ numAt k s p

@@ -9,7 +9,7 @@ use native.Mathlib.Omega.{arith}
 use borrow.Author.Tests.{eqb-true, eqb-false, le-leb}
 use Rattle.format.specs.declared.Fault.the-variants.{Limit, CardForm}
 use Rattle.format.specs.Result.{Res, ok, no, bind, pick}
-use Rattle.format.specs.Message.{Message, Table, readMessage, responseLayout}
+use Rattle.format.specs.Message.{Message, readMessage, responseLayout}
 use Rattle.format.proofs.Results.{ok-same, no-ok, passed, bound}
 use Rattle.places.specs.Places.{tablesOf, tableAt}
 use Rattle.places.specs.Entries.{entry}

@@ -10,7 +10,7 @@ use query::Part;
 use query::TableAnswer;
 use show::Cell;
 ghost use mathlib.Core.Path.{_≡_};
-ghost use Prim.Native.Nat.{_+_, _≤_};
+ghost use Prim.Native.Nat.{_≤_};
 ghost use lib.ListN.{length};
 ghost use Rattle.format.specs.Result.{toldAnswer};
 ghost use Rattle.cards.specs.Card.{mostSize};

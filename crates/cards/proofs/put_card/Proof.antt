@@ -1,6 +1,6 @@
 -- `cards::put_card` meets its contract: the name is short and there is room, or nothing is written. Assumes nothing.
 use mathlib.Core.Path.{sym, refl, _∙_, ap}
-use mathlib.Core.List.{List, _++_}
+use mathlib.Core.List.{_++_}
 use lib.ListN.{length, drop}
 use native.Mathlib.Omega.{arith}
 use Rattle.cards.specs.declared.Kind.{Kind}

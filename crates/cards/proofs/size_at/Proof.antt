@@ -1,7 +1,6 @@
 -- `cards::size_at` meets its contract: the size of the kind that the position has. Assumes nothing.
 use mathlib.Core.Path.{_∙_, ap}
 use Rattle.cards.specs.Card.{cardSize}
-use Rattle.cards.specs.declared.Kind.{Kind}
 use Rattle.cards.proofs.Forms.{kind-narrow, few-bytes}
 use borrow.Author.Needs.{needs}
 use Rattle.cards.proofs.size_at.Statement.{statement}
