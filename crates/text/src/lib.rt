@@ -1,5 +1,5 @@
 // What the rules of names and texts ask of bytes: where the first one is that isn't ASCII, and where the first one is that begins no well-formed
-// sequence of UTF-8. Bytes that are ASCII are passed 16 at a time.
+// sequence of UTF-8. Bytes that are ASCII are passed 8 or 16 at a time.
 ghost use mathlib.Core.Path.{_≡_};
 ghost use Prim.Native.Nat.{ℕ, _+_, _-_, _<_, _≤_};
 ghost use lib.ListN.{length, getD, drop};
@@ -39,25 +39,33 @@ fn are_low(b: &[u8], i: usize, n: usize) -> bool
     top <= HIGHEST_ASCII
 }
 
-// How many bytes from the first on are looked at, 16 at a time, and none is above 127.
-fn low_bytes(b: &[u8]) -> usize
-    ensures { λ r. ⌜ (r ≤ length (now (b .entry))) × LowRun (now (b .entry)) 0 r ⌝ }
+// Whether all bytes are surely ASCII, of which there are a step's or more: so many at a time, and the last ones whatever was looked at before, so that none
+// is looked at by itself.
+fn is_ascii_by(b: &[u8], step: usize) -> bool
+    requires { ⌜ (0 < step) × (step ≤ length (now b)) ⌝ }
+    ensures { λ r. ⌜ (r ≡ true → LowRun (now (b .entry)) 0 (length (now (b .entry)))) ⌝ }
 {
+    let last = b.len() - step;
     let mut i = 0;
-    while i + 16 <= b.len() {
-        if !are_low(b, i, 16) {
-            return i;
+    while i <= last {
+        if !are_low(b, i, step) {
+            return false;
         }
-        i += 16;
+        i += step;
     }
-    i
+    are_low(b, last, step)
 }
 
-// The first byte that no name has: one above 127.
+// The first byte that no name has: one above 127. Eight are looked at together and not 16, as many names have fewer than 16.
 pub fn high_byte(b: &[u8]) -> Found
     ensures { λ r. ⌜ r ≡ shownAt (asciiFrom 0 (now (b .entry))) ⌝ }
 {
-    let mut i = low_bytes(b);
+    if 8 <= b.len() {
+        if is_ascii_by(b, 8) {
+            return Found::Nothing;
+        }
+    }
+    let mut i = 0;
     while i < b.len() {
         if format::HIGHEST_IN_NAME < b[i] {
             return Found::At(i);
@@ -324,32 +332,6 @@ fn is_short_ascii(b: &[u8]) -> bool
     true
 }
 
-// Of 8 bytes or more, but fewer than 16. Here and below the last ones are looked at whatever was looked at before, so that none is looked at by itself.
-fn is_middling_ascii(b: &[u8]) -> bool
-    requires { ⌜ (8 ≤ length (now b)) × (length (now b) ≤ 16) ⌝ }
-    ensures { λ r. ⌜ (r ≡ true → LowRun (now (b .entry)) 0 (length (now (b .entry)))) ⌝ }
-{
-    if !are_low(b, 0, 8) {
-        return false;
-    }
-    are_low(b, b.len() - 8, 8)
-}
-
-// Of 16 or more.
-fn is_long_ascii(b: &[u8]) -> bool
-    requires { ⌜ 16 ≤ length (now b) ⌝ }
-    ensures { λ r. ⌜ (r ≡ true → LowRun (now (b .entry)) 0 (length (now (b .entry)))) ⌝ }
-{
-    let mut i = 0;
-    while i + 16 <= b.len() {
-        if !are_low(b, i, 16) {
-            return false;
-        }
-        i += 16;
-    }
-    are_low(b, b.len() - 16, 16)
-}
-
 fn is_ascii(b: &[u8]) -> bool
     ensures { λ r. ⌜ (r ≡ true → LowRun (now (b .entry)) 0 (length (now (b .entry)))) ⌝ }
 {
@@ -357,9 +339,9 @@ fn is_ascii(b: &[u8]) -> bool
         return is_short_ascii(b);
     }
     if b.len() < 16 {
-        return is_middling_ascii(b);
+        return is_ascii_by(b, 8);
     }
-    is_long_ascii(b)
+    is_ascii_by(b, 16)
 }
 
 // Where a text is torn: the first byte that begins no well-formed sequence, those before it being well-formed. What asks whether it is ASCII has this one

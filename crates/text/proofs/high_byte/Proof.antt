@@ -1,5 +1,5 @@
 -- `text::high_byte` meets its contract: what is said of the bytes that are left is what is said of all. Assumes nothing.
-use mathlib.Core.Path.{_≡_, sym, ap, _∙_}
+use mathlib.Core.Path.{_≡_, refl, sym, ap, _∙_}
 use Prim.Native.Nat.{_-_}
 use lib.ListN.{length, drop}
 use native.Mathlib.Omega.{arith}
@@ -16,19 +16,24 @@ Inv-loop b i₀ i = asciiFrom i (drop i b) ≡ asciiFrom 0 b
 abbrev μ-loop : tie.MeasureT-loop
 μ-loop b i₀ i = length b - i
 
-low-bytes-requires : tie.Need-low-bytes-requires Inv-loop μ-loop
-low-bytes-requires c κs = search needs
-
-loop-holds : tie.Need-loop-holds Inv-loop μ-loop
-loop-holds c = let w = c .low-bytes .ensures in run asciiFrom ascii-low _ (c .low-bytes .result) (w .0) (w .1)
-
-shared-slice-read-if1 : tie.Need-shared-slice-read-if1 Inv-loop μ-loop
-shared-slice-read-if1 c = search needs
+is-ascii-by-requires : tie.Need-is-ascii-by-requires Inv-loop μ-loop
+is-ascii-by-requires c κs = search needs
 
 returns : tie.Need-returns Inv-loop μ-loop
 returns c =
+    let b = c .before .before .before .before .args .b .now in
+    ap shownAt (sym (ascii-done b (length b) (omega arith)) ∙ run asciiFrom ascii-low b (length b) (omega arith) (c .before .is-ascii-by .ensures (c .if2 .taken)))
+
+loop-holds : tie.Need-loop-holds Inv-loop μ-loop
+loop-holds c = refl
+
+shared-slice-read-if3 : tie.Need-shared-slice-read-if3 Inv-loop μ-loop
+shared-slice-read-if3 c = search needs
+
+returns-2 : tie.Need-returns-2 Inv-loop μ-loop
+returns-2 c =
     let l = c .before .before .before .loop in
-    ap shownAt (sym (ascii-stop _ (l .i) (c .before .before .loop-test .taken) (c .if1 .taken)) ∙ l .inv)
+    ap shownAt (sym (ascii-stop _ (l .i) (c .before .before .loop-test .taken) (c .if3 .taken)) ∙ l .inv)
 
 add-i : tie.Need-add-i Inv-loop μ-loop
 add-i c = search needs
@@ -41,8 +46,8 @@ loop-again c =
     let l = c .before .before .before .loop in
     sym (turn asciiFrom ascii-low _ (l .i) (c .before .before .loop-test .taken) (omega arith)) ∙ l .inv
 
-returns-2 : tie.Need-returns-2 Inv-loop μ-loop
-returns-2 c =
+returns-3 : tie.Need-returns-3 Inv-loop μ-loop
+returns-3 c =
     let l = c .before .loop in
     ap shownAt (sym (ascii-done _ (l .i) (c .loop-test .left)) ∙ l .inv)
 
@@ -52,11 +57,12 @@ high-byte-spec =
     (tie.spec
     Inv-loop
     μ-loop
-    low-bytes-requires
-    loop-holds
-    shared-slice-read-if1
+    is-ascii-by-requires
     returns
+    loop-holds
+    shared-slice-read-if3
+    returns-2
     add-i
     loop-less
     loop-again
-    returns-2)
+    returns-3)

@@ -1,4 +1,4 @@
--- `text::is_long_ascii` meets its contract: the bytes before the place that is looked at are all ASCII; the last 16 join them. Assumes nothing.
+-- `text::is_ascii_by` meets its contract: the bytes before the place that is looked at are all ASCII; the last ones join them. Assumes nothing.
 use mathlib.Core.Path.{_≡_, sym, subst}
 use mathlib.Core.Bool.{true≢false}
 use Prim.Native.Nat.{ℕ, _+_, _-_, _≤_}
@@ -8,20 +8,20 @@ use borrow.Author.Tests.{not-false}
 use Rattle.text.specs.Shown.{LowRun}
 use Rattle.text.proofs.Runs.{low-none, low-join}
 use borrow.Author.Needs.{needs}
-use Rattle.text.proofs.is_long_ascii.Statement.{statement}
-use Rattle.text.proofs.is_long_ascii.Tie as tie
+use Rattle.text.proofs.is_ascii_by.Statement.{statement}
+use Rattle.text.proofs.is_ascii_by.Tie as tie
 
 abbrev Inv-loop : tie.InvT-loop
-Inv-loop b i₀ i = (i ≤ length b) × LowRun b 0 i
+Inv-loop b step last i₀ i = (i ≤ length b) × LowRun b 0 i
 
 abbrev μ-loop : tie.MeasureT-loop
-μ-loop b i₀ i = length b - i
+μ-loop b step last i₀ i = length b - i
+
+sub-last : tie.Need-sub-last Inv-loop μ-loop
+sub-last c = search needs
 
 loop-holds : tie.Need-loop-holds Inv-loop μ-loop
 loop-holds c = (omega arith, low-none (c .before .args .b .now) 0)
-
-add-loop : tie.Need-add-loop Inv-loop μ-loop
-add-loop c = search needs
 
 are-low-requires : tie.Need-are-low-requires Inv-loop μ-loop
 are-low-requires c κs = search needs
@@ -38,11 +38,11 @@ loop-less c = search needs
 loop-again : tie.Need-loop-again Inv-loop μ-loop
 loop-again c =
     let l = c .before .before .before .loop in
-    let b = c .before .before .before .before .before .args .b .now in
-    (omega (arith, c .before .before .loop-test .taken), low-join b (l .i) (l .i) 16 (omega arith) (l .inv .1) (c .before .are-low .ensures (not-false _ (c .if1 .left))))
-
-sub-are-low : tie.Need-sub-are-low Inv-loop μ-loop
-sub-are-low c = search needs
+    let a = c .before .before .before .before .before .args in
+    let b = a .b .now in (
+      omega (arith, c .before .before .loop-test .taken),
+      low-join b (l .i) (l .i) (a .step) (omega arith) (l .inv .1) (c .before .are-low .ensures (not-false _ (c .if1 .left))),
+    )
 
 are-low-requires-2 : tie.Need-are-low-requires-2 Inv-loop μ-loop
 are-low-requires-2 c κs = search needs
@@ -52,22 +52,22 @@ returns-2 c =
     let l = c .before .before .loop in
     let s = c .before .before .before .before in
     let b = s .args .b .now in
-    let end : length b - 16 + 16 ≡ length b = omega (arith, s .pre) in
-    λ e. subst (LowRun b 0) end (low-join b (l .i) (length b - 16) 16 (omega (arith, c .before .loop-test .left)) (l .inv .1) (c .are-low2 .ensures e))
+    let step = s .args .step in
+    let end : length b - step + step ≡ length b = omega (arith, s .pre .1) in
+    λ e. subst (LowRun b 0) end (low-join b (l .i) (length b - step) step (omega (arith, c .before .loop-test .left)) (l .inv .1) (c .are-low2 .ensures e))
 
-pub is-long-ascii-spec : {M : Type 1} → statement M
-is-long-ascii-spec =
+pub is-ascii-by-spec : {M : Type 1} → statement M
+is-ascii-by-spec =
     tie.close
     (tie.spec
     Inv-loop
     μ-loop
+    sub-last
     loop-holds
-    add-loop
     are-low-requires
     returns
     add-i
     loop-less
     loop-again
-    sub-are-low
     are-low-requires-2
     returns-2)
