@@ -6,9 +6,9 @@ use mathlib.Core.List.{List, [], _∷_, _++_, append-assoc}
 use mathlib.Core.Option.{Option, some, none}
 use lib.ListN.{length, take, drop, length-append}
 use lib.Seq.{take-at, drop-at, length-take-le}
-use lib.Dec.{ltb, eqb}
+use lib.Dec.{leb, ltb, eqb}
 use native.Mathlib.Omega.{arith}
-use borrow.Author.Tests.{leb-true, ltb-true, le-leb, lt-leb}
+use borrow.Author.Tests.{leb-true, ltb-true, le-leb, lt-leb, eq-eqb, ne-eqb}
 use Rattle.format.specs.declared.Answer.{Answer}
 use Rattle.format.specs.declared.Fault.{Fault}
 use Rattle.format.specs.declared.Fault.the-variants.{Stale, Name, Limit, Output}
@@ -18,7 +18,7 @@ use Rattle.format.specs.Number.{numBytes, Bytes}
 use Rattle.format.specs.Format.{counted, room, into, both, ruled, fine, bad}
 use Rattle.format.specs.Value.{isColumn, asciiFrom}
 use Rattle.format.specs.Message.{third, columnType, mostColumns, Metadata, metadata, Table, table, Message, responseLayout, readMessage}
-use Rattle.format.proofs.Results.{ok-same, no-ok, bound}
+use Rattle.format.proofs.Results.{ok-same, no-ok, bound, and-true-both}
 use Rattle.format.proofs.Numbers.{length-numBytes}
 use Rattle.places.specs.Stands.{Stands}
 use Rattle.places.specs.Places.{nameBytes, tablesOf, tableAt, nameAt}
@@ -31,8 +31,10 @@ use Rattle.query.specs.declared.ColumnLayout.{ColumnLayout}
 use Rattle.query.specs.Answers.{perhaps, ofTable, same, columnOf, firstNamed, namedOf, askNamed}
 use Rattle.query.proofs.Opened.{found, found-asked, retold, some-ok}
 use Rattle.query.proofs.Theorems.{finds-first}
+use Rattle.cards.specs.declared.Reason.{Reason}
 use Rattle.cards.specs.Card.{Card, aCard, mostName, Low}
 use Rattle.cards.specs.Answers.{fitting, fits, opened, shortNamed, sizeOf, roomFor, cardOf, askCard, Made}
+use Rattle.cards.specs.Reasons.{reasonOf, standsAt, whyNot, fitOf}
 
 -- ---- a column of an accepted table can be on a card
 pub few-columns : {m : List ℕ} {at : ℕ} {d : Metadata} → Stands metadata m at d → length (d .types) ≤ mostColumns
@@ -78,7 +80,7 @@ pub record Told (m : List ℕ) (at : ℕ) (b : Table) (i : ℕ) (l : ColumnLayou
   pub inside : l .name + l .«name_length» ≤ length m
   pub part : take (l .«name_length») (drop (l .name) m) ≡ bytes
 
-told : {m : List ℕ} {at : ℕ} {b : Table} (i : ℕ) {l : ColumnLayout} → Stands table m at b → columnOf at b i ≡ ok l → Told m at b i l
+pub told : {m : List ℕ} {at : ℕ} {b : Table} (i : ℕ) {l : ColumnLayout} → Stands table m at b → columnOf at b i ≡ ok l → Told m at b i l
 told {m} {at} {b} i {l} d e =
     let md = metadata-stands d in
     let types = b .metadata .types in
@@ -130,6 +132,34 @@ module _ (timed : Bool) (m : List ℕ) (t i w : ℕ) (wanted : List ℕ) where
         let f = found (responseLayout timed) tablesOf (tableAt timed) m t (λ at b. perhaps (columnOf at b i)) e in
         let c = told i (table-stands timed m all (f .message) (f .accepted) t (f .there)) (some-ok _ (f .is)) in
         sym (found-asked (responseLayout timed) tablesOf (tableAt timed) m t f ask ∙ rw (c .typed, c .named, c .part))
+
+-- ---- how a card fits, by that column
+module _ (b : Table) (i w : ℕ) (wanted : List ℕ) where
+  abbrev tells : Option Reason → Type 0
+  tells r = ok (whyNot r (standsAt b w wanted)) ≡ ok (fitOf b (aCard i w wanted))
+
+  pub past-told : length (b .metadata .types) ≤ i → tells (some Reason.Past)
+  unfolding reasonOf
+  past-told h = rw (le-leb _ _ h)
+
+  module _ {m : List ℕ} {at : ℕ} {l : ColumnLayout} (t : Told m at b i l) where
+    abbrev alike : Bool
+    alike = eqb (l .«wire_type») w && same (take (l .«name_length») (drop (l .name) m)) wanted
+
+    there : leb (length (b .metadata .types)) i ≡ false
+    there = lt-leb _ _ (entry-below (b .metadata .types) i (t .typed))
+
+    pub fits-told : alike ≡ true → tells none
+    unfolding reasonOf
+    fits-told e = let both = and-true-both (eqb (l .«wire_type») w) (same (take (l .«name_length») (drop (l .name) m)) wanted) e in rw (there, t .typed, both .0, t .named, ← t .part, both .1)
+
+    pub type-told : (l .«wire_type» ≡ w → ⊥) → tells (some Reason.OtherType)
+    unfolding reasonOf
+    type-told other = rw (there, t .typed, ne-eqb _ _ other)
+
+    pub name-told : l .«wire_type» ≡ w → alike ≡ false → tells (some Reason.OtherName)
+    unfolding reasonOf
+    name-told is e = let other = rw (eq-eqb _ _ is) at e in rw (there, t .typed, eq-eqb _ _ is, t .named, ← t .part, other)
 
 -- ---- the first column of a name
 module _ (m : List ℕ) (t : ℕ) (wanted : List ℕ) where

@@ -17,7 +17,7 @@ use Rattle.format.specs.Result.{Res, ok, no, bind, pick}
 use Rattle.format.specs.Number.{numAt, numBytes, Bytes}
 use Rattle.format.specs.Format.{number}
 use Rattle.format.specs.Value.{isColumn}
-use Rattle.format.specs.Message.{readMessage, mostColumns}
+use Rattle.format.specs.Message.{Table, Message, readMessage, mostColumns}
 use Rattle.format.proofs.Results.{ok-same, no-ok, passed, and-true-both}
 use Rattle.format.proofs.Numbers.{length-numBytes, numAt-numBytes, numBytes-numAt}
 use Rattle.scan.specs.Shown.{refusal, numberIn, shownNumber}
@@ -28,8 +28,8 @@ use Rattle.query.specs.Answers.{ofTable}
 use Rattle.cards.specs.declared.Form.{Form}
 use Rattle.cards.specs.declared.Kind.{Kind}
 use Rattle.cards.specs.Card.{Card, aCard, near, far, kindOf, holds, cardForm, cardBody, cardRest, sized, restBytes, bytesIn, cardBytes, cardSize, positionPlace, positionIn, typePlace, namePlace, restSize, mostSize, mostName, mostByte, wrongFrom, unless, Low, GoodCard}
-use Rattle.cards.specs.Answers.{opened, askOpen}
-use Rattle.cards.specs.Shown.{shownForm}
+use Rattle.cards.specs.Answers.{ofCard}
+use Rattle.cards.specs.Shown.{shownForm, ownBefore}
 
 -- ---- the kinds: each position that a column can have is held by one
 pub kind-near : (p : ℕ) → holds near p ≡ true → kindOf p ≡ near
@@ -291,7 +291,37 @@ position-read k bs n narrow size e =
 pub left-over : (n : ℕ) (bs : List ℕ) → take (length bs - n) (drop n bs) ≡ drop n bs
 left-over n bs = take-all (length bs - n) (drop n bs) (le-of-eq (length-drop n bs))
 
--- ---- what the form says of opening
+-- ---- a form is refused 12, and nothing else
+abbrev OnlyForm : Res Card → Type 0
+OnlyForm r = (f : Fault) (p : ℕ) → r ≡ no f p → f ≡ CardForm
+
+only-no : (p : ℕ) → OnlyForm (no CardForm p)
+only-no p f q e = cc
+
+only-pick : (t : Bool) {r q : Res Card} → OnlyForm r → OnlyForm q → OnlyForm (pick t r q)
+only-pick true h i = h
+only-pick false h i = i
+
+only-rest : (at p : ℕ) (bs : List ℕ) → OnlyForm (cardRest at p bs)
+unfolding cardRest
+only-rest at p bs = only-pick (isColumn (getD bs 0 0)) (only-pick (leb (getD bs 1 0) mostName) (by-name (wrongFrom (getD bs 1 0) 0 (drop 2 bs)) _) (only-no (at + 1))) (only-no at)
+  where
+    by-name : (o : Option ℕ) (c : Card) → OnlyForm (unless o (at + 2) c)
+    by-name none c = λ f q e. absurd (no-ok (sym e))
+    by-name (some k) c = only-no (at + 2 + k)
+
+only-sized : (k : Kind) (bs : List ℕ) → OnlyForm (sized k bs)
+unfolding cardBody
+only-sized k bs =
+    only-pick (eqb (length bs) (cardSize k))
+    (only-pick (holds k (positionIn k bs)) (only-rest (typePlace k) (positionIn k bs) (drop (typePlace k) bs)) (only-no positionPlace))
+    (only-no (min (length bs) (cardSize k)))
+
+pub form-fault : (bs : List ℕ) (f : Fault) (p : ℕ) → cardForm bs ≡ no f p → f ≡ CardForm
+unfolding cardForm
+form-fault bs = only-pick (eqb (getD bs 0 0) (near .number)) (only-sized near bs) (only-pick (eqb (getD bs 0 0) (far .number)) (only-sized far bs) (only-no 0))
+
+-- ---- what the form says of what is asked of a card
 pub form-no : (r : Res Card) {x : Refusal} {f : Form} → f ≡ shownForm r → f ≡ Form.No x → r ≡ no (x .fault) (x .place)
 form-no (ok c) e told = absurd (let z : _≡_ {A = ℕ} 0 1 = cc in omega arith)
 form-no (no g p) {x} e told = let same : refusal g p ≡ x = cc in rw (← same)
@@ -307,9 +337,13 @@ pub form-is : (r : Res Card) {p w n : ℕ} {f : Form} → f ≡ shownForm r → 
 form-is (ok c) {p} {w} {n} e told = let same : Form.Is (c .position) (c .type) (length (c .name)) ≡ Form.Is p w n = sym e ∙ told in record { card = c; formed = refl; position = cc; type = cc; size = cc }
 form-is (no g p) e told = absurd (let z : _≡_ {A = ℕ} 0 1 = cc in omega arith)
 
-module _ (m : List ℕ) (t : ℕ) (bs : List ℕ) where
-  pub unformed : {f : Fault} {p : ℕ} → cardForm bs ≡ no f p → bind (readMessage 4 m) (λ r. no f p) ≡ askOpen m t bs
-  unformed e = sym (ap (λ (z : Res Card). bind (readMessage 4 m) (λ r. bind z (λ c. bind (entry (tablesOf r) t) (λ b. opened b c)))) e)
+module _ {A : Type 0} (m : List ℕ) (t : ℕ) (bs : List ℕ) (ask : Table → Card → Res A) where
+  pub unformed : {r x : Refusal} → cardForm bs ≡ no (r .fault) (r .place) → x ≡ ownBefore (readMessage 4 m) r → no (x .fault) (x .place) ≡ ofCard m t bs ask
+  unformed {r} {x} e is = rw (is, e) (by-message (readMessage 4 m))
+    where
+      by-message : (z : Res Message) → _≡_ {A = Res A} (no (ownBefore z r .fault) (ownBefore z r .place)) (bind z (λ y. no (r .fault) (r .place)))
+      by-message (ok y) = refl
+      by-message (no f p) = refl
 
   module _ {p w n : ℕ} (s : Says (cardForm bs) p w n) where
     abbrev start : ℕ
@@ -324,9 +358,9 @@ module _ (m : List ℕ) (t : ℕ) (bs : List ℕ) where
     same-card : {a b c d : ℕ} {x y : List ℕ} → a ≡ b → c ≡ d → x ≡ y → aCard a c x ≡ aCard b d y
     same-card e f g = rw (e, f, g)
 
-    pub opens-as : (at : ℕ) → at ≡ start → ofTable true m t (λ z b. opened b (aCard p w (take (at + n - at) (drop at bs)))) ≡ askOpen m t bs
-    opens-as at is =
+    pub asks-as : (at : ℕ) → at ≡ start → ofTable true m t (λ z b. ask b (aCard p w (take (at + n - at) (drop at bs)))) ≡ ofCard m t bs ask
+    asks-as at is =
         let part : take (at + n - at) (drop at bs) ≡ s .card .name
         = ap₂ (λ (k j : ℕ). take k (drop j bs)) (add-sub-cancel-left at n ∙ sym (s .size)) (is ∙ sym same-start) ∙ name-in bs (s .card) (s .formed) .1 in
         let card : aCard p w (take (at + n - at) (drop at bs)) ≡ s .card = same-card (sym (s .position)) (sym (s .type)) part in
-        ap (λ (c : Card). ofTable true m t (λ z b. opened b c)) card ∙ sym (ap (λ (z : Res Card). bind (readMessage 4 m) (λ r. bind z (λ c. bind (entry (tablesOf r) t) (λ b. opened b c)))) (s .formed))
+        ap (λ (c : Card). ofTable true m t (λ z b. ask b c)) card ∙ sym (ap (λ (z : Res Card). bind (readMessage 4 m) (λ r. bind z (λ c. bind (entry (tablesOf r) t) (λ b. ask b c)))) (s .formed))

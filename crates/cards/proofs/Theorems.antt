@@ -32,11 +32,11 @@ use Rattle.cards.proofs.Forms.{card-size, encodes→form, every-positio
 use Rattle.cards.proofs.Columns.{few-columns, column-type, column-name}
 
 -- a column that has a card's type and name fits it
-column-fits : (b : Table) (c : Card) → entry (b .metadata .types) (c .position) ≡ ok (c .type) → entry (b .metadata .names) (c .position) ≡ ok (some (c .name)) → fits b c ≡ true
+pub column-fits : (b : Table) (c : Card) → entry (b .metadata .types) (c .position) ≡ ok (c .type) → entry (b .metadata .names) (c .position) ≡ ok (some (c .name)) → fits b c ≡ true
 unfolding fits
 column-fits b c e f = rw (e, f, eq-eqb (c .type) (c .type) refl) (same-yes (c .name))
 
-fits-column : (b : Table) (c : Card) → fits b c ≡ true → (entry (b .metadata .types) (c .position) ≡ ok (c .type)) × (entry (b .metadata .names) (c .position) ≡ ok (some (c .name)))
+pub fits-column : (b : Table) (c : Card) → fits b c ≡ true → (entry (b .metadata .types) (c .position) ≡ ok (c .type)) × (entry (b .metadata .names) (c .position) ≡ ok (some (c .name)))
 unfolding fits
 fits-column b c h = by-entries (entry (b .metadata .types) (c .position)) (entry (b .metadata .names) (c .position)) h
   where

@@ -28,9 +28,14 @@ fits b c = fitting (entry (b .metadata .types) (c .position)) (entry (b .metadat
 abbrev pub opened : Table → Card → Res ℕ
 opened b c = pick (fits b c) (ok (c .position)) (no Stale 0)
 
--- opening a card over table t: the message's own refusal, the card's form, the table, and then whether they fit
+module _ {A : Type 0} where
+  -- what is asked of table t and a card: after the message's own refusal, the card's form and the table
+  abbrev pub ofCard : List ℕ → ℕ → List ℕ → (Table → Card → Res A) → Res A
+  ofCard m t bs ask = bind (readMessage 4 m) (λ r. bind (cardForm bs) (λ c. bind (entry (tablesOf r) t) (λ b. ask b c)))
+
+-- opening it: whether they fit
 abbrev pub askOpen : List ℕ → ℕ → List ℕ → Res ℕ
-askOpen m t bs = bind (readMessage 4 m) (λ r. bind (cardForm bs) (λ c. bind (entry (tablesOf r) t) (λ b. opened b c)))
+askOpen m t bs = ofCard m t bs opened
 
 -- a card whose name is too long is refused at that name's length in the message, and then one that has no room
 abbrev pub shortNamed : ℕ → Card → Res Card

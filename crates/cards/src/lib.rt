@@ -1,5 +1,6 @@
 // Shortcut cards: a column kept by its position, type and name, to be opened again without a search. A call accepts the message once; a refusal is
 // the message's own, then the card's form (12), a table past the end (11), no such column (9), a card that doesn't fit (10), a name too long (3), no room (8).
+// Why a card doesn't fit is told by a call of its own, which refuses none for that.
 use format::Answer;
 use format::Fault;
 use format::Refusal;
@@ -7,21 +8,26 @@ use message::Verdict;
 use query::ColumnLayout;
 use query::Named;
 use query::Placed;
+use query::TableAnswer;
+use query::TableLayout;
+use scan::Body;
 use text::Found;
 ghost use mathlib.Core.Path.{_≡_};
 ghost use mathlib.Core.Bool.{_&&_};
 ghost use mathlib.Core.List.{_++_};
+ghost use mathlib.Core.Option.{some};
 ghost use Prim.Native.Nat.{_+_, _≤_, min};
 ghost use lib.ListN.{length, getD, take, drop};
 ghost use lib.Dec.{eqb};
 ghost use Rattle.format.specs.declared.Fault.the-variants.{CardForm};
-ghost use Rattle.format.specs.Result.{no, bind, toldAnswer};
+ghost use Rattle.format.specs.Result.{ok, bind, toldAnswer};
 ghost use Rattle.format.specs.Message.{readMessage, responseLayout};
 ghost use Rattle.scan.specs.Shown.{refusal};
 ghost use Rattle.query.specs.Answers.{ofTable, same};
 ghost use Rattle.cards.specs.Card.{aCard, holds, kindOf, nameByte, wrongFrom, cardRest, sized, cardForm, restBytes, frontBytes, bytesIn, cardSize, mostSize, positionPlace, typePlace, namePlace, restSize, mostName};
 ghost use Rattle.cards.specs.Answers.{opened, askOpen, shortNamed, roomFor, askMade, Made};
-ghost use Rattle.cards.specs.Shown.{shownWrong, shownForm};
+ghost use Rattle.cards.specs.Reasons.{standsAt, fitOf, askFit, toldPlace, toldFit};
+ghost use Rattle.cards.specs.Shown.{shownWrong, shownForm, ownBefore, Laid};
 
 // A kind of card: its first byte, how many bytes its position has, and the first and the last position that it holds.
 struct Kind {
@@ -262,14 +268,14 @@ fn open_at(m: &[u8], timed: bool, t: usize, position: usize, wire_type: u8, name
     }
 }
 
-// A refusal that the message's own comes before.
-fn after_message(m: &[u8], timed: bool, r: Refusal) -> Answer
-    ensures { λ x. ⌜ toldAnswer x ≡ bind (readMessage (responseLayout timed) (now (m .entry))) (λ p. no (r .fault) (r .place)) ⌝ }
+// A refusal, or the message's own, which comes before it.
+fn after_message(m: &[u8], timed: bool, r: Refusal) -> Refusal
+    ensures { λ x. ⌜ x ≡ ownBefore (readMessage (responseLayout timed) (now (m .entry))) r ⌝ }
 {
     let verdict = message::accept_layout(format::response_layout(timed), m);
     match verdict {
-        Verdict::No(own) => Answer::No(own),
-        Verdict::Fine => Answer::No(r),
+        Verdict::No(own) => own,
+        Verdict::Fine => r,
     }
 }
 
@@ -279,11 +285,99 @@ pub fn open_card(m: &[u8], t: usize, card: &[u8]) -> Answer
 {
     let form = read_card(card);
     match form {
-        Form::No(r) => after_message(m, true, r),
+        Form::No(r) => Answer::No(after_message(m, true, r)),
         Form::Is(position, wire_type, size) => {
             let start = name_at(position);
             let end = start + size;
             open_at(m, true, t, position, wire_type, &card[start..end])
+        }
+    }
+}
+
+// ---- How a card fits, and if it doesn't, why.
+
+// What isn't as a card says: there is no column at its position, or that one has another type, or another name. The first of these is told.
+pub enum Reason {
+    Past,
+    OtherType,
+    OtherName,
+}
+
+// That a card fits a table; or why not, and the first position at which a column of its type and name stands.
+pub enum Fit {
+    Fits,
+    Stale(Reason, Found),
+    No(Refusal),
+}
+
+// The first column of a table that has this type and name.
+fn first_alike(m: &[u8], layout: TableLayout, wire_type: u8, name: &[u8]) -> Found
+    requires { ⌜ Laid (now m) layout ⌝ }
+    ensures { λ r. ⌜ ((w : Laid (now (m .entry)) layout) → toldPlace r ≡ standsAt (w .tab) «wire_type» (now (name .entry))) ⌝ }
+{
+    let mut at = layout.names;
+    let mut i = 0;
+    while i < layout.columns {
+        let body = scan::read_body(m, at, false, format::UNLIMITED);
+        let Body::Is(start, end) = body else {
+            return Found::Nothing;
+        };
+        if scan::byte_at(m, layout.types + i) == wire_type && same_bytes(&m[start..end], name) {
+            return Found::At(i);
+        }
+        at = end;
+        i += 1;
+    }
+    Found::Nothing
+}
+
+fn stale(m: &[u8], layout: TableLayout, reason: Reason, wire_type: u8, name: &[u8]) -> Fit
+    requires { ⌜ Laid (now m) layout ⌝ }
+    ensures { λ r. ⌜ ((w : Laid (now (m .entry)) layout) → toldFit r ≡ ok (some (reason, standsAt (w .tab) «wire_type» (now (name .entry))))) ⌝ }
+{
+    Fit::Stale(reason, first_alike(m, layout, wire_type, name))
+}
+
+// How a card that says this fits a table.
+fn fit_in(m: &[u8], layout: TableLayout, position: usize, wire_type: u8, name: &[u8]) -> Fit
+    requires { ⌜ Laid (now m) layout ⌝ }
+    ensures { λ r. ⌜ ((w : Laid (now (m .entry)) layout) → toldFit r ≡ ok (fitOf (w .tab) (aCard position «wire_type» (now (name .entry))))) ⌝ }
+{
+    if layout.columns <= position {
+        return stale(m, layout, Reason::Past, wire_type, name);
+    }
+    let column = query::column_at(m, layout.types, layout.names, position);
+    if is_alike(m, column, wire_type, name) {
+        return Fit::Fits;
+    }
+    if column.wire_type == wire_type {
+        return stale(m, layout, Reason::OtherName, wire_type, name);
+    }
+    stale(m, layout, Reason::OtherType, wire_type, name)
+}
+
+// How it fits table t of a response with its round trip or without.
+fn fit_at(m: &[u8], timed: bool, t: usize, position: usize, wire_type: u8, name: &[u8]) -> Fit
+    ensures { λ r. ⌜ toldFit r ≡ ofTable timed (now (m .entry)) t (λ at b. ok (fitOf b (aCard position «wire_type» (now (name .entry))))) ⌝ }
+{
+    let answer = query::find_table(m, timed, t);
+    match answer {
+        TableAnswer::No(r) => Fit::No(r),
+        TableAnswer::Is(layout) => fit_in(m, layout, position, wire_type, name),
+    }
+}
+
+// Whether a card fits table t, exactly if opening it there would open a column; and if not why, and where a column of its type and name stands now.
+pub fn card_fit(m: &[u8], t: usize, card: &[u8]) -> Fit
+    ensures { λ r. ⌜ toldFit r ≡ askFit (now (m .entry)) t (now (card .entry)) ⌝ }
+{
+    let form = read_card(card);
+    match form {
+        Form::No(r) => Fit::No(after_message(m, true, r)),
+        Form::Is(position, wire_type, size) => {
+            let start = name_at(position);
+            let end = start + size;
+            fit_at(m, true, t, position, wire_type, &card[start..end])
         }
     }
 }

@@ -12,8 +12,9 @@ ghost use Rattle.fields.specs.Questions.{ownerOf, windowCount, windowOut};
 ghost use Rattle.query.specs.Answers.{ofTable, layoutOf, columnOf, firstNamed};
 ghost use Rattle.places.specs.Places.{tablesOf};
 ghost use Rattle.cards.specs.Answers.{askMade, askOpen, written};
+ghost use Rattle.cards.specs.Reasons.{askFit};
 ghost use Rattle.query.specs.Answers.{askColumnName, askCell, askCellPlace, askParameter, askElement};
-ghost use Rattle.numbers.specs.Listed.{lent, cellNumbers, givenNumbers, partNumbers};
+ghost use Rattle.numbers.specs.Listed.{lent, cellNumbers, givenNumbers, partNumbers, fitNumbers};
 ghost use Rattle.numbers.specs.Records.{loginRequestNumbers, loginResponseNumbers, invocationNumbers, responseNumbers};
 ghost use Rattle.record.specs.Records.{shownLoginRequest, shownLoginResponse, shownInvocation, shownResponse};
 ghost use Rattle.numbers.specs.Packed.{packed, nothing, itself, numberIn, rowsOf, columnsOf, typeOf};
@@ -116,6 +117,14 @@ pub extern "C" fn chaloenpik_open_card(m: &[u8], t: usize, card: &[u8]) -> u64
     ensures { λ r. ⌜ r ≡ packed itself (askOpen (now (m .entry)) t (now (card .entry))) ⌝ }
 {
     numbers::pack_answer(cards::open_card(m, t, card))
+}
+
+// Whether a card fits table t of a response, and if not why, and where a column of its type and name stands: three numbers (numbers/specs/Listed.antt).
+#[no_mangle]
+pub extern "C" fn chaloenpik_card_fit(m: &[u8], t: usize, card: &[u8], list: &mut [u64; 3]) -> u64
+    ensures { λ r. ⌜ (r ≡ packed nothing (askFit (now (m .entry)) t (now (card .entry)))) × (now (list .exit) ≡ lent fitNumbers (askFit (now (m .entry)) t (now (card .entry))) (now (list .entry))) ⌝ }
+{
+    numbers::lend_fit(list, cards::card_fit(m, t, card))
 }
 
 // The cell at a row and column c of table t of a response, as four numbers (numbers/specs/Listed.antt).

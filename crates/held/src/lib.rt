@@ -1,5 +1,6 @@
 // What holds a reference: a reader over one table of a message, each function thin over one of `query` or `cards`; the bytes of a value, handed back
 // beside what is told of them; and the step that is lent a table's columns, thin over one of `columns`.
+use cards::Fit;
 use columns::Column;
 use columns::Head;
 use columns::Survey;
@@ -15,6 +16,7 @@ ghost use mathlib.Core.Path.{_≡_};
 ghost use lib.ListN.{length};
 ghost use Rattle.format.specs.Result.{toldAnswer};
 ghost use Rattle.cards.specs.Answers.{askOpen};
+ghost use Rattle.cards.specs.Reasons.{askFit, toldFit};
 ghost use Rattle.query.specs.Answers.{toldTable, askTable, toldColumn, askColumn, askPosition, toldCell, askCell, toldPart, askCellSpan, askParameterSpan, askElementSpan, Handed};
 ghost use Rattle.steps.specs.Steps.{openTable};
 ghost use Rattle.write.specs.Shown.{Opened};
@@ -60,6 +62,13 @@ pub fn opened<'a, 'b>(r: TableReader<'a>, card: &'b [u8]) -> Answer
     ensures { λ a. ⌜ toldAnswer a ≡ askOpen (now (r .entry .msg)) (r .entry .table) (now (card .entry)) ⌝ }
 {
     cards::open_card(r.msg, r.table, card)
+}
+
+// Whether a card fits, and if not why, and where a column of its type and name stands.
+pub fn fit<'a, 'b>(r: TableReader<'a>, card: &'b [u8]) -> Fit
+    ensures { λ a. ⌜ toldFit a ≡ askFit (now (r .entry .msg)) (r .entry .table) (now (card .entry)) ⌝ }
+{
+    cards::card_fit(r.msg, r.table, card)
 }
 
 // A cell, shown by its column's type.

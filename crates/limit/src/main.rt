@@ -1,6 +1,8 @@
 // The insurer's question, asked of replies on standard input, one frame each: which bytes set the throttle limit of an engine?
 // A card is made from the first reply and opened over each of them. Where it opens a column, the engine's limit is printed with
-// its place in the message and the field that owns its first byte; where it doesn't fit any more, the refusal is.
+// its place in the message and the field that owns its first byte; where it doesn't fit any more, the refusal is, and why.
+use cards::Fit;
+use cards::Reason;
 use fields::Owned;
 use format::Answer;
 use frames::Frame;
@@ -9,12 +11,14 @@ use query::CellAnswer;
 use query::Part;
 use query::TableAnswer;
 use show::Cell;
+use text::Found;
 ghost use mathlib.Core.Path.{_≡_};
 ghost use Prim.Native.Nat.{_≤_};
 ghost use lib.ListN.{length};
 ghost use Rattle.format.specs.Result.{toldAnswer};
 ghost use Rattle.cards.specs.Card.{mostSize};
 ghost use Rattle.cards.specs.Answers.{askOpen};
+ghost use Rattle.cards.specs.Reasons.{askFit, toldFit};
 ghost use Rattle.query.specs.Answers.{toldTable, askTable, askPosition, toldCell, askCell};
 
 // The engine that is asked for.
@@ -75,10 +79,36 @@ fn open(reply: &[u8], card: &[u8]) {
     match opened {
         Answer::Is(column) => print_limit(reply, column),
         Answer::No(refusal) => {
-            io::write_all(STDOUT_FILENO, b"card ");
+            say(b"card ");
             listing::print_refusal(refusal);
+            print_reason(fit_of(reply, card));
         }
     }
+}
+
+// Prints why a card doesn't fit; of a reply or a card that is refused for another fault there is nothing to say.
+fn print_reason(fit: Fit) {
+    if let Fit::Stale(reason, place) = fit {
+        say(b"stale: ");
+        print_fact(reason);
+        print_now(place);
+    }
+}
+
+fn print_fact(reason: Reason) {
+    match reason {
+        Reason::Past => say(b"its position is past the last column"),
+        Reason::OtherType => say(b"the column at its position has another type"),
+        Reason::OtherName => say(b"the column at its position has another name"),
+    }
+}
+
+fn print_now(place: Found) {
+    match place {
+        Found::At(column) => word(b"; its name and type now stand at column ", column as u64),
+        Found::Nothing => say(b"; no column has its name and type"),
+    }
+    say(b"\n");
 }
 
 // Prints the engine's limit, and whose bytes it was read from.
@@ -86,12 +116,12 @@ fn print_limit(reply: &[u8], column: usize) {
     let row = engine_row(reply);
     let answer = cell_of(reply, row, column);
     let CellAnswer::Is(cell) = answer else {
-        io::write_all(STDOUT_FILENO, b"no such engine\n");
+        say(b"no such engine\n");
         return;
     };
     if let Cell::Decimal(_, lower) = cell {
         word(b"limit ", lower);
-        io::write_all(STDOUT_FILENO, b" x 10^-12,");
+        say(b" x 10^-12,");
     }
     word(b" column ", column as u64);
     word(b", row ", row as u64);
@@ -137,7 +167,7 @@ fn is_engine(answer: CellAnswer) -> bool {
     }
 }
 
-// ---- The questions to a reply's table, each by a reader over it. These four alone hold one: Rattle makes no proof of such a function by itself, so
+// ---- The questions to a reply's table, each by a reader over it. These five alone hold one: Rattle makes no proof of such a function by itself, so
 // each does nothing else, and is proved by a walk by hand.
 
 fn layout_of(reply: &[u8]) -> TableAnswer
@@ -156,6 +186,12 @@ fn opened_by(reply: &[u8], card: &[u8]) -> Answer
     ensures { λ r. ⌜ toldAnswer r ≡ askOpen (now (reply .entry)) 0 (now (card .entry)) ⌝ }
 {
     held::opened(held::reader(reply, 0), card)
+}
+
+fn fit_of(reply: &[u8], card: &[u8]) -> Fit
+    ensures { λ r. ⌜ toldFit r ≡ askFit (now (reply .entry)) 0 (now (card .entry)) ⌝ }
+{
+    held::fit(held::reader(reply, 0), card)
 }
 
 fn cell_of(reply: &[u8], row: usize, column: usize) -> CellAnswer
@@ -183,11 +219,15 @@ fn print_owner(reply: &[u8], offset: usize) {
         word(b", row ", entry.j as u64);
         word(b", column ", entry.k as u64);
     }
-    io::write_all(STDOUT_FILENO, b"\n");
+    say(b"\n");
+}
+
+fn say(text: &[u8]) {
+    io::write_all(STDOUT_FILENO, text);
 }
 
 // Prints a text and a number.
 fn word(text: &[u8], n: u64) {
-    io::write_all(STDOUT_FILENO, text);
+    say(text);
     io::print_decimal(STDOUT_FILENO, n);
 }

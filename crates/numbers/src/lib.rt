@@ -1,4 +1,6 @@
 // Answers and the writer's state as numbers, for the C interface, which takes and gives nothing else.
+use cards::Fit;
+use cards::Reason;
 use columns::Column;
 use columns::Head;
 use columns::Survey;
@@ -24,6 +26,7 @@ use record::Span;
 use show::Cell;
 use show::Raw;
 use steps::Stage;
+use text::Found;
 use write::COLUMNS;
 use write::Outcome;
 use write::State;
@@ -36,6 +39,7 @@ ghost use Rattle.scan.specs.Signed.{unsigned};
 ghost use Rattle.message.specs.Verdict.{toldVerdict};
 ghost use Rattle.fields.specs.Told.{toldOwned};
 ghost use Rattle.query.specs.Answers.{toldTable, toldColumn, toldCell, toldPart, toldArgument};
+ghost use Rattle.cards.specs.Reasons.{reasonNumber, toldPlace, toldFit};
 ghost use Rattle.steps.specs.State.{stageNumber};
 ghost use Prim.Native.Nat.{_+_, _≤_};
 ghost use lib.ListN.{length};
@@ -46,7 +50,7 @@ ghost use Rattle.columns.specs.Walks.{Bounded, addAll, putAll, FitsAll};
 ghost use Rattle.numbers.specs.Entries.{entryAt, entriesOf};
 ghost use Rattle.numbers.specs.Packed.{above, packed, packedNo, nothing, itself, numberIn, rowsOf, columnsOf, typeOf};
 ghost use Rattle.numbers.specs.Stored.{stageOf, byteOf, stateOf, numbersOf, kept};
-ghost use Rattle.numbers.specs.Listed.{lent, bitsNumbers, cellNumbers, givenNumbers, partNumbers};
+ghost use Rattle.numbers.specs.Listed.{lent, bitsNumbers, cellNumbers, givenNumbers, partNumbers, placeNumbers, fitNumbers};
 ghost use Rattle.numbers.specs.Records.{form, startOf, sizeOf, there, hasEdition, editionNumber, loginRequestNumbers, loginResponseNumbers, invocationNumbers, responseNumbers};
 
 // A place or a number found, above the low 8 bits.
@@ -345,6 +349,44 @@ pub fn lend_part(list: &mut [u64; 2], answer: Part) -> u64
             0
         }
         Part::No(refusal) => refused(refusal),
+    }
+}
+
+fn reason_number(reason: Reason) -> u64
+    ensures { λ r. ⌜ r ≡ reasonNumber reason ⌝ }
+{
+    match reason {
+        Reason::Past => 1,
+        Reason::OtherType => 2,
+        Reason::OtherName => 3,
+    }
+}
+
+// The numbers of a reason, and of where a column stands, if one does.
+fn list_fit(reason: u64, place: Found) -> [u64; 3]
+    ensures { λ r. ⌜ r ≡ reason ∷ placeNumbers (toldPlace place) ⌝ }
+{
+    match place {
+        Found::At(i) => [reason, 1, i as u64],
+        Found::Nothing => [reason, 0, 0],
+    }
+}
+
+// Lends how a card fits.
+pub fn lend_fit(list: &mut [u64; 3], answer: Fit) -> u64
+    ensures { λ r. ⌜ (r ≡ packed nothing (toldFit answer)) × (now (list .exit) ≡ lent fitNumbers (toldFit answer) (now (list .entry))) ⌝ }
+{
+    match answer {
+        Fit::Fits => {
+            *list = [0, 0, 0];
+            0
+        }
+        Fit::Stale(reason, place) => {
+            let found = list_fit(reason_number(reason), place);
+            *list = found;
+            0
+        }
+        Fit::No(refusal) => refused(refusal),
     }
 }
 

@@ -51,7 +51,7 @@ same-no xs ys n = go (same xs ys) (λ t. n (same-eq xs ys t))
     go false h = refl
 
 -- a name that stands, as a body of whatever bytes
-name-body : {m : List ℕ} {at : ℕ} (n : Option (List ℕ)) → Stands name m at n → (bs : List ℕ) × (n ≡ some bs) × (sized .read m at ≡ ok (some bs, at + (4 + length bs)))
+pub name-body : {m : List ℕ} {at : ℕ} (n : Option (List ℕ)) → Stands name m at n → (bs : List ℕ) × (n ≡ some bs) × (sized .read m at ≡ ok (some bs, at + (4 + length bs)))
 unfolding counted
 name-body none d = absurd (false≢true (d .good))
 name-body {m} {at} (some bs) d =
@@ -62,7 +62,7 @@ some-same : {a b : List ℕ} → some a ≡ some b → a ≡ b
 some-same e = cc
 
 -- what a body that was read and one that stands have in common
-name-here : {m : List ℕ} {at start end : ℕ} (bs : List ℕ) → sized .read m at ≡ ok (some bs, at + (4 + length bs)) → (b : Here false unlimited m at start end) → (b .body ≡ bs) × (end ≡ at + (4 + length bs))
+pub name-here : {m : List ℕ} {at start end : ℕ} (bs : List ℕ) → sized .read m at ≡ ok (some bs, at + (4 + length bs)) → (b : Here false unlimited m at start end) → (b .body ≡ bs) × (end ≡ at + (4 + length bs))
 name-here bs e b =
     let both = ok-same (sym (b .read) ∙ e) in
     (some-same (ap (λ (p : Option (List ℕ) × ℕ). p .0) both), ap (λ (p : Option (List ℕ) × ℕ). p .1) both)

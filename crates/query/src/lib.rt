@@ -251,7 +251,8 @@ fn table_in(m: &[u8], timed: bool, t: usize) -> TableAnswer
     TableAnswer::Is(layout_at(m, over(m, first, t)))
 }
 
-fn find_table(m: &[u8], timed: bool, t: usize) -> TableAnswer
+// What table t of a response says of itself, with its round trip or without.
+pub fn find_table(m: &[u8], timed: bool, t: usize) -> TableAnswer
     ensures { λ r. ⌜ toldTable r ≡ ofTable timed (now (m .entry)) t (λ at b. ok (layoutOf at b)) ⌝ }
 {
     let verdict = message::accept_layout(format::response_layout(timed), m);
@@ -270,8 +271,8 @@ pub fn table(m: &[u8], t: usize) -> TableAnswer
 
 // ---- Columns.
 
-// The column at a position, by where types and names begin.
-fn column_at(m: &[u8], types: usize, names: usize, c: usize) -> ColumnLayout
+// The column at a position of a table that was found, by where its types and names begin.
+pub fn column_at(m: &[u8], types: usize, names: usize, c: usize) -> ColumnLayout
     ensures { λ r. ⌜ ((at : ℕ) (b : Table) → Stands table (now (m .entry)) at b → types ≡ typeAt at (b .metadata) 0 → names ≡ nameAt at (b .metadata) 0
         → c < length (b .metadata .types) → ok r ≡ columnOf at b c) ⌝ }
 {

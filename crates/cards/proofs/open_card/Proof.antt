@@ -1,7 +1,8 @@
 -- `cards::open_card` meets its contract: a form that is broken comes after the message's own refusal; one that is right is opened. Assumes nothing.
 use mathlib.Core.Path.{_∙_}
 use native.Mathlib.Omega.{arith}
-use Rattle.cards.proofs.Forms.{form-no, form-is, unformed, name-fits, opens-as}
+use Rattle.cards.specs.Answers.{opened}
+use Rattle.cards.proofs.Forms.{form-no, form-is, unformed, name-fits, asks-as}
 use borrow.Author.Needs.{needs}
 use Rattle.cards.proofs.open_card.Statement.{statement}
 use Rattle.cards.proofs.open_card.Tie as tie
@@ -24,7 +25,7 @@ name-at-requires c κs = search needs
 add-end : tie.Need-add-end
 add-end c =
     let a = c .before .before .before .before .before .before .before .args in
-    omega (arith, c .name-at .ensures, name-fits (a .m .now) (a .t) (a .card .now) (form-is _ (c .before .before .before .before .read-card .ensures) (c .before .before .form2 .given .1)))
+    omega (arith, c .name-at .ensures, name-fits (a .m .now) (a .t) (a .card .now) opened (form-is _ (c .before .before .before .before .read-card .ensures) (c .before .before .form2 .given .1)))
 
 sub-open-at : tie.Need-sub-open-at
 sub-open-at c = search needs
@@ -35,7 +36,7 @@ part-open-at-start c = search needs
 part-open-at-end : tie.Need-part-open-at-end
 part-open-at-end c =
     let a = c .before .before .before .before .before .before .before .args in
-    omega (arith, c .name-at .ensures, name-fits (a .m .now) (a .t) (a .card .now) (form-is _ (c .before .before .before .before .read-card .ensures) (c .before .before .form2 .given .1)))
+    omega (arith, c .name-at .ensures, name-fits (a .m .now) (a .t) (a .card .now) opened (form-is _ (c .before .before .before .before .read-card .ensures) (c .before .before .form2 .given .1)))
 
 open-at-requires : tie.Need-open-at-requires
 open-at-requires c κs = search needs
@@ -43,12 +44,12 @@ open-at-requires c κs = search needs
 returns : tie.Need-returns
 returns c =
     let a = c .before .before .before .before .before .before .before .args in
-    c .after-message .ensures ∙ unformed (a .m .now) (a .t) (a .card .now) (form-no _ (c .before .before .before .before .read-card .ensures) (c .before .before .form .given .1))
+    unformed (a .m .now) (a .t) (a .card .now) opened (form-no _ (c .before .before .before .before .read-card .ensures) (c .before .before .form .given .1)) (c .after-message .ensures)
 
 returns-2 : tie.Need-returns-2
 returns-2 c =
     let a = c .before .before .before .before .before .before .before .before .before .args in
-    c .open-at .ensures ∙ opens-as (a .m .now) (a .t) (a .card .now) (form-is _ (c .before .before .before .before .before .before .read-card .ensures) (c .before .before .before .before .form2 .given .1)) _ (c .before .before .name-at .ensures)
+    c .open-at .ensures ∙ asks-as (a .m .now) (a .t) (a .card .now) opened (form-is _ (c .before .before .before .before .before .before .read-card .ensures) (c .before .before .before .before .form2 .given .1)) _ (c .before .before .name-at .ensures)
 
 pub open-card-spec : {M : Type 1} → statement M
 open-card-spec =
