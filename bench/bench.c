@@ -97,6 +97,10 @@ static uint64_t open_plain(const uint8_t *m, size_t size) {
 
 static uint64_t open_proved(const uint8_t *m, size_t size) { return chaloenpik_open_card(m, size, 0, card, card_size); }
 
+static uint64_t fit_plain(const uint8_t *m, size_t size) { return packed(plain_card_fit(m, size, 0, card, card_size, plain_numbers)); }
+
+static uint64_t fit_proved(const uint8_t *m, size_t size) { return chaloenpik_card_fit(m, size, 0, card, card_size, proved_numbers); }
+
 static uint64_t write_plain(const uint8_t *m, size_t size) { return rewrite_plain(m, size, plain_message, MOST_SIZE); }
 
 static uint64_t write_proved(const uint8_t *m, size_t size) { return rewrite_proved(m, size, proved_message, MOST_SIZE); }
@@ -161,6 +165,13 @@ static bool last_name_known(size_t size) {
     return chaloenpik_refusal(chaloenpik_make_card(message, size, 0, message + last_name, last_name_size, card, card_size)) == 0;
 }
 
+/* The card of the last column, its name begun by a byte that no name begins with: so all columns are searched, and none is it. */
+static bool stale_card_known(size_t size) {
+    if (!last_name_known(size) || last_name_size == 0) return false;
+    card[card_size - CARD_NAME] = '?';
+    return true;
+}
+
 static bool accepted(size_t size) { return plain_accept(message, size).number == 0; }
 
 static bool nothing_written(uint64_t answer) {
@@ -173,7 +184,7 @@ static bool lists_alike(uint64_t answer) {
     return memcmp(plain_list, proved_list, chaloenpik_value(answer) * 6 * sizeof *plain_list) == 0;
 }
 
-static bool cells_alike(uint64_t answer) {
+static bool numbers_alike(uint64_t answer) {
     return chaloenpik_refusal(answer) != 0 || memcmp(plain_numbers, proved_numbers, sizeof plain_numbers) == 0;
 }
 
@@ -190,9 +201,10 @@ static bool messages_alike(uint64_t answer) {
 
 static const question of_accept = {"accept", always, accept_plain, accept_proved, nothing_written};
 static const question of_list = {"list", always, list_plain, list_proved, lists_alike};
-static const question of_cell = {"cell", last_cell_known, cell_plain, cell_proved, cells_alike};
+static const question of_cell = {"cell", last_cell_known, cell_plain, cell_proved, numbers_alike};
 static const question of_find = {"find", last_name_known, find_plain, find_proved, nothing_written};
 static const question of_open = {"open", last_name_known, open_plain, open_proved, nothing_written};
+static const question of_fit = {"fit", stale_card_known, fit_plain, fit_proved, numbers_alike};
 static const question of_write = {"write", accepted, write_plain, write_proved, messages_alike};
 static const question of_area = {"accept", always, area_plain, area_proved, nothing_written};
 static const question of_area_list = {"list", always, area_list_plain, area_list_proved, lists_alike};
@@ -201,8 +213,8 @@ static const question of_area_write = {"write", always, area_write_plain, area_w
 
 /* What is asked of which shapes; the last is NULL. */
 static const question *const questions[] = {&of_accept, &of_list, &of_cell, &of_write, NULL};
-static const question *const column_questions[] = {&of_accept, &of_find, &of_open, NULL};
-static const question *const report_questions[] = {&of_accept, &of_list, &of_cell, &of_find, &of_open, &of_write, NULL};
+static const question *const column_questions[] = {&of_accept, &of_find, &of_open, &of_fit, NULL};
+static const question *const report_questions[] = {&of_accept, &of_list, &of_cell, &of_find, &of_open, &of_fit, &of_write, NULL};
 static const question *const area_questions[] = {&of_area, &of_area_list, &of_turn, &of_area_write, NULL};
 static const question *const wide_questions[] = {&of_write, NULL};
 

@@ -39,6 +39,10 @@ plain_refusal plain_find_column(const uint8_t *message, size_t length, size_t ta
 /* Opens a shortcut card; else the message's refusal, 12 where the card breaks its form, 11 at 0, or 10 at 0 if it doesn't fit. */
 plain_refusal plain_open_card(const uint8_t *message, size_t length, size_t table, const uint8_t *card, size_t card_size, size_t *column);
 
+/* How a card fits: 0, or the first of 1 past the columns, 2 another type, 3 another name; then 1 and the first column of its type and name, or 0 and 0. Refused
+   as opening is, but never 10. */
+plain_refusal plain_card_fit(const uint8_t *message, size_t length, size_t table, const uint8_t *card, size_t card_size, uint64_t fit[3]);
+
 /* Writes entries of the field list, from number `first` on, as many as fit, six numbers each: offset, size, field, three
    indices. `taken` is how many were written. 11 at 0 if there is no entry `first`. */
 plain_refusal plain_fields(const uint8_t *message, size_t length, size_t first, uint64_t *out, size_t room, size_t *taken);

@@ -278,3 +278,26 @@ plain_refusal plain_open_card(const uint8_t *m, size_t size, size_t table, const
     *column = is.position;
     return no;
 }
+
+/* One walk over the columns: to the first of the card's type and name, and, if only the name is still in doubt, at least to the card's position. */
+plain_refusal plain_card_fit(const uint8_t *m, size_t size, size_t table, const uint8_t *card, size_t card_size, uint64_t fit[3]) {
+    plain_refusal no = plain_accept(m, size);
+    size_t at, wrong;
+    card_content is;
+    if (no.number != 0) return no;
+    if (!card_fine(card, card_size, &is, &wrong)) return refused(CARD_FORM, wrong);
+    if (!table_at(m, size, table, &at)) return refused(PAST_END, 0);
+    size_t columns = load16(m + at + 9), first = columns;
+    const uint8_t *types = m + at + 11;
+    unsigned reason = is.position >= columns ? COLUMN_PAST : types[is.position] != is.type ? OTHER_TYPE : OTHER_NAME;
+    size_t least = reason == OTHER_NAME ? is.position : 0;
+    at += 11 + columns;
+    for (size_t k = 0; k < columns && (first == columns || k <= least); k++, at += 4 + load32(m + at)) {
+        if (types[k] != is.type || !is_named(m + at, is.name, is.name_size)) continue;
+        if (first == columns) first = k;
+        if (k == is.position) reason = FITS;
+    }
+    bool stands = reason != FITS && first < columns;
+    fit[0] = reason, fit[1] = stands, fit[2] = stands ? first : 0;
+    return no;
+}

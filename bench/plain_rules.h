@@ -14,6 +14,7 @@ enum { FLAG_STATUS = 32, FLAG_EXCEPTION = 64, FLAG_APPLICATION = 128, OTHER_FLAG
 
 /* A shortcut card: its kind, a position of one byte (near) or of two (far), the type, the name's length, and a place for the name. */
 enum { NEAR_KIND = 1, FAR_KIND = 2, NEAR_CARD = 36, FAR_CARD = 37, FAR_POSITION = 64, CARD_NAME = 32 };
+enum { FITS, COLUMN_PAST, OTHER_TYPE, OTHER_NAME };
 
 /* An area: where its parts stand and how many bytes they have. */
 enum { HOLES_AT = 2, RINGS_AT = 3, AREA_HEAD = 7, RING_HEAD = 5, VERTEX = 24, RING_KEPT = 38, AREA_KEPT = 33, LEAST_VERTICES = 3 };

@@ -2,12 +2,13 @@
    of size, big-endian, then one byte of kind, 4, and a message). For each it prints the field list, or `refused NUMBER PLACE`,
    and a line with a dot. It also asks for each cell and column, and writes each accepted message anew, and says where either differs, or
    where a torn text, or what breaks another rule of its own, or too many columns are written, or a broken card is opened.
-   With kind 27, the wire type of a geography, it is an area: behind its field list stands what it is with its holes turned. */
+   With kind 27, the wire type of a geography, it is an area: behind its field list stands what it is with its holes turned. With kind 100 it is a card behind
+   its size, one byte, and then a message: it prints how the card fits the first table. */
 #include "plain_rules.h"
 #include <stdio.h>
 #include <stdlib.h>
 
-enum { MOST_FRAME = 1 << 23, MOST_NUMBERS = 1 << 24 };
+enum { MOST_FRAME = 1 << 23, MOST_NUMBERS = 1 << 24, CARD_FRAME = 100 };
 
 static uint8_t message[MOST_FRAME], again[MOST_FRAME];
 static uint64_t entries[MOST_NUMBERS];
@@ -307,12 +308,21 @@ static void one_area(size_t size) {
     printf("\n");
 }
 
+static void one_card(size_t size) {
+    const uint8_t *card = message + 1, *reply = card + message[0];
+    uint64_t fit[3];
+    plain_refusal no = plain_card_fit(reply, size - (size_t)(reply - message), 0, card, message[0], fit);
+    if (no.number != 0) printf("refused %u %zu\n", no.number, no.place);
+    else printf("%lu %lu %lu\n", fit[0], fit[1], fit[2]);
+}
+
 int main(void) {
     uint8_t head[5];
     while (fread(head, 1, 5, stdin) == 5) {
         size_t size = load32(head) - 1;
         if (size > MOST_FRAME || fread(message, 1, size, stdin) != size) return 1;
         if (head[4] == PLAIN_GEOGRAPHY) one_area(size);
+        else if (head[4] == CARD_FRAME) one_card(size);
         else one(size);
         printf(".\n");
     }

@@ -20,9 +20,9 @@
 #include <string.h>
 
 #define CHALOENPIK_VERSION_MAJOR 0
-#define CHALOENPIK_VERSION_MINOR 3
+#define CHALOENPIK_VERSION_MINOR 4
 #define CHALOENPIK_VERSION_PATCH 0
-#define CHALOENPIK_VERSION "0.3.0"
+#define CHALOENPIK_VERSION "0.4.0"
 
 #ifdef __cplusplus
 extern "C" {
@@ -49,7 +49,7 @@ enum {
     CHALOENPIK_BAD_TYPE = 6,      /* the wire type is unknown or not permitted there: that byte; or no such kind: 0 */
     CHALOENPIK_OUTPUT_SHORT = 8,  /* the output is too short: bytes needed, which in writing is the position that the step would reach */
     CHALOENPIK_NO_COLUMN = 9,     /* no column has that name: 0 */
-    CHALOENPIK_CARD_STALE = 10,   /* a well-formed card doesn't fit the table: 0 */
+    CHALOENPIK_CARD_STALE = 10,   /* a well-formed card doesn't fit the table: 0; chaloenpik_card_fit says why */
     CHALOENPIK_PAST_END = 11,     /* a table, row, column, ring, vertex, entry or byte past the end, or a column's name past its buffer: 0 */
     CHALOENPIK_CARD_BROKEN = 12,  /* a card breaks its form: the first wrong byte; for a wrong size, the smaller of the sizes */
     CHALOENPIK_BAD_STAGE = 13,    /* a step of writing comes at a stage, or with a state, that doesn't permit it: the position */
@@ -257,8 +257,21 @@ static inline size_t chaloenpik_card_size(uint64_t position) {
 uint64_t chaloenpik_make_card(const uint8_t *message, size_t length, size_t table, const uint8_t *name, size_t name_length, uint8_t *out, size_t size);
 
 /* The position of the column that a card stands for. `card_length` is the card's own size, and not that of a buffer it was made in. 10 at 0: the
-   table has another column there, or none; 12: no card. */
+   table has another column there, or none, of which chaloenpik_card_fit says more; 12: no card. */
 uint64_t chaloenpik_open_card(const uint8_t *message, size_t length, size_t table, const uint8_t *card, size_t card_length);
+
+/* How a card fits a table: it does, or else the first reason of these that holds. */
+enum {
+    CHALOENPIK_FITS = 0,        /* chaloenpik_open_card opens it */
+    CHALOENPIK_COLUMN_PAST = 1, /* its position is past the last column */
+    CHALOENPIK_OTHER_TYPE = 2,  /* the column at its position has another type, whatever its name is */
+    CHALOENPIK_OTHER_NAME = 3   /* the column at its position has another name, and the card's type */
+};
+
+/* Why a card is refused 10, and where its column stands now, in three numbers: one of those above; 1 if the table has a column of the card's name
+   and type, and the first position of such a one. These two are 0 if there is none, and of a card that fits. The value is 0. It is refused as
+   chaloenpik_open_card is, but never 10. It opens nothing: who wants the column at its new place makes a new card. */
+uint64_t chaloenpik_card_fit(const uint8_t *message, size_t length, size_t table, const uint8_t *card, size_t card_length, uint64_t fit[3]);
 
 /* ---- Writing. `out` has room for `size` bytes; the value is the position that was reached, which after the last step is the
    message's size. A step that is refused leaves the buffer, the state and the types as they were; 8 at the position that it

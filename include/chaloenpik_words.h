@@ -1,4 +1,4 @@
-/* The words for the numbers of chaloenpik.h, to be printed: refusals, kinds, wire types and fields. */
+/* The words for the numbers of chaloenpik.h, to be printed: refusals, how a card fits, kinds, wire types and fields. */
 #ifndef CHALOENPIK_WORDS_H
 #define CHALOENPIK_WORDS_H
 
@@ -34,6 +34,17 @@ static inline const char *chaloenpik_refusal_text(unsigned refusal) {
 static inline const char *chaloenpik_area_refusal_text(unsigned refusal) {
     if (refusal == CHALOENPIK_BAD_GEOGRAPHY) return "the third byte doesn't fit the ring count, or there are too few rings or vertices";
     return chaloenpik_refusal_text(refusal);
+}
+
+/* How a card fits. */
+static inline const char *chaloenpik_fit_text(uint64_t fit) {
+    switch (fit) {
+    case CHALOENPIK_FITS: return "it fits";
+    case CHALOENPIK_COLUMN_PAST: return "its position is past the last column";
+    case CHALOENPIK_OTHER_TYPE: return "the column at its position has another type";
+    case CHALOENPIK_OTHER_NAME: return "the column at its position has another name";
+    default: return "unknown";
+    }
 }
 
 /* A kind of message. */

@@ -176,6 +176,39 @@ class Cards(unittest.TestCase):
         self.assertEqual(cards.MOST_COLUMNS, self.MOST_COLUMNS)
 
 
+class Fits(unittest.TestCase):
+    """How a card fits: the answers by number, in words, and by their names in C and Rust."""
+
+    ROWS = table("Answer", "Name", "When", "In Rust")
+    SAID = {int(number): words for number, _, words, _ in ROWS}
+    REASONS = [(re.fullmatch(r"`Reason::(\w+)`", rust).group(1), int(number)) for number, *_, rust in ROWS if number != "0"]
+
+    def test_their_order(self):
+        self.assertEqual(list(self.SAID), [0, *cards.REASONS])
+
+    def test_the_header_has_them_in_the_same_words(self):
+        named = [(plain(name), int(number)) for number, name, *_ in self.ROWS]
+        self.assertEqual(numbered(r"CHALOENPIK_(\w+) = (\d+)", part(HEADER, "/* How a card fits a table", "};")), named)
+        told = re.findall(r'case CHALOENPIK_(\w+): return "(.+)";', part(WORDS, "chaloenpik_fit_text(uint64_t fit) {\n    switch", "default"))
+        self.assertEqual(told, [(name, self.SAID[number]) for name, number in named])
+
+    def test_rust_has_them_in_the_same_words(self):
+        rust = source("bindings/rust/src/card.rs")
+        self.assertEqual(numbered(r"^    (\w+) = (\d+),", part(rust, "pub enum Reason {", "\n}")), self.REASONS)
+        self.assertEqual(re.findall(r"Reason::(\w+)", part(rust, "const ALL: ", "];")), [name for name, _ in self.REASONS])
+        told = re.findall(r'Reason::(\w+) => "(.+)",', part(rust, "impl fmt::Display for Reason {", "\n}"))
+        self.assertEqual(told, [(name, self.SAID[number]) for name, number in self.REASONS])
+        self.assertIn('Fit::Fits => f.pad("%s")' % self.SAID[0], rust)
+
+    def test_the_proved_code_and_its_definition_have_the_reasons(self):
+        code = part(source("crates/numbers/src/lib.rt"), "fn reason_number(", "\n}")
+        self.assertEqual(numbered(r"Reason::(\w+) => (\d+),", code), self.REASONS)
+        self.assertEqual(numbered(r"^reasonNumber Reason\.(\w+) = (\d+)$", source("crates/cards/specs/Reasons.antt")), self.REASONS)
+
+    def test_explain_has_them_in_the_same_words(self):
+        self.assertEqual(paper.FITS, self.SAID)
+
+
 class Fields(unittest.TestCase):
     def test_their_order_and_their_gaps(self):
         self.assertEqual([number for _, number in NAMED_FIELDS], [*range(1, 9), *range(10, 17), *range(20, 29), *range(30, 52), *range(60, 69)])

@@ -77,7 +77,11 @@ static void invocation(void) {
     for (size_t p = 0; p <= count; p++) parameter(p);
 }
 
-static void open_card(size_t table, size_t size) { found(ASK(open_card, message, length, table, card, size)); }
+/* Opens a card, and asks whether it fits. */
+static void open_card(size_t table, const uint8_t *bytes, size_t size) {
+    found(ASK(open_card, message, length, table, bytes, size));
+    told(ASK(card_fit, message, length, table, bytes, size, fresh()), 3);
+}
 
 /* Makes the card of a name in so much room, and prints the answer and all bytes that can be written. */
 static bool make_card(size_t table, const uint8_t *bytes, size_t size, size_t room) {
@@ -92,14 +96,14 @@ static bool make_card(size_t table, const uint8_t *bytes, size_t size, size_t ro
 }
 
 /* The columns that have a name in its own table and in the next; its card, made in a byte too little and then in more than enough; and the columns that this
-   opens in both tables. */
+   opens in both tables, or why it doesn't. */
 static void name(size_t table, const uint8_t *bytes, size_t size) {
     size_t needed = chaloenpik_card_size(found(ASK(find_column, message, length, table, bytes, size)));
     found(ASK(find_column, message, length, table + 1, bytes, size));
     make_card(table, bytes, size, needed - 1);
     if (!make_card(table, bytes, size, sizeof card)) return;
-    open_card(table, needed);
-    open_card(table + 1, needed);
+    open_card(table, card, needed);
+    open_card(table + 1, card, needed);
 }
 
 static void names(size_t table) {
@@ -122,7 +126,7 @@ static void table(size_t t) {
     size_t rows = found(ASK(rows, message, length, t)), columns = found(ASK(columns, message, length, t));
     names(t);
     name(t, torn, sizeof torn);
-    open_card(t, sizeof card); /* what isn't even a card */
+    open_card(t, card, sizeof card); /* what isn't even a card */
     for (size_t c = 0; c <= columns; c++) {
         found(ASK(column_type, message, length, t, c));
         told(ASK(column_name, message, length, t, c, fresh()), 2);
@@ -153,7 +157,7 @@ int main(void) {
         size_t size = ((size_t)head[0] << 24 | (size_t)head[1] << 16 | (size_t)head[2] << 8 | head[3]) - 1;
         bool is_card = head[4] == CARD_FRAME, is_name = head[4] == MAKE_FRAME;
         if (size > MOST_SIZE || fread(is_card || is_name ? given : message, 1, size, stdin) != size) return 1;
-        if (is_card) found(ASK(open_card, message, length, 0, given, size));
+        if (is_card) open_card(0, given, size);
         else if (!is_name) length = size, shown(head[4]);
         else if (size == 0 || given[0] > sizeof card) return 1;
         else make_card(0, given + 1, size - 1, given[0]);

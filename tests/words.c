@@ -17,5 +17,6 @@ int main(void) {
     print_words("type", chaloenpik_type_text);
     print_words("field", chaloenpik_field_text);
     print_words("refusal", refusal);
+    print_words("fit", chaloenpik_fit_text);
     return 0;
 }

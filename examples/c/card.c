@@ -2,7 +2,8 @@
 
      card make REPLY COLUMN CARD    writes the column's card to a file
      card limit CARD REPLY ENGINE   opens the card over a reply, and prints its column of the row of an engine, with the place of
-                                    the bytes that it was read from; a reply whose column there is another is refused */
+                                    the bytes that it was read from; a reply whose column there is another is refused, and the
+                                    reason told, and where the card's column stands now */
 #include "decimal.h"
 #include "fields.h"
 #include <string.h>
@@ -47,11 +48,26 @@ static size_t row_of(int64_t engine) {
     return row;
 }
 
+static void print_reason(const uint8_t *card, size_t size) {
+    uint64_t fit[3];
+    found("card", chaloenpik_card_fit(message, length, 0, card, size, fit));
+    printf("stale: %s; ", chaloenpik_fit_text(fit[0]));
+    if (fit[1] == 0) printf("no column has its name and type\n");
+    else printf("its name and type now stand at column %lu\n", (unsigned long)fit[2]);
+}
+
+/* The column that a card opens. It opens no other, wherever its name and type may stand now: who wants that column makes a new card. */
+static size_t opened(const uint8_t *card, size_t size) {
+    uint64_t answer = chaloenpik_open_card(message, length, 0, card, size);
+    if (chaloenpik_refusal(answer) == CHALOENPIK_CARD_STALE) print_reason(card, size);
+    return found("card", answer);
+}
+
 static int limit(const char *file, int64_t engine) {
     /* one more than the most, so that a file that is too long is refused and not cut */
     uint8_t card[CHALOENPIK_FAR_CARD + 1];
     size_t size = read_file(file, card, sizeof card);
-    size_t column = found("card", chaloenpik_open_card(message, length, 0, card, size)), row = row_of(engine);
+    size_t column = opened(card, size), row = row_of(engine);
     uint64_t cell[4], place[2];
     found("engine", chaloenpik_cell(message, length, 0, row, column, cell));
     if (cell[0] != CHALOENPIK_DECIMAL) {

@@ -1,14 +1,17 @@
-"""Shortcut cards, as paper 01 and request 6 say them: near ones for the first columns of a table, far ones for those behind.
+"""Shortcut cards, as paper 01 and requests 6 and 7 say them: near ones for the first columns of a table, far ones for those behind.
 
     FORMS, NEAR, FAR                        the two kinds: each with its kind byte, how many bytes its position has, and which positions these can be
     form_at(position)                   ->  the kind of card that a column has
     card_of(position, type, name)       ->  the bytes of its card
     broken_at(card)                     ->  the first byte that breaks its form; None if it has it
     opened(table, card)                 ->  the position that a card of the right form opens in a table of a record, or None
+    fit(table, card)                    ->  None if such a card fits; else why it doesn't, and the first position where its column stands now, or None
     edges()                             ->  cards of both kinds, each fitting `wide_table`, with one byte changed to every other, with another
                                             position, of another kind, and of every size up to some more than they have
+    moved()                             ->  (table, cards) pairs: columns that are nearly equal in every order, and the card of each at every position
 """
 
+import itertools
 from typing import NamedTuple
 
 from wire import *
@@ -90,6 +93,24 @@ def opened(table, card):
     return position if (table["types"][position], table["names"][position]) == (wire_type, rest[:size]) else None
 
 
+# Why a card doesn't fit. The first that holds is the reason.
+PAST_COLUMNS, OTHER_TYPE, OTHER_NAME = REASONS = 1, 2, 3
+
+
+def fit(table, card):
+    position, wire_type, size, rest = form_of(card).parts(card)
+    name, types, names = rest[:size], table["types"], table["names"]
+    if position >= len(types):
+        reason = PAST_COLUMNS
+    elif types[position] != wire_type:
+        reason = OTHER_TYPE
+    elif names[position] != name:
+        reason = OTHER_NAME
+    else:
+        return None
+    return reason, next((at for at, column in enumerate(zip(types, names)) if column == (wire_type, name)), None)
+
+
 # -- Cards at the edges of their form.
 
 # Positions at both ends of each kind, and where the second byte of a far one turns over; the bytes of the last one, exchanged, are a position too.
@@ -150,3 +171,38 @@ def of_another_kind(card):
     position, wire_type, size, rest = form_of(card).parts(card)
     if position < 256**other.width:
         yield other.spelled(position, wire_type, rest[:size])
+
+
+# -- Cards whose columns have moved.
+
+# A name, and others that are nearly it: with another first byte or last one, shorter, longer, with a zero behind it as a card has, and none at all; and
+# the longest that a card holds, beside one that it doesn't.
+NAME, FIRST_OTHER, *MORE_OTHERS = b"LIMIT", b"KIMIT", b"LIMIS", b"LIMI", b"LIMITS", b"LIMIT\0", b""
+LONG_NAMES = b"n" * MOST_NAME, b"n" * (MOST_NAME + 1)
+
+# How many other columns come before those that are looked for: these have near cards, some of each kind, far ones, and the last that there are.
+ACROSS, LAST_THREE = NEAR.highest - 1, MOST_COLUMNS - 3
+
+
+def moved():
+    """All tables of up to three columns that have one of two types and one of two names, behind others: so a card's column stands nowhere, before its
+    position, there, behind it, or at several of these, beside columns that have only its type or only its name. Of other names two columns."""
+    columns = nearly_equal(NAME, FIRST_OTHER)
+    for before in (0, ACROSS, FAR.lowest):
+        yield from (asked(before, some, columns) for count in range(4) for some in itertools.product(columns, repeat=count))
+        for others in (*(nearly_equal(NAME, other) for other in MORE_OTHERS), nearly_equal(*LONG_NAMES)):
+            yield from (asked(before, some, others) for some in itertools.permutations(others, 2))
+    yield from (asked(LAST_THREE, some, columns) for some in itertools.permutations(columns[1:]))
+
+
+def nearly_equal(*names):
+    return list(itertools.product((BIGINT, FLOAT), names))
+
+
+def asked(before, some, columns):
+    """A table with some columns behind others, and a card for each of the columns at each of their positions, at the next one, and at the edges."""
+    table = wide_table(before)
+    table["types"] += [wire_type for wire_type, _ in some]
+    table["names"] += [name for _, name in some]
+    positions = sorted({0, NEAR.highest, FAR.lowest, *range(before, before + len(some) + 1)} - {MOST_COLUMNS})
+    return table, [card_of(at, wire_type, name) for at in positions for wire_type, name in columns if len(name) <= MOST_NAME]

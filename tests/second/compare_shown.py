@@ -9,11 +9,11 @@ For each message lines of numbers, as include/chaloenpik.h orders them, each beh
 - of an invocation, each parameter and after it each element, one more than there are (and one of what is no array); a parameter more;
 - of a response, how many tables it has, and for each one, and one more: how many rows and columns it has; for each column the first of its name in
   that table and in the next; the answers to making its card in a byte too little and in some more than enough, each with all bytes of the buffer; the
-  columns that the card opens in both tables. The same for a name that isn't even text, and what isn't a card. Then each column's type, and where its
-  name stands, one more than there are; and each row's cells, one more than there are, and a row more than there are, after each cell where its bytes
-  stand.
-A refused message gives its refusal to each of these. Behind some responses stand cards, mostly broken, that are opened in the first table, and names whose
-cards are made in some room; a line and a dot for each.
+  columns that the card opens in both tables, and how it fits there. The same for a name that isn't even text, and what isn't a card. Then each column's
+  type, and where its name stands, one more than there are; and each row's cells, one more than there are, and a row more than there are, after each cell
+  where its bytes stand.
+A refused message gives its refusal to each of these. Behind some responses stand cards, many broken or stale, that are opened in the first table and asked how
+they fit, and names whose cards are made in some room; a dot behind each.
 """
 
 import pathlib
@@ -44,11 +44,12 @@ CARD_FRAME, MAKE_FRAME = 100, 101  # stand where a message has its kind
 BUFFER, MARK = cards.MOST_SIZE + 4, b"\x55"  # the most room that a card is made in, and what stands there before
 ROOMS = (0, cards.NEAR.size - 1, cards.NEAR.size, cards.FAR.size, cards.FAR.size + 1)
 
-# What is asked, by functions: of any message, and of one of a kind if it is refused.
+# What is asked, by functions: of a card, of any message, and of one of a kind if it is refused.
+OF_CARDS = ("open_card", "card_fit")
 ASKED_ANY = ("accept", "field_count", "fields", "fields", "owner", "owner", "owner")
 ASKED_REFUSED = {
     LOGIN: ("login_request",), LOGIN_REPLY: ("login_response",), INVOCATION: ("invocation", "parameter", "element"),
-    REPLY: ("response", "tables", "rows", "columns", "find_column", "find_column", "make_card", "make_card", "open_card", "column_type", "column_name",
+    REPLY: ("response", "tables", "rows", "columns", "find_column", "find_column", "make_card", "make_card", *OF_CARDS, "column_type", "column_name",
             "cell", "cell_place"),
 }
 MUST = (*OF_READING, OUTPUT_SHORT, NO_COLUMN, STALE_CARD, PAST_END, BROKEN_CARD)
@@ -63,7 +64,7 @@ def main():
     tally, message = Tally("compare_shown", must=MUST), None
     for (kind, body), one in zip(given, found):
         if kind == CARD_FRAME:
-            expected = [message.card_line(body)]
+            expected = message.card_lines(body)
         elif kind == MAKE_FRAME:
             expected = [message.made(0, body[1:], body[0])]
         else:
@@ -92,6 +93,7 @@ def frames(count, seed):
     yield from longest_names()
     yield from ((REPLY, message) for message in (twins(), wide_twins(), long_names(), equal_names()))
     yield from cards_by_size()
+    yield from moved_cards()
 
 
 def fixed_messages():
@@ -116,11 +118,20 @@ def cards_by_size():
     yield from ((MAKE_FRAME, bytes([room]) + fitting["names"][at]) for at in cards.POSITIONS for room in ROOMS)
 
 
+def moved_cards():
+    """Tables of columns that are nearly equal, and the card of each at every position."""
+    for table, some in cards.moved():
+        yield REPLY, encode(REPLY, generate_values.reply(0, table))
+        yield from ((CARD_FRAME, card) for card in some)
+
+
 def made_up_card(rng, message):
-    """The card of a column of the first table, or of one that there isn't; mostly with a byte or two changed, or of another size."""
+    """The card of a column of the first table, or of one that there isn't, sometimes at another position; mostly with a byte or two changed, or of another
+    size."""
     types, names = columns_of(message)
     at = rng.randrange(len(names)) if names else rng.choice(cards.POSITIONS)
-    card = bytearray(cards.card_of(at, types[at], names[at][:cards.MOST_NAME]) if names else cards.card_of(at, BIGINT, b"N"))
+    place = at if not names or rng.random() < 0.7 else rng.randint(0, min(len(names), cards.FAR.highest))
+    card = bytearray(cards.card_of(place, types[at], names[at][:cards.MOST_NAME]) if names else cards.card_of(place, BIGINT, b"N"))
     for _ in range(rng.choice((0, 1, 1, 2))):
         card[rng.choice((0, 1, 2, 3, 4, rng.randrange(len(card))))] = rng.choice((*cards.EDGE_BYTES, rng.randrange(256)))
     return bytes(card[:rng.choice((0, 1, len(card) - 1))] if rng.random() < 0.1 else card)
@@ -253,7 +264,7 @@ class Shown:
             yield from self.table(t, table)
         past = refused(PAST_END, 0)
         for call in ASKED_REFUSED[REPLY][2:]:  # of a table that there isn't; what isn't a card comes before that
-            yield refusal_line(call, past if call != "open_card" else refused(BROKEN_CARD, 0))
+            yield refusal_line(call, past if call not in OF_CARDS else refused(BROKEN_CARD, 0))
 
     def table(self, t, table):
         types, names, past = table["types"], table["names"], refused(PAST_END, 0)
@@ -263,7 +274,7 @@ class Shown:
             yield line("find_column", self.found(t, name))
             yield line("find_column", self.found(t + 1, name))
             yield from self.card(t, name)
-        yield line("open_card", refused(BROKEN_CARD, 0))
+        yield from (line(call, refused(BROKEN_CARD, 0)) for call in OF_CARDS)
         for c, wire_type in enumerate(types):
             yield line("column_type", wire_type)
             yield line("column_name", *self.part(F_COLUMN_NAME, t, 0, c))
@@ -287,7 +298,7 @@ class Shown:
         if isinstance(at, str) or len(name) > cards.MOST_NAME:
             return [self.made(t, name, 0), self.made(t, name, BUFFER)]
         card = cards.card_of(at, self.record["tables"][t]["types"][at], name)
-        return [self.made(t, name, len(card) - 1), self.made(t, name, BUFFER), line("open_card", at), line("open_card", self.opened(t + 1, card))]
+        return [self.made(t, name, len(card) - 1), self.made(t, name, BUFFER), *self.asked(t, card), *self.asked(t + 1, card)]
 
     def made(self, t, name, room):
         """A card that is made in some room: the message's own refusal, then whether there is a table, a column, and whether its name and the card fit."""
@@ -301,16 +312,27 @@ class Shown:
             return refusal_line("make_card", refused(OUTPUT_SHORT, len(card)))
         return line("make_card", at, card.ljust(BUFFER, MARK).hex())
 
+    def asked(self, t, card):
+        """What is told of a card of the right form in a table."""
+        return [line("open_card", self.opened(t, card)), line("card_fit", *self.fit(t, card))]
+
     def opened(self, t, card):
         if t >= len(self.record["tables"]):
             return refused(PAST_END, 0)
         position = cards.opened(self.record["tables"][t], card)
         return refused(STALE_CARD, 0) if position is None else position
 
-    def card_line(self, card):
-        """A card that is opened in the first table: the message's own refusal, then the card's form, then whether there is a table, and its column."""
+    def fit(self, t, card):
+        if t >= len(self.record["tables"]):
+            return [refused(PAST_END, 0)]
+        reason, now = cards.fit(self.record["tables"][t], card) or (0, None)
+        return reason, now is not None, now or 0
+
+    def card_lines(self, card):
+        """Of any card, in the first table: the message's own refusal, then the card's form, then whether there is a table, and its column."""
         wrong = cards.broken_at(card)
-        return line("open_card", self.refusal or (self.opened(0, card) if wrong is None else refused(BROKEN_CARD, wrong)))
+        refusal = self.refusal or (wrong is not None and refused(BROKEN_CARD, wrong))
+        return [line(call, refusal) for call in OF_CARDS] if refusal else self.asked(0, card)
 
     def value(self, wire_type, it, field, *index):
         """A value by its bytes, or that it is null. A counted one's number is `field`, and a body's or a fixed one's the next."""

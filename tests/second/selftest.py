@@ -4,8 +4,9 @@
 What is accepted encodes to the same bytes and its fields tile it; every fault that reading can find is found in every field
 where the paper lets it be, and values that break their own rules wherever such a value can be; null points, and all that is nearly one, are met
 wherever a point can be, and characters, and all that is nearly one, wherever a text can be; what text is, Python's codec says too; the limits hold to
-the byte, and to the column; each column has one card, which opens it and nothing else. The same of geographies' bodies; turning their holes twice
-restores them, and document 000's own is read at the places that it prints. What was refused is counted (tally.py), by the second reader's answers.
+the byte, and to the column; each column has one card, which opens it and nothing else, and a card that doesn't fit is told the first reason that holds.
+The same of geographies' bodies; turning their holes twice restores them, and document 000's own is read at the places that it prints. What was refused is
+counted (tally.py), by the second reader's answers.
 """
 
 import itertools
@@ -82,6 +83,7 @@ def main():
     check_values()
     check_columns()
     check_cards()
+    check_fits()
     check_text()
     check_texts()
     check_order_of_text()
@@ -209,6 +211,41 @@ def broken_cards():
             for wrong in range(32):
                 byte = b"\x80" if wrong < size else b"\1"
                 yield head + bytes([BIGINT, size]) + name[:wrong] + byte + b"\xff" * (31 - wrong), at + 2 + wrong
+
+
+def check_fits():
+    """Why a card doesn't fit and where its column stands now: some by hand, then all of columns that are nearly equal, where each reason is met by both
+    kinds of card, wherever the column can stand."""
+    harbour = {"types": [INTEGER, STRING, DECIMAL, STRING, STRING], "names": [b"ID", b"VESSEL", b"LIMIT", b"NOTE", b"NOTE"]}
+    for position, wire_type, name, expected in (
+            (2, DECIMAL, b"LIMIT", None), (3, STRING, b"NOTE", None), (4, STRING, b"NOTE", None),
+            (5, DECIMAL, b"LIMIT", (1, 2)), (64, STRING, b"NOTE", (1, 3)), (5, INTEGER, b"LIMIT", (1, None)),
+            (1, DECIMAL, b"LIMIT", (2, 2)), (4, DECIMAL, b"LIMIT", (2, 2)), (2, FLOAT, b"LIMIT", (2, None)), (0, FLOAT, b"LIMIT", (2, None)),
+            (1, STRING, b"NOTE", (3, 3)), (4, STRING, b"VESSEL", (3, 1)), (2, DECIMAL, b"LIMITS", (3, None)), (2, DECIMAL, b"", (3, None))):
+        assert cards.fit(harbour, cards.card_of(position, wire_type, name)) == expected, (position, wire_type, name)
+    met = Counter(situation(table, card) for table, some in cards.moved() for card in some)
+    wheres = ("nowhere", "before", "behind", "before, and again", "behind, and again")
+    possible = {*itertools.product(cards.FORMS, (None,), ("first", "again")), *itertools.product(cards.FORMS, cards.REASONS, wheres)}
+    possible -= {(form, cards.PAST_COLUMNS, where) for form in cards.FORMS for where in wheres if where.startswith("behind")}
+    assert set(met) == possible, set(met) ^ possible
+    print("  cards of columns that are nearly equal: %d; each of %d situations at least %d times" % (sum(met.values()), len(met), min(met.values())))
+
+
+def situation(table, card):
+    """The kind of a card, why it doesn't fit, and where its column stands: which all must be what is told."""
+    form, told = cards.form_of(card), cards.fit(table, card)
+    position, wire_type, size, rest = form.parts(card)
+    columns, own = list(zip(table["types"], table["names"])), (wire_type, rest[:size])
+    places = [at for at, column in enumerate(columns) if column == own]
+    assert cards.opened(table, card) == (position if told is None else None), card.hex()
+    if told is None:
+        return form, None, "first" if places[0] == position else "again"
+    (there,) = columns[position:position + 1] or [None]
+    facts = [there is None, there and there[0] != wire_type, there and there[1] != rest[:size]]
+    assert told == (1 + facts.index(True), min(places, default=None)), card.hex()
+    if not places:
+        return form, told[0], "nowhere"
+    return form, told[0], ("before" if places[0] < position else "behind") + (", and again" if len(places) > 1 else "")
 
 
 def check_text():

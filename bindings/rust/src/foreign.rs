@@ -42,6 +42,9 @@ extern "C" {
         message: *const u8, length: usize, table: usize, name: *const u8, name_length: usize, out: *mut u8, size: usize,
     ) -> u64;
     pub fn chaloenpik_open_card(message: *const u8, length: usize, table: usize, card: *const u8, card_length: usize) -> u64;
+    pub fn chaloenpik_card_fit(
+        message: *const u8, length: usize, table: usize, card: *const u8, card_length: usize, fit: *mut [u64; 3],
+    ) -> u64;
 
     pub fn chaloenpik_write_login_request(
         out: *mut u8, size: usize, version: u8, hash_version: u8, service: *const u8, service_length: usize, user: *const u8,

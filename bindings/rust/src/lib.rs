@@ -53,10 +53,11 @@
 //!
 //! # A column that may move
 //!
-//! A card keeps a column by its position, type and name. It opens where the column still stands, and never gives another's position.
+//! A card keeps a column by its position, type and name. It opens where the column still stands, and never gives another's position. Why one
+//! doesn't open, and where its column stands now, is a question of its own.
 //!
 //! ```
-//! use chaloenpik::{make_card, open_card, Table};
+//! use chaloenpik::{card_fit, make_card, open_card, Fit, Reason, Table};
 //!
 //! let reply = include_bytes!("../../../samples/4-engines.bin");
 //! let card = make_card(reply, 0, "THROTTLE_LIMIT")?;
@@ -66,6 +67,8 @@
 //! let vessel_dropped = include_bytes!("../../../samples/4-engines-without-vessel.bin");
 //! let refusal = open_card(vessel_dropped, 0, &card).unwrap_err();
 //! assert_eq!(refusal.to_string(), "the card doesn't fit the table (refusal 10)");
+//! let fit = card_fit(vessel_dropped, 0, &card)?;
+//! assert_eq!(fit, Fit::Stale { reason: Reason::OtherType, now: Some(2) });
 //! # Ok::<(), chaloenpik::Refusal>(())
 //! ```
 //!
@@ -117,7 +120,7 @@
 //! | list a message's fields, ask for a byte's owner | [`fields`], [`field()`], [`owner`] |
 //! | read what a message says | [`login_request`], [`login_response`], [`invocation`], [`response`] |
 //! | read tables; parameters | [`Table`], or [`cell`] and [`cell_place`] for one cell; [`parameter`] and [`element`] |
-//! | keep a column on a card | [`make_card`], [`open_card`] |
+//! | keep a column on a card; ask why it doesn't fit | [`make_card`], [`open_card`]; [`card_fit`] |
 //! | write a message | [`write_login_request`], [`write_login_response`], [`CallWriter`], [`ReplyWriter`] |
 //! | read and write the body of a geography; turn its holes | [`Area`], [`AreaWriter`]; [`turn_holes`] |
 //!
@@ -150,7 +153,7 @@ mod value;
 
 pub use area::{turn_holes, Area, AreaWriter, Ring, Vertex};
 pub use call::{element, invocation, parameter, CallWriter, Invocation, Parameter};
-pub use card::{make_card, open_card, Card};
+pub use card::{card_fit, make_card, open_card, Card, Fit, Reason};
 pub use field::{field, fields, owner, Field};
 pub use foreign::{AREA_KEPT, RING_KEPT};
 pub use login::{login_request, login_response, write_login_request, write_login_response, LoginRequest, LoginResponse, Welcome};

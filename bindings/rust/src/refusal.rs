@@ -44,7 +44,7 @@ pub enum Cause {
     ShortOutput = 8,
     /// No column has that name.
     NoColumn = 9,
-    /// A well-formed card doesn't fit the table: another column stands at its position, or none.
+    /// A well-formed card doesn't fit the table: another column stands at its position, or none. [`card_fit`](crate::card_fit) says why.
     CardMisfit = 10,
     /// There is no such table, row, column, parameter, element, ring, vertex, field or byte, or a column's name isn't inside the lent names.
     PastEnd = 11,

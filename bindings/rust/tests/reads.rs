@@ -1,7 +1,7 @@
 use chaloenpik::{
-    accept, cell, cell_place, column_name, column_type, columns, element, field, fields, find_column, invocation, login_request,
-    login_response, make_card, open_card, owner, parameter, response, rows, tables, Card, Cause, Decimal, Field, Kind, Optional, Parameter,
-    Refusal, Value, Welcome, WireType,
+    accept, card_fit, cell, cell_place, column_name, column_type, columns, element, field, fields, find_column, invocation, login_request,
+    login_response, make_card, open_card, owner, parameter, response, rows, tables, Card, Cause, Decimal, Field, Fit, Kind, Optional,
+    Parameter, Reason, Refusal, Value, Welcome, WireType,
 };
 
 const LOGIN: &[u8] = include_bytes!("../../../samples/1-login.bin");
@@ -188,6 +188,35 @@ fn near_and_far_cards() {
     ] {
         assert_eq!(open_card(BIG_REPORT, 0, &broken), refused(Cause::BadCard, place));
     }
+}
+
+fn stale(reason: Reason, now: Option<usize>) -> Result<Fit, Refusal> {
+    Ok(Fit::Stale { reason, now })
+}
+
+#[test]
+fn why_a_card_is_stale() {
+    let (near, far) = (make_card(REPLY, 0, "THROTTLE_LIMIT").unwrap(), make_card(BIG_REPORT, 0, "THROTTLE_LIMIT").unwrap());
+    assert_eq!((card_fit(REPLY, 0, &near), card_fit(BIG_REPORT, 0, &far)), (Ok(Fit::Fits), Ok(Fit::Fits)));
+    assert_eq!(card_fit(REPLY, 0, &far), stale(Reason::Past, Some(3)));
+    assert_eq!(card_fit(BIG_REPORT, 0, &near), stale(Reason::OtherType, Some(257)));
+    assert_eq!(card_fit(WITHOUT_VESSEL, 0, &near), stale(Reason::OtherType, Some(2)));
+    assert_eq!(card_fit(AREAS, 0, &far), stale(Reason::Past, None));
+
+    let vessel = make_card(REPLY, 0, "VESSEL").unwrap();
+    assert_eq!(card_fit(WITHOUT_VESSEL, 0, &vessel), stale(Reason::OtherName, None));
+    assert_eq!(card_fit(REPLY, 0, &card_with(vessel, 1, &[2])), stale(Reason::OtherName, Some(1)));
+    assert_eq!(card_fit(REPLY, 0, &card_with(vessel, 1, &[6])), stale(Reason::OtherType, Some(1)));
+    assert_eq!(card_fit(REPLY, 0, &card_with(vessel, 1, &[7])), stale(Reason::Past, Some(1)));
+    assert_eq!(card_fit(REPLY, 0, &card_with(vessel, 2, &[WireType::Varbinary.byte()])), stale(Reason::OtherType, None));
+}
+
+#[test]
+fn a_card_s_fit_is_refused_as_its_opening() {
+    let card = make_card(REPLY, 0, "THROTTLE_LIMIT").unwrap();
+    assert_eq!(card_fit(REPLY, 1, &card), Err(PAST_END));
+    assert_eq!(card_fit(REPLY, 1, &card[..35]), refused(Cause::BadCard, 35));
+    assert_eq!(card_fit(LOGIN, 1, &[]), Err(accept(Kind::Response, LOGIN).unwrap_err()));
 }
 
 #[test]
