@@ -25,6 +25,7 @@ ROOT = pathlib.Path(__file__).resolve().parents[1]
 sys.path[:0] = [str(ROOT / "tools"), str(ROOT / "tests" / "second")]
 
 import areas as second_areas
+import cards as second_cards
 import encoder
 import generate
 import generate_areas
@@ -32,7 +33,7 @@ import harbour
 import reader
 import wire
 import wire_poly
-from explain import areas, building, cells, command, geojson, lines, listing, main, paper, records, refusals, texts, values
+from explain import areas, building, cards, cells, command, geojson, lines, listing, main, paper, records, refusals, sources, texts, values
 from explain.fields import Explained
 
 STORED = ROOT / "tests" / "explain"
@@ -44,6 +45,9 @@ POSITIONS = ROOT / "samples" / "4-positions.bin"
 AREAS = ROOT / "samples" / "4-areas.bin"
 BROKEN = ROOT / "samples" / "4-engines-limit-broken.bin"
 BIG = ROOT / "samples" / "4-big-report.bin"
+WITHOUT_VESSEL = ROOT / "samples" / "4-engines-without-vessel.bin"
+NEAR_CARD = ROOT / "samples" / "limit.card"
+FAR_CARD = ROOT / "samples" / "limit-far.card"
 NO_LONGER_GIVEN = "refused %d " % 7  # which was split by cause
 
 
@@ -100,8 +104,18 @@ class Sample(unittest.TestCase):
 
 
 class Harbour(unittest.TestCase):
-    def test_the_samples_are_its_messages(self):
-        self.assertEqual({file.name: file.read_bytes() for file in (ROOT / "samples").glob("*.bin")}, harbour.samples())
+    def test_the_samples_are_its_messages_and_cards(self):
+        self.assertEqual({file.name: file.read_bytes() for file in (ROOT / "samples").iterdir()}, harbour.samples())
+
+    def test_the_input_of_limit_is_its_replies(self):
+        program, messages = ROOT / "crates" / "limit", harbour.replies()
+        self.assertEqual(((program / "stdin").read_bytes(), (program / "stdout").read_text()), (harbour.framed(messages), harbour.limits(messages)))
+
+    def test_cards_are_stale_there_for_each_reason(self):
+        for messages in (harbour.replies(), harbour.big_replies()):
+            stale = [line.split("; ") for line in harbour.limits(messages).splitlines() if line.startswith("stale: ")]
+            self.assertEqual({reason for reason, _ in stale}, {"stale: " + paper.FITS[reason] for reason in second_cards.REASONS})
+            self.assertEqual({now.rstrip("0123456789") for _, now in stale}, {"no column has its name and type", "its name and type now stand at column "})
 
 
 class InsurersQuestion(unittest.TestCase):
@@ -511,7 +525,273 @@ class GeoJson(AsOfSecond):
         self.assertEqual((feature["geometry"], feature["properties"]["no_geometry"]), (None, "a coordinate of a vertex isn't finite"))
 
 
+def card_asked_of_second(message, table, card):
+    """What the second reader says of a card, in the library's stead, which tests/compare holds it against."""
+    broken = second_cards.broken_at(card)
+    if broken is not None:
+        return cards.Answer(refusal=(paper.CARD_BROKEN, broken))
+    tables = reader.read(wire.REPLY, message)[0]["tables"]
+    if table >= len(tables):
+        return cards.Answer(refusal=(paper.NO_TABLE, 0))
+    misfit = second_cards.fit(tables[table], card)
+    if misfit is None:
+        return cards.Answer(column=second_cards.opened(tables[table], card))
+    return cards.Answer(refusal=(paper.CARD_STALE, 0), reason=misfit[0], now=misfit[1])
+
+
+def listed_by_second(kind, message):
+    try:
+        return None, read_by_second(message, kind).numbers
+    except reader.Refused as no:
+        return (no.number, no.place), array.array("I")
+
+
+class CardsOfSecond(unittest.TestCase):
+    def setUp(self):
+        for module, name, stand_in in ((cards, "asked", card_asked_of_second), (main, "listing", listed_by_second), (sources, "said", lambda command_line: "")):
+            patch = mock.patch.object(module, name, stand_in)
+            patch.start()
+            self.addCleanup(patch.stop)
+
+    def card(self, message, raw, table=0):
+        return cards.Card(read_by_second(message), table, raw)
+
+    def over(self, table, raw):
+        """Of a card over a table of the harbour."""
+        return self.card(encoder.encode(wire.REPLY, harbour.reply(table)), raw)
+
+
+def places(fields):
+    return [(field.offset, field.size) for field in fields]
+
+
+SAID_BY_NEAR = "The card is a near one: position 3, type decimal, name THROTTLE_LIMIT."
+SAID_BY_FAR = "The card is a far one: position 257, type decimal, name THROTTLE_LIMIT."
+STALE = "refused 10 at 0: a well-formed card doesn't fit the table"
+NO_LIMIT_READ = ["Opening by this card is refused, so that no limit or other value is read from the wrong column.",
+                 "A new card is made by hand, with chaloenpik_make_card, once it is clear which column is meant."]
+
+
+class OverATable(CardsOfSecond):
+    """A shortcut card: does it still open the limit's column, and if not, why?"""
+
+    def test_it_opens(self):
+        for file, raw, column, said, told in ((ENGINES, NEAR_CARD, 3, SAID_BY_NEAR, [(37, 2), (42, 1), (79, 4), (83, 14)]),
+                                              (BIG, FAR_CARD, 257, SAID_BY_FAR, [(37, 2), (296, 1), (5424, 4), (5428, 14)])):
+            card = self.card(file.read_bytes(), raw.read_bytes())
+            self.assertEqual(card.words, ["the card fits: it opens column %d THROTTLE_LIMIT (decimal) of table 0" % column, said])
+            self.assertEqual({group: places(fields) for group, fields in card.groups.items()}, {"compared": told})
+        self.assertEqual(lines.card_lines(self.card(ENGINES.read_bytes(), NEAR_CARD.read_bytes()))[2:], [
+            "", "The bytes that the card was compared with:",
+            "37   2  00 07                                      column count        table 0                                     7",
+            "42   1  16                                         column type         table 0, column 3 THROTTLE_LIMIT (decimal)  22: decimal",
+            "79   4  00 00 00 0e                                column name length  table 0, column 3 THROTTLE_LIMIT (decimal)  14 bytes",
+            '83  14  54 48 52 4f 54 54 4c 45 5f 4c 49 4d 49 54  column name         table 0, column 3 THROTTLE_LIMIT (decimal)  "THROTTLE_LIMIT"'])
+
+    def check_stale(self, table, raw, said, reason, there, now, compared, stands):
+        card = self.over(table, raw.read_bytes())
+        self.assertEqual(card.words, [STALE, said, "The reason: %s." % paper.FITS[reason], there, now, *NO_LIMIT_READ])
+        self.assertEqual({group: places(fields) for group, fields in card.groups.items()}, {"compared": compared, "now": stands})
+        told = lines.card_lines(card)
+        self.assertEqual((told[:7], "The bytes that say where its name and type stand now:" in told), (card.words, stands != []))
+
+    def test_another_type(self):
+        engines = harbour.ENGINES
+        self.check_stale(harbour.without(engines, b"VESSEL"), NEAR_CARD, SAID_BY_NEAR, 2, "At its position now stands column 3 COOLANT_C (float).",
+                         "Its name and type now stand at column 2 THROTTLE_LIMIT (decimal).", [(37, 2), (42, 1), (86, 4), (90, 9)], [(41, 1), (68, 4), (72, 14)])
+        self.check_stale(harbour.changed(engines, b"THROTTLE_LIMIT", types=wire.VARBINARY, value=None), NEAR_CARD, SAID_BY_NEAR, 2,
+                         "At its position now stands column 3 THROTTLE_LIMIT (varbinary).", "No column of table 0 has its name and type.",
+                         [(37, 2), (42, 1), (79, 4), (83, 14)], [])
+
+    def test_another_name(self):
+        self.check_stale(harbour.changed(harbour.ENGINES, b"THROTTLE_LIMIT", names=b"two words"), NEAR_CARD, SAID_BY_NEAR, 3,
+                         'At its position now stands column 3 "two words" (decimal).', "No column of table 0 has its name and type.",
+                         [(37, 2), (42, 1), (79, 4), (83, 9)], [])
+
+    def test_past_the_last_column(self):
+        self.check_stale(harbour.ENGINES, FAR_CARD, SAID_BY_FAR, 1, "Table 0 has 7 columns.", "Its name and type now stand at column 3 THROTTLE_LIMIT (decimal).",
+                         [(37, 2)], [(42, 1), (79, 4), (83, 14)])
+        self.check_stale(harbour.only(harbour.ENGINES, b"VESSEL"), NEAR_CARD, SAID_BY_NEAR, 1, "Table 0 has 1 column.", "No column of table 0 has its name and type.", [(37, 2)], [])
+
+    def test_each_table_has_its_own_answer(self):
+        message = encoder.encode(wire.REPLY, dict(harbour.reply(None), tables=[harbour.BOATS, harbour.ENGINES]))
+        first, second, third = (self.card(message, NEAR_CARD.read_bytes(), table) for table in range(3))
+        self.assertEqual((first.words[0], first.words[3]), (STALE, "At its position now stands column 3 SEEN (timestamp)."))
+        self.assertEqual(second.words[0], "the card fits: it opens column 3 THROTTLE_LIMIT (decimal) of table 1")
+        self.assertEqual(third.words, ["refused 11 at 0: there is no such table", SAID_BY_NEAR, "There is no table 2: the message has 2 tables."])
+        self.assertEqual(lines.card_lines(third)[3:], ["", "The bytes that say how many tables there are:", "26  2  00 02  table count    2"])
+
+    def test_the_fields_tell_the_reason(self):
+        """Of columns that are nearly equal: what was compared says the card's type and name exactly if it opens, and what stands now always does."""
+        reasons = set()
+        for table, raws in itertools.islice(second_cards.moved(), 0, None, 5):
+            message = read_by_second(encoder.encode(wire.REPLY, harbour.reply(table)))
+            for raw in raws:
+                card = cards.Card(message, 0, raw)
+                _, wire_type, size, rest = second_cards.form_of(raw).parts(raw)
+                declared = [bytes([wire_type]), size.to_bytes(4, "big")] + [rest[:size]] * (size > 0)
+                _, *compared = [field.raw for field in card.groups["compared"]]
+                self.assertEqual(compared == declared, card.number is None)
+                self.assertEqual(compared == [], card.answer.reason == paper.COLUMN_PAST)
+                self.assertIn([field.raw for field in card.groups.get("now", ())], ([], declared))
+                self.assertEqual(lines.card_lines(card)[:len(card.words)], card.words)
+                reasons.add((card.answer.reason, card.answer.now is None))
+        self.assertEqual(reasons, {(None, True), *itertools.product(second_cards.REASONS, (False, True))})
+
+    def test_what_breaks_its_form(self):
+        near, far = NEAR_CARD.read_bytes(), FAR_CARD.read_bytes()
+        for raw, place, told in (
+                (b"", 0, "The card is empty: it has not even a kind."),
+                (damaged(near, 0, 3), 0, "At byte 0 stands its kind, 3 (hex 03): 1 is a near card and 2 is a far card."),
+                (near[:-1], 35, "A near card, of kind 1, has 36 bytes, and this one has 35 bytes."),
+                (near + b"\0", 36, "A near card, of kind 1, has 36 bytes, and this one has 37 bytes."),
+                (far[:1], 1, "A far card, of kind 2, has 37 bytes, and this one has 1 byte."),
+                (far + b"\0", 37, "A far card, of kind 2, has 37 bytes, and this one has more."),
+                (damaged(near, 1, 64), 1, "At byte 1 stands its position, 64 (hex 40): a near card holds positions from 0 to 63."),
+                (damaged(far, 1, 0, 63), 1, "At byte 1 stands its position, 63 (hex 00 3f): a far card holds positions from 64 to 1023."),
+                (damaged(near, 2, 1), 2, "At byte 2 stands its type, 1 (hex 01): a column can't be null."),
+                (damaged(far, 3, 0x9d), 3, "At byte 3 stands its type, 157 (hex 9d): a column can't be array."),
+                (damaged(near, 2, 7), 2, "At byte 2 stands its type, 7 (hex 07): there is no such wire type."),
+                (damaged(far, 4, 33), 4, "At byte 4 stands the length of its name, 33 (hex 21): a name on a card has at most 32 bytes."),
+                (damaged(near, 17, 0xff), 17, "At byte 17 stands number 14 of the 14 bytes of its name, 255 (hex ff): a column's name has bytes from 0 to 127."),
+                (damaged(far, 19, 1), 19, "At byte 19 stands a byte behind its name, 1 (hex 01): these are 0 up to the card's end.")):
+            card = self.card(ENGINES.read_bytes(), raw)
+            self.assertEqual((card.words, card.groups), (["refused 12 at %d: a card breaks its form" % place, told], {}))
+            self.assertEqual(lines.card_lines(card)[2:4], ["", "The card's bytes:"])
+            self.assertTrue(any(line.endswith("^^ %d" % place) for line in lines.card_lines(card)))
+
+    def test_every_broken_card_has_words(self):
+        for raw in second_cards.edges():
+            place = second_cards.broken_at(raw)
+            if place is not None:
+                self.assertRegex(cards.fault(raw, place), r"^(At byte %d stands .*: .*|A .* card, of kind .* and this one has .*|The card is empty: .*)\.$" % place)
+
+    def test_a_reader_that_disagrees_is_not_followed(self):
+        opened, broken, stale = cards.Answer(column=3), cards.Answer(refusal=(12, 5)), cards.Answer(refusal=(10, 0), reason=2)
+        for library, reader_says, headline, more in ((opened, 5, "the card fits: it opens column 3 THROTTLE_LIMIT (decimal) of table 0", []),
+                                                     (broken, None, "refused 12 at 5: a card breaks its form", []), (broken, 4, "refused 12 at 5: a card breaks its form", []),
+                                                     (stale, 5, STALE, ["The reason: %s." % paper.FITS[2], "No column of table 0 has its name and type.", *NO_LIMIT_READ])):
+            with mock.patch.object(cards, "asked", return_value=library), mock.patch.object(second_cards, "broken_at", return_value=reader_says):
+                card = self.card(ENGINES.read_bytes(), NEAR_CARD.read_bytes())
+            self.assertEqual((card.words, card.said), ([headline, cards.DISAGREED, *more], None))
+            self.assertTrue(lines.card_lines(card) and list(records.card_records(card)))
+
+    def test_json(self):
+        card = self.card(WITHOUT_VESSEL.read_bytes(), NEAR_CARD.read_bytes())
+        first, *fields = map(json.loads, records.card_records(card))
+        said = {"table": 0, "kind": "near", "position": 3, "type": "decimal", "name": "THROTTLE_LIMIT"}
+        self.assertEqual(first, {"refused": 10, "place": 0, "card": {**said, "reason": 2, "now": 2}, "words": card.words})
+        self.assertEqual([(field["group"], field["offset"]) for field in fields], [("compared", at) for at in (37, 42, 86, 90)] + [("now", at) for at in (41, 68, 72)])
+        (first, *_), (broken,) = (list(map(json.loads, records.card_records(self.card(ENGINES.read_bytes(), raw)))) for raw in (NEAR_CARD.read_bytes(), b"?"))
+        self.assertEqual((first["card"], "refused" in first), ({**said, "opens": 3}, False))
+        self.assertEqual((broken["refused"], broken["place"], broken["card"]), (12, 0, {"table": 0}))
+
+    def test_the_words_are_those_of_c(self):
+        header = (ROOT / "include" / "chaloenpik_words.h").read_text()
+        for number, name in ((paper.CARD_STALE, "CARD_STALE"), (paper.CARD_BROKEN, "CARD_BROKEN")):
+            self.assertIn('case CHALOENPIK_%s: return "%s";' % (name, paper.CARD_REFUSALS[number]), header)
+
+
+class CardAnswers(CardsOfSecond):
+    """The whole command, but for the library and the programs that are asked about what an answer was made from."""
+
+    def answered(self, *words):
+        out = io.TextIOWrapper(io.BytesIO())
+        with mock.patch.object(sys, "stdout", out):
+            status = main.answer([str(word) for word in words])
+        return status, out.buffer.getvalue().decode().splitlines()
+
+    def test_statuses(self):
+        for status, first, *words in ((0, "the card fits: it opens column 3 THROTTLE_LIMIT (decimal) of table 0", 4, ENGINES, "--card", NEAR_CARD),
+                                      (0, "the card fits: it opens column 257 THROTTLE_LIMIT (decimal) of table 0", 4, BIG, "--card=%s" % FAR_CARD, "--table", 0),
+                                      (0, "kind 4, invocation response: no other kind accepts these bytes", ENGINES, "--card", NEAR_CARD),
+                                      (1, STALE, 4, WITHOUT_VESSEL, "--card", NEAR_CARD),
+                                      (1, "refused 11 at 0: there is no such table", 4, ENGINES, "--card", NEAR_CARD, "--table", 1),
+                                      (1, "refused 12 at 0: a card breaks its form", 4, ENGINES, "--card", ENGINES),
+                                      (1, "refused 21 at 238: a decimal is out of its range and isn't null", 4, BROKEN, "--card", NEAR_CARD)):
+            self.assertEqual((self.answered(*words)[0], self.answered(*words)[1][0]), (status, first))
+
+    def test_what_it_was_made_from(self):
+        _, told = self.answered(4, WITHOUT_VESSEL, "--card", NEAR_CARD)
+        self.assertEqual(told[-3], "card: 36 bytes were read, in hex %s" % NEAR_CARD.read_bytes().hex())
+        self.assertIn("card: 0 bytes were read", self.answered(4, ENGINES, "--card", os.devnull)[1])
+        _, told = self.answered(4, WITHOUT_VESSEL, "--card", NEAR_CARD, "--json")
+        self.assertEqual((json.loads(told[0])["refused"], json.loads(told[-1])["card_bytes"]), (10, NEAR_CARD.read_bytes().hex()))
+
+    def test_a_refused_message_is_told_as_ever(self):
+        for more in ((), ("--json",)):
+            self.assertEqual(self.answered(4, BROKEN, "--card", NEAR_CARD, *more), self.answered(4, BROKEN, *more))
+
+    def test_a_file_longer_than_any_card(self):
+        with tempfile.NamedTemporaryFile() as long_one:
+            long_one.write(NEAR_CARD.read_bytes() + bytes(100))
+            long_one.flush()
+            status, told = self.answered(4, ENGINES, "--card", long_one.name)
+        self.assertEqual((status, told[:2]), (1, ["refused 12 at 36: a card breaks its form", "A near card, of kind 1, has 36 bytes, and this one has more."]))
+
+    def test_what_can_not_be_carried_out(self):
+        with self.assertRaisesRegex(main.Failed, "--card takes the tables of an invocation response, kind 4, and this is kind 3"):
+            self.answered(3, ROOT / "samples" / "3-engine-limits.bin", "--card", NEAR_CARD)
+        with self.assertRaises(FileNotFoundError):
+            self.answered(4, ENGINES, "--card", STORED / "none")
+        with self.assertRaisesRegex(main.Failed, "is the card itself"):
+            self.answered(4, ENGINES, "--card", NEAR_CARD, "--html", NEAR_CARD)
+
+    def test_with_a_page(self):
+        with tempfile.TemporaryDirectory() as folder:
+            out = pathlib.Path(folder, "page.html")
+            status, told = self.answered(4, WITHOUT_VESSEL, "--card", NEAR_CARD, "--html", out)
+            self.assertEqual((status, told[0], out.read_text(encoding="utf-8")[:15]), (1, STALE, "<!doctype html>"))
+
+
+class CardsProgram(unittest.TestCase):
+    """What cards.c says, taken apart."""
+
+    def asked(self, *numbers, more=b""):
+        with mock.patch.object(cards, "run", return_value=struct.pack("<%dQ" % len(numbers), *numbers) + more) as run, mock.patch.object(building, "cards_program"):
+            told = cards.asked(b"message", 258, b"card")
+        self.assertEqual(run.call_args[0][1], bytes([0, 0, 0, 0, 0, 0, 1, 2, 4]) + b"cardmessage")
+        return told
+
+    def test_answers(self):
+        for numbers, told in (((257 << 8, 0, 0, 0, 0), cards.Answer(column=257)),
+                              ((10, 0, 2, 1, 7), cards.Answer(refusal=(10, 0), reason=2, now=7)),
+                              ((10, 0, 1, 1, 0), cards.Answer(refusal=(10, 0), reason=1, now=0)),
+                              ((10, 0, 3, 0, 0), cards.Answer(refusal=(10, 0), reason=3)),
+                              ((11, 11, 0, 0, 0), cards.Answer(refusal=(11, 0))),
+                              ((12 | 36 << 8, 12 | 36 << 8, 0, 0, 0), cards.Answer(refusal=(12, 36)))):
+            self.assertEqual(self.asked(*numbers), told)
+
+    def test_answers_that_do_not_agree_are_none(self):
+        for numbers in ((3 << 8, 0, 2, 0, 0), (10, 0, 0, 0, 0), (10, 10, 0, 0, 0), (10 | 1 << 8, 0, 2, 0, 0), (11, 12, 0, 0, 0), (12, 12 | 1 << 8, 0, 0, 0), (3 << 8, 11, 0, 0, 0),
+                        (10, 12, 1, 0, 0), (11, 0, 0, 0, 0), (12, 0, 1, 0, 0), (10, 0, 4, 0, 0), (1, 1, 0, 0, 0)):
+            with self.assertRaisesRegex(cards.Unequal, "don't agree: don't trust", msg=numbers):
+                self.asked(*numbers)
+
+    def test_a_broken_answer_is_told(self):
+        for numbers, more in (((0, 0, 0, 0), b""), ((0, 0, 0, 0, 0), b"!"), ((), b"")):
+            with self.assertRaisesRegex(building.Missing, "something else"):
+                self.asked(*numbers, more=more)
+
+    def test_main_has_a_sentence_for_it(self):
+        said = io.StringIO()
+        with mock.patch.object(main, "answer", side_effect=cards.Unequal("not to be trusted")), mock.patch.object(main, "forget_output"), contextlib.redirect_stderr(said):
+            self.assertEqual(main.main([]), 2)
+        self.assertEqual(said.getvalue(), "explain: not to be trusted\n")
+
+
 class Command(unittest.TestCase):
+    def test_a_card(self):
+        options = command.Options(["4", "-", "--card", "file", "--table", "7"])
+        self.assertEqual((options.card, options.table, options.cell), ("file", 7, None))
+        options = command.Options(["x", "--card=-"])
+        self.assertEqual((options.card, options.table, options.file), ("-", None, "x"))
+        self.assertEqual(command.Options(["x", "--cell", "2", "0", "A"]).table, None)
+
+    def test_the_help_has_every_option(self):
+        for option in set(command.OPTIONS) - {"--help", "-h"}:
+            self.assertIn(" %s " % option, command.USAGE)
+
     def test_inside(self):
         options = command.Options(["4", "x", "--inside", "--byte", "7", "--geojson=out"])
         self.assertEqual((options.inside, options.byte, options.geojson, options.html), (True, 7, "out", None))
@@ -528,7 +808,8 @@ class Command(unittest.TestCase):
     def test_bad_words(self):
         bad = ("5 x", "4", "x y z", "04 x", "4 x --byte -1", "4 x --byte 1_0", "4 x --byte", "4 x --cell", "4 x --cell 0", "4 x --cell 0 a b", "4 x --cell 0 --row 1",
                "4 x --cell 0 --row 1 --where A=1 --column B", "4 x --column B", "4 x --cell 0 --where A --column B", "4 x --byte 1 --cell 0 0 A", "4 x --json --html y",
-               "--kind 4 4 x", "4 x --what", "4 x --inside --html y", "4 x --geojson", "")
+               "--kind 4 4 x", "4 x --what", "4 x --inside --html y", "4 x --geojson", "4 x --card", "4 x --table 0", "4 x --card c --table", "4 x --card c --table -1",
+               "4 x --card c --byte 1", "4 x --card c --cell 0 0 A", "4 x --cell 0 0 A --table 0", "4 x --card c --inside", "4 - --card -", "")
         for words in bad:
             with self.assertRaises(command.Usage, msg=words):
                 options = command.Options(words.split())
@@ -1003,7 +1284,7 @@ class WithTheProvedLibrary(unittest.TestCase):
         messages = harbour.big_replies()
         printed = listing.run(ROOT / "target" / "bin" / "limit", harbour.framed(messages)).decode("ascii")
         self.assertEqual(printed, harbour.limits(messages))
-        self.assertEqual([line.split(",")[0] for line in printed.splitlines()], ["limit 800000000000 x 10^-12"] * 2 + ["card refused 10 0"] * 2)
+        self.assertEqual([line.split(",")[0].split(":")[0] for line in printed.splitlines()], ["limit 800000000000 x 10^-12"] * 2 + ["card refused 10 0", "stale"] * 3)
 
     def test_the_whole_command(self):
         done = self.run_it("4", str(SAMPLE))
@@ -1061,6 +1342,30 @@ class WithTheProvedLibrary(unittest.TestCase):
         done = self.run_it("4", self.path("cut", AREAS.read_bytes()[:-1]), "--geojson", self.path("unwritten"))
         self.assertEqual((done.returncode, os.path.exists(self.path("unwritten"))), (1, False))
         self.assertIn("isn't written: the message is refused", done.stderr)
+
+    def test_cards_are_judged_as_the_second_reader_does(self):
+        near, far = NEAR_CARD.read_bytes(), FAR_CARD.read_bytes()
+        broken = b"", near[:-1], far + b"\0", damaged(near, 0, 3), damaged(near, 1, 64), damaged(far, 1, 0, 63), damaged(far, 3, 7), damaged(near, 35, 1)
+        asked = [*itertools.product(harbour.replies() + harbour.big_replies(), (0,), (near, far)), *itertools.product([ENGINES.read_bytes()], (0, 1, 10**18 - 1), (near, *broken))]
+        with mock.patch.object(building, "cards_program", return_value=building.cards_program()):  # so that the prover is asked once
+            for message, table, raw in asked:
+                self.assertEqual(cards.asked(message, table, raw), card_asked_of_second(message, table, raw))
+
+    def test_a_card(self):
+        done = self.run_it("4", str(ENGINES), "--card", str(NEAR_CARD))
+        with mock.patch.object(cards, "asked", card_asked_of_second):
+            told, stale = (lines.card_lines(cards.Card(read_by_second(file.read_bytes()), 0, NEAR_CARD.read_bytes())) for file in (ENGINES, WITHOUT_VESSEL))
+        self.assertEqual((done.returncode, done.stdout.splitlines()[:len(told)], done.stderr), (0, told, ""))
+        with open(NEAR_CARD, "rb") as given:
+            done = self.run_it(str(WITHOUT_VESSEL), "--card", "-", "--table=0", stdin=given)
+        self.assertEqual((done.returncode, done.stdout.splitlines()[1:1 + len(stale)]), (1, stale))
+        done = self.run_it("4", str(ENGINES), "--card", "/dev/zero")
+        self.assertEqual((done.returncode, done.stdout.splitlines()[0]), (1, "refused 12 at 0: a card breaks its form"))
+        self.assertEqual(self.run_it("4", str(BROKEN), "--card", str(NEAR_CARD)).stdout, self.run_it("4", str(BROKEN)).stdout)
+        self.failed("this is kind 3", str(ROOT / "samples" / "3-engine-limits.bin"), "--card", str(NEAR_CARD))
+        self.failed("can't both be standard input", "4", "-", "--card", "-")
+        self.failed("No such file or directory", "4", str(ENGINES), "--card", self.path("missing"))
+        self.failed("Is a directory", "4", str(ENGINES), "--card", self.folder.name)
 
     def test_a_refused_message(self):
         done = self.run_it("2", str(ENGINES))

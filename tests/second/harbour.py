@@ -1,11 +1,12 @@
 #!/usr/bin/env python3
 """Makes samples/: messages of a made-up harbour whose engine control asks a database for the limits of its engines, a reply that lacks
 a column, one with the positions of boats, one with no-wake areas, the big report of 400 columns, and two that are refused, one in which a name is torn and one in which a
-limit is no decimal; and, for the program `limit`, its input and what it prints: the sample reply, the same with a row more, three in which the limit's column is no longer
-what it was, one that lacks a later column, one that has the big report's columns behind its own, and the big report.
+limit is no decimal; the shortcut cards of the limit's column, in the reply and in the big report; and, for the program `limit`, its input and what it prints: the sample
+reply, the same with a row more, four in which the limit's column is no longer what it was, one that lacks a later column, one that has the big report's columns behind its
+own, and the big report.
 
     harbour.py          writes the files
-    harbour.py --big    puts out another input for `limit`, which makes a far card of it: the big report, the same with a row more, and two in which the limit's column is
+    harbour.py --big    puts out another input for `limit`, which makes a far card of it: the big report, the same with a row more, and three in which the limit's column is
                         no longer what it was
 """
 
@@ -13,13 +14,19 @@ import pathlib
 import struct
 import sys
 
+sys.dont_write_bytecode = True
+ROOT = pathlib.Path(__file__).resolve().parents[2]
+sys.path.append(str(ROOT / "tools"))
+
 import areas
+import cards
 from encoder import encode
+from explain.paper import FITS  # the words alone: which of them is true is judged by cards.py
 from reader import Refused, read
 from wire import *
 from wire_poly import vertex
 
-SAMPLES = pathlib.Path(__file__).resolve().parent.parent.parent / "samples"
+SAMPLES = ROOT / "samples"
 REQUEST = bytes.fromhex("00000000000000 2a".replace(" ", ""))
 
 ENGINES = {
@@ -121,6 +128,15 @@ def engine_report(limit_at):
 BIG_REPORT = engine_report(LIMIT_AT)
 
 
+# The tables whose limit has a card among the samples: a near one, and a far one.
+CARDS = {"limit": ENGINES, "limit-far": BIG_REPORT}
+
+
+def limit_card(table):
+    position = table["names"].index(b"THROTTLE_LIMIT")
+    return cards.card_of(position, table["types"][position], table["names"][position])
+
+
 def reply(table):
     return {"version": 0, "client_data": REQUEST, "flags": FLAG_STATUS_STRING, "status": 1, "status_string": b"ok", "application": -128,
             "round_trip": 2, "tables": [table]}
@@ -132,6 +148,13 @@ def without(table, column):
     def drop(entries):
         return entries[:at] + entries[at + 1:]
     return dict(table, types=drop(table["types"]), names=drop(table["names"]), rows=[drop(row) for row in table["rows"]])
+
+
+def only(table, *columns):
+    """The table with no other columns."""
+    for column in table["names"]:
+        table = table if column in columns else without(table, column)
+    return table
 
 
 def changed(table, column, **changes):
@@ -177,6 +200,9 @@ def samples():
     for name, (table, number) in REFUSED.items():
         made[name + ".bin"] = encode(REPLY, reply(table))
         assert refusal(REPLY, made[name + ".bin"]) == number
+    for name, table in CARDS.items():
+        made[name + ".card"] = limit_card(table)
+        assert cards.fit(table, made[name + ".card"]) is None
     return made
 
 
@@ -190,14 +216,15 @@ def refusal(kind, message):
 def replies():
     more = dict(ENGINES, rows=[[5, b"Clam", None, 500_000_000_000, 0, (0.0, 0.0), 0]] + ENGINES["rows"])
     tables = [ENGINES, more, without(ENGINES, b"VESSEL"), changed(ENGINES, b"THROTTLE_LIMIT", names=b"THROTTLE_LIMITS"),
-              changed(ENGINES, b"THROTTLE_LIMIT", types=VARBINARY, value=None), without(ENGINES, b"SERVICED"),
+              changed(ENGINES, b"THROTTLE_LIMIT", types=VARBINARY, value=None), only(ENGINES, b"ENGINE_ID", b"THROTTLE_LIMIT"), without(ENGINES, b"SERVICED"),
               engine_report(ENGINES["names"].index(b"THROTTLE_LIMIT")), BIG_REPORT]
     return [encode(REPLY, reply(table)) for table in tables]
 
 
 def big_replies():
     more = dict(BIG_REPORT, rows=BIG_REPORT["rows"][:1] + BIG_REPORT["rows"])
-    return [encode(REPLY, reply(table)) for table in (BIG_REPORT, more, without(BIG_REPORT, b"VESSEL"), ENGINES)]
+    renamed = changed(BIG_REPORT, b"THROTTLE_LIMIT", names=b"THROTTLE_LIMITS")
+    return [encode(REPLY, reply(table)) for table in (BIG_REPORT, more, without(BIG_REPORT, b"VESSEL"), renamed, ENGINES)]
 
 
 def framed(messages):
@@ -210,19 +237,22 @@ def limits(messages):
     for message in messages:
         record, fields = read(REPLY, message)
         table = record["tables"][0]
-        columns = list(zip(table["types"], table["names"]))
-        if card is None:
-            position = table["names"].index(b"THROTTLE_LIMIT")
-            card = position, columns[position]
-        position = card[0]
-        if columns[position:position + 1] != [card[1]]:
-            lines.append("card refused 10 0")
+        card = card or limit_card(table)
+        misfit = cards.fit(table, card)
+        if misfit:
+            lines += ["card refused 10 0", stale(*misfit)]
             continue
+        position = cards.opened(table, card)
         row = [row[table["names"].index(b"ENGINE_ID")] for row in table["rows"]].index(2)
         offset, size = next(field[:2] for field in fields if field[2:] == (51, 0, row, position))
         lines.append("limit %d x 10^-12, column %d, row %d: %d bytes from %d; byte %d is of field 51, table 0, row %d, column %d"
                      % (table["rows"][row][position], position, row, size, offset, offset, row, position))
     return "".join(line + "\n" for line in lines)
+
+
+def stale(reason, position):
+    now = "no column has its name and type" if position is None else "its name and type now stand at column %d" % position
+    return "stale: %s; %s" % (FITS[reason], now)
 
 
 if __name__ == "__main__":
@@ -232,6 +262,6 @@ if __name__ == "__main__":
     SAMPLES.mkdir(exist_ok=True)
     for name, message in samples().items():
         (SAMPLES / name).write_bytes(message)
-    program, messages = SAMPLES.parent / "crates" / "limit", replies()
+    program, messages = ROOT / "crates" / "limit", replies()
     (program / "stdin").write_bytes(framed(messages))
     (program / "stdout").write_text(limits(messages))

@@ -41,6 +41,11 @@ def areas_program():
     return c_program("areas")
 
 
+def cards_program():
+    """The C interface's opening of a card, and whether it fits."""
+    return c_program("cards")
+
+
 def c_program(name):
     """A program of this folder over the C interface."""
     made, source = PROGRAMS / name, SOURCES / (name + ".c")

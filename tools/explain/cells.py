@@ -77,8 +77,8 @@ class Chosen:
     """The cell that a question means, and sentences on how it was found."""
 
     def __init__(self, explained, question):
-        self.explained, self.table = explained, question.table
-        self.names = names_of(explained, question.table)
+        self.explained, self.table = explained, question.cell
+        self.names = names_of(explained, question.cell)
         self.notes = []
         row = self.checked_row(question.row) if question.where is None else None
         key = None if question.where is None else self.key_column(question.where)
@@ -160,9 +160,13 @@ def near(word, names):
 def names_of(explained, table):
     counts = explained.at((paper.COLUMN_COUNT,), (table, 0, 0))
     if not counts:
-        tables = [values.signed(field.raw) for field in explained.matching(lambda offset, size, number, *rest: number == paper.TABLE_COUNT)]
-        raise NotThere("there is no table %d: the message has %s" % (table, values.count_of(sum(tables), "table")))
+        raise NotThere(no_table(explained, table))
     return [explained.column_name(table, column) for column in range(values.signed(counts[0].raw))]
+
+
+def no_table(explained, table):
+    tables = [values.signed(field.raw) for field in explained.matching(lambda offset, size, number, *rest: number == paper.TABLE_COUNT)]
+    return "there is no table %d: the message has %s" % (table, values.count_of(sum(tables), "table"))
 
 
 def row_count(explained, table):

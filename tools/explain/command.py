@@ -5,7 +5,7 @@ import os
 from . import paper
 
 USAGE = """\
-usage: explain [KIND] FILE [--byte N | --cell TABLE ..] [--inside] [--json | --html OUT] [--geojson OUT]
+usage: explain [KIND] FILE [--byte N | --cell TABLE .. | --card CARD [--table N]] [--inside] [--json | --html OUT] [--geojson OUT]
 
 Says what each byte of a message means.
 
@@ -18,22 +18,27 @@ Says what each byte of a message means.
   --cell TABLE --where NAME=VALUE --column COLUMN
                   the value of a cell, and the bytes that are it, that name it and that fix its place. COLUMN is a name, or if no
                   column has that name a number. With --where, the cell is of the first row whose column NAME is VALUE
+  --card CARD     opens the shortcut card in the file CARD over a table of a response: the column that it opens, and the bytes that it was compared
+                  with; or why it doesn't fit, what stands at its position and where a column of its name and type stands now; or which byte
+                  breaks its form. CARD may be - if FILE isn't
+  --table N       with --card, the table; 0 if it is left out
   --inside        looks into geographies too: below the body of one that is an area its own fields, indented, with their places in the message:
                   the leading bytes, the rings, each vertex and its longitude and latitude, the kept bytes. A body that is no area is told so
-  --json          the fields as lines of JSON: offset, size, field (its number), indices, name, where, value, bytes (in hex), with --cell and
-                  of a refused message their group, and of a field in an area the offset of the body that it stands inside; the last line says the
-                  kind and what the answer was made from
+  --json          the fields as lines of JSON: offset, size, field (its number), indices, name, where, value, bytes (in hex), with --cell, with
+                  --card and of a refused message their group, and of a field in an area the offset of the body that it stands inside; the last line
+                  says the kind and what the answer was made from
   --html OUT      writes a page that shows the bytes, for a browser
   --geojson OUT   writes the geographies of a response's tables as GeoJSON: a feature for each cell, with the other cells of its row, the place of
                   its bytes, and if it is an area a polygon, its holes turned clockwise by the proved library. Of a refused message nothing is written
   --              what follows is KIND and FILE, even if it begins with -
 
-Each line: offset, size, bytes in hex, the field's name, where it belongs, and what it says. Tables, rows, columns, parameters
-and elements are counted from 0. Where fields stand is told by the proved library; words, decimals and moments are put to their bytes,
-and degrees computed from the vertices of areas, outside the proof. Exit status: 0 answered, 1 refused or not there, 2 the command can't be carried out.""" % (
+Each line: offset, size, bytes in hex, the field's name, where it belongs, and what it says. Tables, rows, columns, parameters and elements are
+counted from 0. Where fields stand, and whether a card fits or why it doesn't, is told by the proved library; words, decimals and moments are put to
+their bytes, and degrees computed from the vertices of areas, outside the proof. Exit status: 0 answered, 1 refused or not there, 2 the command
+can't be carried out.""" % (
     ", ".join("%d %s" % kind for kind in paper.KINDS.items()), paper.MOST_BYTES)
 
-TAKES_WORD = ("--kind", "--byte", "--row", "--column", "--where", "--html", "--geojson")
+TAKES_WORD = ("--kind", "--byte", "--row", "--column", "--where", "--card", "--table", "--html", "--geojson")
 OPTIONS = TAKES_WORD + ("--cell", "--inside", "--json", "--help", "-h", "--")
 
 
@@ -43,7 +48,7 @@ class Usage(Exception):
 
 class Options:
     def __init__(self, words):
-        self.kind = self.file = self.byte = self.table = self.row = self.column = self.where = self.html = self.geojson = None
+        self.kind = self.file = self.byte = self.cell = self.row = self.column = self.where = self.card = self.table = self.html = self.geojson = None
         self.json = self.inside = self.help = False
         self.take(list(words))
         if not self.help:
@@ -77,10 +82,10 @@ class Options:
         setattr(self, option[2:], word)
 
     def take_cell(self, words):
-        """TABLE, or TABLE ROW COLUMN: a column's name may be any word but an option's."""
+        """TABLE, which `cell` keeps, or TABLE ROW COLUMN: a column's name may be any word but an option's."""
         if not words:
             raise Usage("--cell needs a table's number")
-        self.table = words.pop(0)
+        self.cell = words.pop(0)
         if len(words) >= 2 and words[0].isdecimal() and words[1] not in OPTIONS:
             self.row, self.column = words.pop(0), words.pop(0)
 
@@ -96,19 +101,29 @@ class Options:
     def check(self):
         for name in ("kind", "byte", "table", "row"):
             setattr(self, name, natural(name, getattr(self, name)))
+        self.cell = natural("table", self.cell)
         if self.kind is not None and self.kind not in paper.KINDS:
             raise Usage("there is no kind %d: they are 1 to %d" % (self.kind, max(paper.KINDS)))
-        if self.table is None and (self.row, self.column, self.where) != (None, None, None):
+        if self.cell is None and (self.row, self.column, self.where) != (None, None, None):
             raise Usage("--row, --where and --column go with --cell TABLE")
-        if self.table is not None and (self.column is None or (self.row is None) == (self.where is None)):
+        if self.cell is not None and (self.column is None or (self.row is None) == (self.where is None)):
             raise Usage("--cell needs a row, by its number or by --where NAME=VALUE, and a column")
-        if [self.byte, self.table].count(None) == 0 or (self.json and self.html is not None):
-            raise Usage("--byte and --cell, or --json and --html, don't go together")
+        if [self.byte, self.cell, self.card].count(None) < 2 or (self.json and self.html is not None):
+            raise Usage("--byte, --cell and --card, or --json and --html, don't go together")
         if self.inside and self.html is not None:
             raise Usage("--inside and --html don't go together: the page shows the message's own fields")
+        self.check_card()
         if self.where is not None and "=" not in self.where:
             raise Usage("--where takes NAME=VALUE")
         self.column, self.where = as_bytes(self.column), as_bytes(self.where)
+
+    def check_card(self):
+        if self.card is None and self.table is not None:
+            raise Usage("--table goes with --card: --cell has its own")
+        if self.card is not None and self.inside:
+            raise Usage("--inside and --card don't go together: a card is about a column, and not about its cells")
+        if self.card == self.file == "-":
+            raise Usage("FILE and CARD can't both be standard input")
 
 
 def natural(name, word):

@@ -2,7 +2,7 @@
 
 import itertools
 
-from . import areas, cells, values
+from . import areas, cards, cells, values
 
 BYTES_SHOWN = 8     # bytes of a field shown in hex before they are cut
 BYTES_IN_LINE = 16  # of a field shown whole, and of the bytes around a place
@@ -118,6 +118,26 @@ def shortened(columns, fields):
         yield from whole_lines(columns, run[:RUN_SHOWN])
         yield "%*s  .. %d more of the same, between bytes %d and %d (--json lists each)" % (columns.offset, "", len(left_out), left_out[0].offset, left_out[-1].end - 1)
         yield from whole_lines(columns, run[-RUN_SHOWN:])
+
+
+# -- A card
+
+CARD_GROUPS = {
+    cards.COMPARED: "The bytes that the card was compared with:",
+    cards.NOW: "The bytes that say where its name and type stand now:",
+    cards.TABLES: "The bytes that say how many tables there are:",
+}
+
+
+def card_lines(card):
+    """The sentences, the fields by group, and of a card that breaks its form the card's own bytes."""
+    groups = {group: fields for group, fields in card.groups.items() if fields}
+    columns, told = Columns(first_hex), list(card.words)
+    for fields in groups.values():
+        columns.widen(fields)
+    for group, fields in groups.items():
+        told += ["", CARD_GROUPS[group], *whole_lines(columns, fields)]
+    return told + (["", "The card's bytes:", *around(card.raw, card.place)] if card.broken else [])
 
 
 # -- A refusal

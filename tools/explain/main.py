@@ -4,7 +4,7 @@ import os
 import sys
 import traceback
 
-from . import areas, cells, geojson, lines, page, paper, records, values
+from . import areas, cards, cells, geojson, lines, page, paper, records, second, values
 from .building import Missing, say
 from .command import USAGE, Options, Usage
 from .fields import Explained
@@ -27,7 +27,7 @@ def main(words):
     except OSError as problem:
         where = ": " + shown_file(problem.filename) if problem.filename is not None else ""
         say("%s%s" % (problem.strerror or problem, where))
-    except (Failed, Missing, Untiled) as problem:
+    except (Failed, Missing, Untiled, cards.Unequal) as problem:
         say(str(problem))
     except MemoryError:
         say("there isn't enough memory")
@@ -46,7 +46,7 @@ def answer(words):
         put([USAGE])
         return ANSWERED
     message = read_message(options.file)
-    question = Question(options, message)
+    question = Question(options, message, None if options.card is None else read_card(options.card))
     if options.html is not None:
         question.write_page()
     if options.geojson is not None:
@@ -58,7 +58,7 @@ def answer(words):
 class Question:
     """What is asked of a message, and what the library says of it."""
 
-    def __init__(self, options, message):
+    def __init__(self, options, message, card=None):
         self.options, self.message = options, message
         self.kind, self.guessed = options.kind, options.kind is None
         self.refused = self.explained = None
@@ -74,10 +74,21 @@ class Question:
         else:
             self.explained = Explained(message, numbers)
         self.inside = areas.Inside(self.explained) if options.inside and self.explained else areas.Opaque()
+        self.card = None if card is None or self.refused else self.opened(card)
+
+    def opened(self, card):
+        self.check_response("--card")
+        told = cards.Card(self.explained, self.options.table or 0, card)
+        self.status = ANSWERED if told.number is None else REFUSED
+        return told
+
+    def check_response(self, option):
+        if self.kind != paper.RESPONSE:
+            raise Failed("%s takes the tables of an invocation response, kind %d, and this is kind %d" % (option, paper.RESPONSE, self.kind))
 
     def answer(self):
         """The lines of the answer, and at the end what it was made from."""
-        sources = Sources(self.message)
+        sources = Sources(self.message, self.card and self.card.raw)
         looked_into = self.options.inside and not self.refused
         if self.options.json:
             yield from self.json_lines()
@@ -95,9 +106,11 @@ class Question:
     def text_lines(self):
         if self.refused:
             return lines.refusal_lines(self.refused)
+        if self.card:
+            return lines.card_lines(self.card)
         if self.options.byte is not None:
             return self.one_byte(lambda: lines.byte_lines(self.explained, self.options.byte, self.inside))
-        if self.options.table is not None:
+        if self.options.cell is not None:
             return self.one_cell(lines.cell_lines)
         return self.written if self.written and not self.options.inside else self.all_fields()
 
@@ -111,9 +124,11 @@ class Question:
     def json_lines(self):
         if self.refused:
             return records.refusal_records(self.refused)
+        if self.card:
+            return records.card_records(self.card)
         if self.options.byte is not None:
             return self.one_byte(lambda: records.field_records(self.inside.owners(self.explained.owner(self.options.byte), self.options.byte)))
-        if self.options.table is not None:
+        if self.options.cell is not None:
             return self.one_cell(records.cell_records)
         return records.field_records(self.inside.among(self.explained))
 
@@ -132,9 +147,14 @@ class Question:
         self.status = REFUSED
         return [records.last_record(not_there=text) if self.options.json else text]
 
+    def check_out(self, out):
+        check_other_file(self.options.file, out, "message")
+        if self.options.card is not None:
+            check_other_file(self.options.card, out, "card")
+
     def write_page(self):
         out = self.options.html
-        check_other_file(self.options.file, out)
+        self.check_out(out)
         known = self.explained or self.refused.explained
         refusal = (self.refused.number, self.refused.place) if self.refused else None
         words = self.refused.words if self.refused else ()
@@ -146,12 +166,11 @@ class Question:
     def write_geojson(self):
         """The areas of a response. One that is refused has none that could be trusted."""
         out = self.options.geojson
-        check_other_file(self.options.file, out)
+        self.check_out(out)
         if self.refused:
             say("%s isn't written: the message is refused" % shown_file(out))
             return
-        if self.kind != paper.RESPONSE:
-            raise Failed("--geojson takes the tables of an invocation response, kind %d, and this is kind %d" % (paper.RESPONSE, self.kind))
+        self.check_response("--geojson")
         collection = geojson.Collection(self.explained)
         write_file(out, collection.text(Sources(self.message)).encode("ascii"))
         counts = values.count_of(len(collection.features), "feature"), collection.drawn()
@@ -175,10 +194,7 @@ def others_accepting(kind, message):
 
 def read_message(name):
     """The bytes of a file, which may be no longer than a message."""
-    if name == "-" and sys.stdin is None:
-        raise Failed("there is no standard input")
-    with open(0 if name == "-" else name, "rb", closefd=name != "-") as file:
-        message = file.read(paper.MOST_BYTES + 1)
+    message = read_file(name, paper.MOST_BYTES)
     if len(message) > paper.MOST_BYTES:
         first = 4 + values.signed(message[:4])
         hint = "; its first 4 bytes say that a message of %d bytes stands in front: `head -c %d` cuts it out" % (first, first) if 4 < first <= paper.MOST_BYTES else ""
@@ -186,12 +202,25 @@ def read_message(name):
     return message
 
 
-def check_other_file(name, out):
-    """What is written never takes the place of the message that it shows."""
+def read_card(name):
+    """The bytes of a file, whatever they are: that it is too long is told as what breaks a card's form."""
+    return read_file(name, second.cards().MOST_SIZE)
+
+
+def read_file(name, most):
+    """The bytes of a file, of one that is longer than the most so many that this is seen."""
+    if name == "-" and sys.stdin is None:
+        raise Failed("there is no standard input")
+    with open(0 if name == "-" else name, "rb", closefd=name != "-") as file:
+        return file.read(most + 1)
+
+
+def check_other_file(name, out, what):
+    """What is written never takes the place of the message that it shows, or of a card."""
     try:
         given = os.fstat(0) if name == "-" else os.stat(name)
         if os.path.samestat(given, os.stat(out)):
-            raise Failed("%s is the message itself: what is written needs another name" % shown_file(out))
+            raise Failed("%s is the %s itself: what is written needs another name" % (shown_file(out), what))
     except FileNotFoundError:
         pass
 

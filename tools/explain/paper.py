@@ -125,6 +125,18 @@ NO_AREA = {
     LEFT_OVER: "bytes are left after the last field",
 }
 
+# Refusal numbers of opening a shortcut card over a table of an accepted response, and when they are given.
+CARD_STALE, NO_TABLE, CARD_BROKEN = 10, 11, 12
+CARD_REFUSALS = {
+    CARD_STALE: "a well-formed card doesn't fit the table",
+    NO_TABLE: "there is no such table",
+    CARD_BROKEN: "a card breaks its form",
+}
+
+# Whether a well-formed card fits a table, or why it doesn't: the first of these that is so.
+FITS = {0: "it fits", 1: "its position is past the last column", 2: "the column at its position has another type", 3: "the column at its position has another name"}
+COLUMN_PAST = 1
+
 # The longest message, its length field included, and the longest that the listing program takes.
 MOST_BYTES = 4_194_308
 MOST_LISTED = 65_536

@@ -26,5 +26,20 @@ def refusal_records(refused):
     yield from field_records(refused.explained, group="before")
 
 
+def card_records(card):
+    """What the card says if that can be told; the column that it opens, or of one that doesn't fit the reason's number and where its name and type stand now."""
+    told = {"table": card.table}
+    if card.said:
+        told.update(kind=card.said.kind, position=card.said.position, type=card.said.wire_type, name=card.said.name.decode("ascii"))
+    if card.number is None:
+        told.update(opens=card.answer.column)
+    if card.answer.reason is not None:
+        told.update(reason=card.answer.reason, now=card.answer.now)
+    refused = {} if card.number is None else {"refused": card.number, "place": card.place}
+    yield json.dumps({**refused, "card": told, "words": card.words})
+    for group, fields in card.groups.items():
+        yield from field_records(fields, group=group)
+
+
 def last_record(**told):
     return json.dumps(told)

@@ -1,5 +1,6 @@
 """The second reader (tests/second), which was written from the paper by itself and is held against the library by tests/compare. It is asked about what the library
-refuses, and of which the library tells the number and the place alone; and it is followed only if it refuses the same for the same fault."""
+refuses, and of which the library tells the number and the place alone, and about what shortcut cards say; and it is followed only if it refuses the same for the same
+fault."""
 
 import importlib
 import sys
@@ -17,15 +18,24 @@ def of_body(body):
     return asked("areas", body)
 
 
-def asked(module, *given):
+def cards():
+    """Its shortcut cards: the forms of both kinds, and where a card breaks its own."""
+    return module("cards")
+
+
+def asked(name, *given):
+    refused = module("reader").Refused
+    try:
+        return None, module(name).read(*given)[1]
+    except refused as no:
+        return no, no.fields
+
+
+def module(name):
     folder = str(ROOT / "tests" / "second")
     if folder not in sys.path:
         sys.path.append(folder)
-    refused = importlib.import_module("reader").Refused
-    try:
-        return None, importlib.import_module(module).read(*given)[1]
-    except refused as no:
-        return no, no.fields
+    return importlib.import_module(name)
 
 
 def same(no, refusal):

@@ -1,4 +1,4 @@
-"""What an answer was made from: the file's bytes, the project's commit and the kit, so that it can be had again."""
+"""What an answer was made from: the file's bytes, those of a card, the project's commit and the kit, so that it can be had again."""
 
 import hashlib
 import subprocess
@@ -7,17 +7,20 @@ from .building import ROOT
 
 
 class Sources:
-    def __init__(self, message):
+    def __init__(self, message, card=None):
+        self.card = card
         self.size = len(message)
         self.sha256 = hashlib.sha256(message).hexdigest()
         self.commit = commit()
         self.kit = said(["rt", "version"]) or "unknown: no `rt` is found"
 
     def lines(self):
-        return ["message: %d bytes, SHA-256 %s" % (self.size, self.sha256), "chaloenpik: commit %s" % self.commit, "kit: %s" % self.kit]
+        card = [] if self.card is None else ["card: %d bytes were read%s" % (len(self.card), ", in hex " + self.card.hex() if self.card else "")]
+        return ["message: %d bytes, SHA-256 %s" % (self.size, self.sha256), *card, "chaloenpik: commit %s" % self.commit, "kit: %s" % self.kit]
 
     def record(self):
-        return {"size": self.size, "sha256": self.sha256, "commit": self.commit, "kit": self.kit}
+        card = {} if self.card is None else {"card_bytes": self.card.hex()}
+        return {"size": self.size, "sha256": self.sha256, **card, "commit": self.commit, "kit": self.kit}
 
 
 def commit():
