@@ -331,6 +331,7 @@ fn first_alike(m: &[u8], layout: TableLayout, wire_type: u8, name: &[u8]) -> Fou
     Found::Nothing
 }
 
+// That a card doesn't fit for a reason, with where its type and name stand.
 fn stale(m: &[u8], layout: TableLayout, reason: Reason, wire_type: u8, name: &[u8]) -> Fit
     requires { ⌜ Laid (now m) layout ⌝ }
     ensures { λ r. ⌜ ((w : Laid (now (m .entry)) layout) → toldFit r ≡ ok (some (reason, standsAt (w .tab) «wire_type» (now (name .entry))))) ⌝ }
