@@ -263,13 +263,20 @@ static bool card_fine(const uint8_t *card, size_t size, card_content *is, size_t
     return true;
 }
 
-plain_refusal plain_open_card(const uint8_t *m, size_t size, size_t table, const uint8_t *card, size_t card_size, size_t *column) {
+/* What a card says, and the table that it is asked over: the message's own refusal, then the card's form, then the table. */
+static plain_refusal card_over(const uint8_t *m, size_t size, size_t table, const uint8_t *card, size_t card_size, card_content *is, size_t *at) {
     plain_refusal no = plain_accept(m, size);
-    size_t at, wrong;
-    card_content is;
+    size_t wrong;
     if (no.number != 0) return no;
-    if (!card_fine(card, card_size, &is, &wrong)) return refused(CARD_FORM, wrong);
-    if (!table_at(m, size, table, &at)) return refused(PAST_END, 0);
+    if (!card_fine(card, card_size, is, &wrong)) return refused(CARD_FORM, wrong);
+    return table_at(m, size, table, at) ? no : refused(PAST_END, 0);
+}
+
+plain_refusal plain_open_card(const uint8_t *m, size_t size, size_t table, const uint8_t *card, size_t card_size, size_t *column) {
+    size_t at;
+    card_content is;
+    plain_refusal no = card_over(m, size, table, card, card_size, &is, &at);
+    if (no.number != 0) return no;
     size_t columns = load16(m + at + 9);
     if (is.position >= columns || m[at + 11 + is.position] != is.type) return refused(STALE, 0);
     at += 11 + columns;
@@ -281,12 +288,10 @@ plain_refusal plain_open_card(const uint8_t *m, size_t size, size_t table, const
 
 /* One walk over the columns: to the first of the card's type and name, and, if only the name is still in doubt, at least to the card's position. */
 plain_refusal plain_card_fit(const uint8_t *m, size_t size, size_t table, const uint8_t *card, size_t card_size, uint64_t fit[3]) {
-    plain_refusal no = plain_accept(m, size);
-    size_t at, wrong;
+    size_t at;
     card_content is;
+    plain_refusal no = card_over(m, size, table, card, card_size, &is, &at);
     if (no.number != 0) return no;
-    if (!card_fine(card, card_size, &is, &wrong)) return refused(CARD_FORM, wrong);
-    if (!table_at(m, size, table, &at)) return refused(PAST_END, 0);
     size_t columns = load16(m + at + 9), first = columns;
     const uint8_t *types = m + at + 11;
     unsigned reason = is.position >= columns ? COLUMN_PAST : types[is.position] != is.type ? OTHER_TYPE : OTHER_NAME;
