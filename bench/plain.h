@@ -47,6 +47,12 @@ plain_refusal plain_card_fit(const uint8_t *message, size_t length, size_t table
    indices. `taken` is how many were written. 11 at 0 if there is no entry `first`. */
 plain_refusal plain_fields(const uint8_t *message, size_t length, size_t first, uint64_t *out, size_t room, size_t *taken);
 
+/* How many entries the field list has. */
+plain_refusal plain_field_count(const uint8_t *message, size_t length, size_t *fields);
+
+/* The number of the entry that owns a byte. 11 at 0 if there is no such byte. */
+plain_refusal plain_owner(const uint8_t *message, size_t length, size_t offset, size_t *number);
+
 /* The writer: a response is begun, tables and rows are opened and closed, cells are put, and it is finished. */
 typedef enum { PLAIN_CLOSED, PLAIN_REPLY, PLAIN_TABLE, PLAIN_ROW } plain_stage;
 
@@ -83,6 +89,11 @@ plain_refusal plain_put_body(plain_writer *w, uint8_t type, bool null, const uin
 plain_refusal plain_close_row(plain_writer *w);
 plain_refusal plain_close_table(plain_writer *w);
 plain_refusal plain_finish(plain_writer *w);
+
+/* A whole row: opened, its cells put and closed. Each cell is two of the `count` numbers: the upper and the lower 64 bits of one of a fixed size; where a
+   text or binary one's bytes start in `bytes`, and how many they are, or all bits set for a null. 11 at 0 if they don't stand there. Where the row is
+   refused it is taken back, but its bytes behind the position may stay. */
+plain_refusal plain_whole_row(plain_writer *w, const uint64_t *cells, size_t count, const uint8_t *bytes, size_t size);
 
 /* Whether a body is an area, and how many rings it has. */
 plain_refusal plain_area(const uint8_t *body, size_t length, size_t *rings);

@@ -54,7 +54,7 @@ plain_refusal plain_area_fields(const uint8_t *body, size_t size, size_t first, 
     plain_refusal no = plain_area(body, size, &rings);
     if (no.number != 0) return no;
     reader r = {body, 0, {0, 0}};
-    lister l = {first, 0, 0, room, out};
+    lister l = {first, 0, 0, room, out, UINT64_MAX};
     area(&r, size, &l, &rings);
     *taken = l.taken;
     if (l.seen <= first) no.number = PAST_END;

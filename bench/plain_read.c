@@ -154,10 +154,32 @@ plain_refusal plain_fields(const uint8_t *message, size_t size, size_t first, ui
     plain_refusal no = plain_accept(message, size);
     if (no.number != 0) return no;
     reader r = {message, 0, {0, 0}};
-    lister l = {first, 0, 0, room, out};
+    lister l = {first, 0, 0, room, out, UINT64_MAX};
     response(&r, size, &l);
     *taken = l.taken;
     if (l.seen <= first) no.number = PAST_END;
+    return no;
+}
+
+/* How many fields of an accepted message begin at a byte or before it. */
+static plain_refusal fields_up_to(const uint8_t *message, size_t size, size_t last, size_t *fields) {
+    plain_refusal no = plain_accept(message, size);
+    if (no.number != 0) return no;
+    reader r = {message, 0, {0, 0}};
+    lister l = {UINT64_MAX, 0, 0, 0, NULL, last};
+    response(&r, size, &l);
+    *fields = l.seen;
+    return no;
+}
+
+plain_refusal plain_field_count(const uint8_t *message, size_t size, size_t *fields) { return fields_up_to(message, size, size, fields); }
+
+/* Fields have no gaps between them: the last that begins there or before owns the byte. */
+plain_refusal plain_owner(const uint8_t *message, size_t size, size_t offset, size_t *number) {
+    plain_refusal no = fields_up_to(message, size, offset, number);
+    if (no.number != 0) return no;
+    --*number;
+    if (offset >= size) no.number = PAST_END;
     return no;
 }
 

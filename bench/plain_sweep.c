@@ -1,7 +1,7 @@
 /* The plain reader and writer over frames, to be held against the second reader: standard input is a row of frames (4 bytes
    of size, big-endian, then one byte of kind, 4, and a message). For each it prints the field list, or `refused NUMBER PLACE`,
-   and a line with a dot. It also asks for each cell and column, and writes each accepted message anew, and says where either differs, or
-   where a torn text, or what breaks another rule of its own, or too many columns are written, or a broken card is opened.
+   and a line with a dot. It also asks for each entry of the list, cell and column, and writes each accepted message anew, cell by cell and row by row, and
+   says where any differs, or where a torn text, or what breaks another rule of its own, or too many columns are written, or a broken card is opened.
    With kind 27, the wire type of a geography, it is an area: behind its field list stands what it is with its holes turned. With kind 100 it is a card behind
    its size, one byte, and then a message: it prints how the card fits the first table. */
 #include "plain_rules.h"
@@ -12,6 +12,26 @@ enum { MOST_FRAME = 1 << 23, MOST_NUMBERS = 1 << 24, CARD_FRAME = 100 };
 
 static uint8_t message[MOST_FRAME], again[MOST_FRAME];
 static uint64_t entries[MOST_NUMBERS];
+
+static bool is_refused(plain_refusal no, uint32_t number, size_t place) { return no.number == number && no.place == place; }
+
+static bool is_owned(size_t size, size_t offset, size_t number) {
+    size_t owner;
+    return plain_owner(message, size, offset, &owner).number == 0 && owner == number;
+}
+
+/* How many entries the list has, each of them alone, and which of them owns its first and its last byte. */
+static bool entries_agree(size_t size, size_t count) {
+    size_t fields, taken;
+    uint64_t alone[6];
+    if (plain_field_count(message, size, &fields).number != 0 || fields != count) return false;
+    for (size_t n = 0; n < count; n++) {
+        const uint64_t *e = entries + 6 * n;
+        if (plain_fields(message, size, n, alone, 6, &taken).number != 0 || taken != 1 || memcmp(alone, e, sizeof alone) != 0) return false;
+        if (!is_owned(size, e[0], n) || !is_owned(size, e[0] + e[1] - 1, n)) return false;
+    }
+    return is_refused(plain_fields(message, size, count, alone, 6, &taken), PAST_END, 0) && is_refused(plain_owner(message, size, size, &taken), PAST_END, 0);
+}
 
 /* The cells as the list has them. */
 static bool cells_agree(size_t size, size_t count) {
@@ -87,17 +107,41 @@ static bool columns_agree(size_t size, size_t count) {
     return true;
 }
 
+static uint64_t bits_of(const plain_cell *c) {
+    uint64_t bits = 0;
+    for (size_t n = 0; n < c->size; n++) bits = bits << 8 | message[c->offset + n];
+    return bits;
+}
+
 static bool put_cell(plain_writer *w, const plain_cell *c) {
     const uint8_t *p = message + c->offset;
     if (is_counted(c->type)) return plain_put_body(w, c->type, c->null, p, c->size).number == 0;
     if (c->size == 16) return plain_put_pair(w, c->type, load64(p), load64(p + 8)).number == 0;
-    uint64_t bits = 0;
-    for (size_t n = 0; n < c->size; n++) bits = bits << 8 | p[n];
-    return plain_put_number(w, c->type, bits).number == 0;
+    return plain_put_number(w, c->type, bits_of(c)).number == 0;
+}
+
+/* Writes a row of so many cells of the message. */
+typedef bool put_row(plain_writer *w, const plain_cell *cells, size_t count);
+
+static bool put_by_cells(plain_writer *w, const plain_cell *cells, size_t count) {
+    bool fine = plain_open_row(w).number == 0;
+    for (size_t k = 0; fine && k < count; k++) fine = put_cell(w, &cells[k]);
+    return fine && plain_close_row(w).number == 0;
+}
+
+static bool put_at_once(plain_writer *w, const plain_cell *cells, size_t count) {
+    uint64_t numbers[2 * PLAIN_COLUMNS], *next = numbers;
+    for (const plain_cell *c = cells; c < cells + count; c++) {
+        bool counted = is_counted(c->type);
+        *next++ = counted ? c->offset : c->size == 16 ? load64(message + c->offset) : 0;
+        *next++ = counted ? (c->null ? UINT64_MAX : c->size) : bits_of(c);
+    }
+    return plain_whole_row(w, numbers, 2 * count, message, MOST_FRAME).number == 0;
 }
 
 /* A table at `at`, whose columns' entries are made from its bytes. */
-static bool put_table(plain_writer *w, size_t size, size_t table, size_t at) {
+static bool put_table(plain_writer *w, put_row *put, size_t size, size_t table, size_t at) {
+    plain_cell cells[PLAIN_COLUMNS];
     plain_column columns[PLAIN_COLUMNS];
     size_t count = load16(message + at + 9), rows, name = at + 11 + count;
     for (size_t k = 0; k < count; k++) {
@@ -109,12 +153,9 @@ static bool put_table(plain_writer *w, size_t size, size_t table, size_t at) {
     rows = load32(message + name);
     if (plain_open_table(w, message[at + 8], columns, count, message, size).number != 0) return false;
     for (size_t j = 0; j < rows; j++) {
-        if (plain_open_row(w).number != 0) return false;
-        for (size_t k = 0; k < count; k++) {
-            plain_cell c;
-            if (plain_find_cell(message, size, table, j, k, &c).number != 0 || !put_cell(w, &c)) return false;
-        }
-        if (plain_close_row(w).number != 0) return false;
+        for (size_t k = 0; k < count; k++)
+            if (plain_find_cell(message, size, table, j, k, &cells[k]).number != 0) return false;
+        if (!put(w, cells, count)) return false;
     }
     return plain_close_table(w).number == 0;
 }
@@ -149,20 +190,20 @@ static plain_opening opening(size_t count) {
     return o;
 }
 
-static bool written_alike(size_t size, size_t count) {
+static bool written_alike(put_row *put, size_t size, size_t count) {
     plain_writer w;
     plain_opening o = opening(count);
     size_t tables = load16(message + offset_of(count, 40, 0));
     if (plain_begin(&w, again, size, message[4], &o).number != 0) return false;
     for (size_t i = 0; i < tables; i++)
-        if (!put_table(&w, size, i, offset_of(count, 41, i))) return false;
+        if (!put_table(&w, put, size, i, offset_of(count, 41, i))) return false;
     return plain_finish(&w).number == 0 && w.at == size && memcmp(message, again, size) == 0;
 }
 
+#define NORTH 0x4056800000000000U /* the bits of 90.0, the greatest latitude */
+
 /* A name cut in mid-letter. */
 static const uint8_t torn[] = {'B', 'j', 0xc3};
-
-static bool is_refused(plain_refusal no, uint32_t number, size_t place) { return no.number == number && no.place == place; }
 
 /* It is refused as each text of the opening that the flags ask for, and otherwise ignored. */
 static bool torn_opening_refused(size_t count) {
@@ -236,7 +277,6 @@ static bool broken_cards_refused(size_t size) {
 /* What breaks a rule of its own is refused by its number, at the writer's position: flags, a name, a decimal, a point, a geography. */
 static bool wrong_values_refused(size_t count) {
     const plain_column unnamed[] = {{PLAIN_DECIMAL, 0, 0}, {PLAIN_POINT, 0, 0}, {PLAIN_GEOGRAPHY, 0, 0}}, named = {PLAIN_STRING, 1, 2};
-    const uint64_t north = 0x4056800000000000; /* the bits of 90.0, the greatest latitude */
     plain_writer w;
     plain_opening o = opening(count), flagged = o;
     flagged.flags |= 1;
@@ -246,9 +286,53 @@ static bool wrong_values_refused(size_t count) {
     if (plain_open_table(&w, 0, unnamed, 3, message, 0).number != 0 || plain_open_row(&w).number != 0) return false;
     if (!is_refused(plain_put_pair(&w, PLAIN_DECIMAL, (uint64_t)1 << 63, 1), BAD_DECIMAL, w.at)) return false;
     if (plain_put_pair(&w, PLAIN_DECIMAL, (uint64_t)1 << 63, 0).number != 0) return false;
-    if (!is_refused(plain_put_pair(&w, PLAIN_POINT, north, north + 1), BAD_POINT, w.at)) return false;
-    if (plain_put_pair(&w, PLAIN_POINT, north, north).number != 0) return false;
+    if (!is_refused(plain_put_pair(&w, PLAIN_POINT, NORTH, NORTH + 1), BAD_POINT, w.at)) return false;
+    if (plain_put_pair(&w, PLAIN_POINT, NORTH, NORTH).number != 0) return false;
     return is_refused(plain_put_body(&w, PLAIN_GEOGRAPHY, false, torn, 0), BAD_GEOGRAPHY, w.at) && plain_put_body(&w, PLAIN_GEOGRAPHY, true, torn, 0).number == 0;
+}
+
+/* A row that is refused whole leaves the writer as it was. */
+static bool row_refused(plain_writer *w, const uint64_t *cells, size_t count, uint32_t number, size_t place) {
+    size_t at = w->at;
+    uint32_t rows = w->rows;
+    return is_refused(plain_whole_row(w, cells, count, torn, sizeof torn), number, place) && w->at == at && w->rows == rows && w->stage == PLAIN_TABLE;
+}
+
+/* A row of fine cells, in numbers of which the last two are one cell too many; where each cell stands in it; and a number that is wrong there. */
+static const plain_column row_columns[] = {{PLAIN_TINYINT, 0, 0}, {PLAIN_STRING, 0, 0}, {PLAIN_DECIMAL, 0, 0}, {PLAIN_POINT, 0, 0}, {PLAIN_GEOGRAPHY, 0, 0}};
+static const uint64_t row_numbers[] = {0, 255, 0, 2, (uint64_t)1 << 63, 0, NORTH, NORTH, 2, 1, 1, 1};
+static const size_t row_places[] = {4, 5, 11, 27, 43, 48};
+static const struct {
+    size_t which;
+    uint64_t is;
+    uint32_t refusal;
+} wrong_numbers[] = {{0, 1, BAD_TYPE}, {1, 256, BAD_TYPE}, {2, 2, PAST_END}, {2, 4, PAST_END}, {2, UINT64_MAX, PAST_END}, {3, UINT64_MAX - 1, PAST_END},
+                     {3, 3, BAD_TEXT}, {5, 1, BAD_DECIMAL}, {7, NORTH + 1, BAD_POINT}, {9, 0, BAD_GEOGRAPHY}};
+
+/* It is refused at the cell of the wrong number, or at 0 if that cell's bytes aren't lent. */
+static bool wrong_numbers_refused(plain_writer *w) {
+    for (size_t n = 0; n < sizeof wrong_numbers / sizeof *wrong_numbers; n++) {
+        uint64_t cells[10];
+        size_t which = wrong_numbers[n].which, place = w->at + row_places[which / 2];
+        uint32_t refusal = wrong_numbers[n].refusal;
+        memcpy(cells, row_numbers, sizeof cells);
+        cells[which] = wrong_numbers[n].is;
+        if (!row_refused(w, cells, 10, refusal, refusal == PAST_END ? 0 : place)) return false;
+    }
+    return true;
+}
+
+/* So are one of too few cells or too many, and one that has no room. A number without its second is left out. */
+static bool wrong_rows_refused(size_t count) {
+    plain_writer w;
+    plain_opening o = opening(count);
+    if (plain_begin(&w, again, MOST_FRAME, message[4], &o).number != 0 || plain_open_table(&w, 0, row_columns, 5, message, 0).number != 0) return false;
+    if (!wrong_numbers_refused(&w)) return false;
+    if (!row_refused(&w, row_numbers, 9, STAGE, w.at + row_places[4]) || !row_refused(&w, row_numbers, 12, STAGE, w.at + row_places[5])) return false;
+    w.size = w.at + row_places[5] - 1;
+    if (!row_refused(&w, row_numbers, 10, OUTPUT, w.at + row_places[5])) return false;
+    w.size++;
+    return plain_whole_row(&w, row_numbers, 11, torn, sizeof torn).number == 0 && w.at == w.size && w.rows == 1;
 }
 
 static bool area_written_alike(size_t size) {
@@ -288,11 +372,12 @@ static void one(size_t size) {
     size_t count = 0;
     plain_refusal no = plain_fields(message, size, 0, entries, MOST_NUMBERS, &count);
     if (!print_list(no, count)) return;
+    if (!entries_agree(size, count)) printf("an entry or its owner differs from the list\n");
     if (!cells_agree(size, count)) printf("a cell differs from the list\n");
     if (!columns_agree(size, count)) printf("a column differs from the list\n");
-    if (!written_alike(size, count)) printf("written anew, the message differs\n");
+    if (!written_alike(put_by_cells, size, count) || !written_alike(put_at_once, size, count)) printf("written anew, the message differs\n");
     if (!torn_opening_refused(count) || !torn_cell_refused(count)) printf("a torn text is written\n");
-    if (!wrong_values_refused(count)) printf("what breaks a rule of its own is written\n");
+    if (!wrong_values_refused(count) || !wrong_rows_refused(count)) printf("what breaks a rule of its own is written\n");
     if (!too_many_columns_refused(count)) printf("a table of too many columns is written\n");
     if (!broken_cards_refused(size)) printf("a card that breaks its form isn't refused there\n");
 }

@@ -8,10 +8,11 @@ typedef struct {
     plain_refusal no;
 } reader;
 
-/* What is to be listed: entries from `first` on, as long as `out` has room. */
+/* What is to be listed: entries from `first` on, as long as `out` has room. A field that begins behind the byte `last` isn't seen. */
 typedef struct {
     size_t first, seen, taken, room;
     uint64_t *out;
+    size_t last;
 } lister;
 
 /* Inlined, so that the walk that lists nothing has no trace of the lister. */
@@ -25,7 +26,7 @@ static bool refuse(reader *r, uint32_t number, size_t place) {
 }
 
 INLINE void list(lister *l, size_t offset, size_t size, unsigned field, size_t i, size_t j, size_t k) {
-    if (l == NULL || l->seen++ < l->first || l->room - l->taken * 6 < 6) return;
+    if (l == NULL || offset > l->last || l->seen++ < l->first || l->room - l->taken * 6 < 6) return;
     uint64_t *entry = l->out + l->taken++ * 6;
     entry[0] = offset, entry[1] = size, entry[2] = field;
     entry[3] = i, entry[4] = j, entry[5] = k;

@@ -2,6 +2,8 @@
    changes nothing. */
 #include "plain_rules.h"
 
+#define INLINE static inline __attribute__((always_inline))
+
 static const plain_refusal fine = {0, 0};
 
 static plain_refusal refused(uint32_t number, size_t place) {
@@ -194,6 +196,92 @@ plain_refusal plain_close_row(plain_writer *w) {
     if (w->stage != PLAIN_ROW || w->cells != w->columns) return refused(STAGE, w->at);
     store32(w->buffer + w->row_at, (uint32_t)(w->at - w->row_at - 4));
     w->stage = PLAIN_TABLE;
+    return fine;
+}
+
+/* A row that is being put. The writer knows nothing of it until it is whole, so a refusal has nothing to take back. */
+typedef struct {
+    uint8_t *out;
+    size_t at, first, room;
+} whole_row;
+
+/* The row limit, and then the room. */
+INLINE plain_refusal row_room(const whole_row *r, size_t bytes) {
+    if (r->at + bytes - r->first > MOST_ROW) return refused(LIMIT, r->at);
+    return room_at(r->at, r->room, bytes);
+}
+
+INLINE plain_refusal row_number(whole_row *r, size_t size, const uint64_t cell[2]) {
+    if (cell[0] != 0 || (size < 8 && cell[1] >> 8 * size != 0)) return refused(BAD_TYPE, r->at);
+    plain_refusal no = row_room(r, size);
+    if (no.number != 0) return no;
+    switch (size) {
+    case 1: r->out[r->at] = (uint8_t)cell[1]; break;
+    case 2: store16(r->out + r->at, (uint32_t)cell[1]); break;
+    case 4: store32(r->out + r->at, (uint32_t)cell[1]); break;
+    default: store64(r->out + r->at, cell[1]); break;
+    }
+    r->at += size;
+    return fine;
+}
+
+INLINE plain_refusal row_pair(whole_row *r, const uint64_t cell[2]) {
+    plain_refusal no = row_room(r, 16);
+    if (no.number != 0) return no;
+    store64(r->out + r->at, cell[0]);
+    store64(r->out + r->at + 8, cell[1]);
+    r->at += 16;
+    return fine;
+}
+
+INLINE plain_refusal row_null(whole_row *r) {
+    plain_refusal no = row_room(r, 4);
+    if (no.number != 0) return no;
+    store32(r->out + r->at, UINT32_MAX);
+    r->at += 4;
+    return fine;
+}
+
+INLINE plain_refusal row_body(whole_row *r, uint8_t type, const uint64_t cell[2], const uint8_t *bytes, size_t size) {
+    if (cell[1] == UINT64_MAX) return row_null(r);
+    if (cell[0] > size || cell[1] > size - cell[0]) return refused(PAST_END, 0);
+    if (cell[1] > MOST_BODY) return refused(LIMIT, r->at);
+    if (cell[1] == 0 && type == PLAIN_GEOGRAPHY) return refused(BAD_GEOGRAPHY, r->at);
+    if (type == PLAIN_STRING && well_formed(bytes + cell[0], cell[1]) != cell[1]) return refused(BAD_TEXT, r->at);
+    plain_refusal no = row_room(r, 4 + cell[1]);
+    if (no.number != 0) return no;
+    store32(r->out + r->at, (uint32_t)cell[1]);
+    if (cell[1] > 0) memcpy(r->out + r->at + 4, bytes + cell[0], cell[1]);
+    r->at += 4 + cell[1];
+    return fine;
+}
+
+INLINE plain_refusal row_cell(whole_row *r, uint8_t type, const uint64_t cell[2], const uint8_t *bytes, size_t size) {
+    switch (type) {
+    case PLAIN_TINYINT: return row_number(r, 1, cell);
+    case PLAIN_SMALLINT: return row_number(r, 2, cell);
+    case PLAIN_INTEGER: return row_number(r, 4, cell);
+    case PLAIN_BIGINT: case PLAIN_FLOAT: case PLAIN_TIMESTAMP: return row_number(r, 8, cell);
+    case PLAIN_DECIMAL: return decimal_fine(cell[0], cell[1]) ? row_pair(r, cell) : refused(BAD_DECIMAL, r->at);
+    case PLAIN_POINT: return point_fine(cell[0], cell[1]) ? row_pair(r, cell) : refused(BAD_POINT, r->at);
+    default: return row_body(r, type, cell, bytes, size);
+    }
+}
+
+plain_refusal plain_whole_row(plain_writer *w, const uint64_t *cells, size_t count, const uint8_t *bytes, size_t size) {
+    if (w->stage != PLAIN_TABLE) return refused(STAGE, w->at);
+    if (w->rows >= INT32_MAX) return refused(LIMIT, w->at);
+    plain_refusal no = room_for(w, 4);
+    if (no.number != 0) return no;
+    whole_row r = {w->buffer, w->at + 4, w->at + 4, w->size};
+    for (size_t k = 0; k < count / 2 && k < w->columns; k++) {
+        no = row_cell(&r, w->types[k], cells + 2 * k, bytes, size);
+        if (no.number != 0) return no;
+    }
+    if (count / 2 != w->columns) return refused(STAGE, r.at);
+    store32(w->buffer + w->at, (uint32_t)(r.at - r.first));
+    w->at = r.at;
+    w->rows++;
     return fine;
 }
 

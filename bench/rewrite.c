@@ -1,4 +1,4 @@
-/* One walk over the message, inlined for each of two hands that write. */
+/* One walk over the message, inlined for each of four hands that write: plain and proved, cell by cell and row by row. */
 #include "rewrite.h"
 #include "steps.h"
 
@@ -11,6 +11,10 @@ typedef struct {
     uint64_t state[CHALOENPIK_STATE];
     uint8_t types[CHALOENPIK_TYPES];
     plain_writer plain;
+    /* Of hands that write row by row: the message, and the cells of the row that were listed. */
+    const uint8_t *message;
+    size_t size;
+    uint64_t cells[2 * PLAIN_COLUMNS], *next;
 } pen;
 
 /* The columns of a table: their types, and where the first one's name stands. */
@@ -65,13 +69,41 @@ INLINE uint64_t put_response(const hand *h, const uint8_t *m, size_t size, uint8
     pen p;
     p.out = out;
     p.room = room;
+    p.message = m;
+    p.size = size;
     TRY(h->begin(&p, m));
     size_t tables = load16(m + TABLES), at = FIRST_TABLE;
     for (size_t i = 0; i < tables; i++, at += 4 + load32(m + at)) TRY(put_table(h, &p, m, size, at));
     return h->finish(&p);
 }
 
-/* ---- The plain hand. */
+/* ---- What both hands that write row by row do until a row is closed: list its cells, two numbers each, as a whole row takes them. */
+
+static uint64_t begin_list(pen *p) {
+    p->next = p->cells;
+    return 0;
+}
+
+INLINE uint64_t list_cell(pen *p, uint64_t first, uint64_t second) {
+    *p->next++ = first;
+    *p->next++ = second;
+    return 0;
+}
+
+static uint64_t list_fixed(pen *p, uint8_t type, uint64_t upper, uint64_t lower) {
+    (void)type;
+    return list_cell(p, upper, lower);
+}
+
+/* By where the bytes stand in the message, which is lent with the row. */
+static uint64_t list_body(pen *p, uint8_t type, bool null, const uint8_t *bytes, size_t size) {
+    (void)type;
+    return list_cell(p, (uint64_t)(bytes - p->message), null ? CHALOENPIK_NULL_SIZE : size);
+}
+
+#define LISTED p->cells, (size_t)(p->next - p->cells), p->message, p->size
+
+/* ---- The plain hands. */
 
 static uint64_t plain_hand_begin(pen *p, const uint8_t *m) {
     plain_opening o = {.status = m[STATUS], .app_status = m[APP_STATUS], .round_trip = (int32_t)load32(m + ROUND_TRIP)};
@@ -109,12 +141,19 @@ static uint64_t plain_hand_finish(pen *p) {
     return no.number != 0 ? packed(no) : (uint64_t)p->plain.at << 8;
 }
 
+static uint64_t plain_hand_whole_row(pen *p) { return packed(plain_whole_row(&p->plain, LISTED)); }
+
 static const hand plain_hand = {plain_hand_begin, plain_hand_open_table, plain_hand_open_row, plain_hand_fixed,
                                 plain_hand_body, plain_hand_close_row, plain_hand_close_table, plain_hand_finish};
 
+static const hand plain_row_hand = {plain_hand_begin, plain_hand_open_table, begin_list, list_fixed,
+                                    list_body, plain_hand_whole_row, plain_hand_close_table, plain_hand_finish};
+
 uint64_t rewrite_plain(const uint8_t *message, size_t size, uint8_t *out, size_t room) { return put_response(&plain_hand, message, size, out, room); }
 
-/* ---- The proved hand. */
+uint64_t rewrite_rows_plain(const uint8_t *message, size_t size, uint8_t *out, size_t room) { return put_response(&plain_row_hand, message, size, out, room); }
+
+/* ---- The proved hands. */
 
 #define PEN p->out, p->room, p->state
 #define TABLE PEN, p->types
@@ -149,7 +188,14 @@ static uint64_t proved_close_table(pen *p) { return chaloenpik_close_table(TABLE
 
 static uint64_t proved_finish(pen *p) { return chaloenpik_finish_reply(PEN); }
 
+static uint64_t proved_whole_row(pen *p) { return chaloenpik_whole_row(TABLE, LISTED); }
+
 static const hand proved_hand = {proved_begin, proved_open_table, proved_open_row, proved_fixed,
                                  proved_body, proved_close_row, proved_close_table, proved_finish};
 
+static const hand proved_row_hand = {proved_begin, proved_open_table, begin_list, list_fixed,
+                                     list_body, proved_whole_row, proved_close_table, proved_finish};
+
 uint64_t rewrite_proved(const uint8_t *message, size_t size, uint8_t *out, size_t room) { return put_response(&proved_hand, message, size, out, room); }
+
+uint64_t rewrite_rows_proved(const uint8_t *message, size_t size, uint8_t *out, size_t room) { return put_response(&proved_row_hand, message, size, out, room); }

@@ -8,6 +8,10 @@
 uint64_t rewrite_plain(const uint8_t *message, size_t size, uint8_t *out, size_t room);
 uint64_t rewrite_proved(const uint8_t *message, size_t size, uint8_t *out, size_t room);
 
+/* The same, but the cells of a row are listed, and it is written by one call. */
+uint64_t rewrite_rows_plain(const uint8_t *message, size_t size, uint8_t *out, size_t room);
+uint64_t rewrite_rows_proved(const uint8_t *message, size_t size, uint8_t *out, size_t room);
+
 /* An area, vertex by vertex. */
 uint64_t rewrite_area_plain(const uint8_t *body, size_t size, uint8_t *out, size_t room);
 uint64_t rewrite_area_proved(const uint8_t *body, size_t size, uint8_t *out, size_t room);

@@ -15,14 +15,15 @@ static void begin(plain_writer *w, uint8_t *buffer, size_t size) {
     plain_begin(w, buffer, size, 1, &fields);
 }
 
-static void open_table(plain_writer *w, const uint8_t *types, size_t count, size_t name_size) {
+/* Whether there was room for its columns. */
+static bool open_table(plain_writer *w, const uint8_t *types, size_t count, size_t name_size) {
     plain_column columns[PLAIN_COLUMNS];
     for (size_t k = 0; k < count; k++) {
         columns[k].type = types[k];
         columns[k].name = k % 26;
         columns[k].name_size = name_size;
     }
-    plain_open_table(w, 0, columns, count, letters, sizeof letters - 1);
+    return plain_open_table(w, 0, columns, count, letters, sizeof letters - 1).number == 0;
 }
 
 /* How the columns of a family are named: by what all share, and by the column's number, in one order or the other. */
@@ -126,19 +127,23 @@ static plain_refusal put_prose(plain_writer *w, uint8_t type, uint64_t *state) {
     return plain_put_body(w, type, false, text, (size_t)(end - text));
 }
 
+/* Whether there was room for a row of the open table. */
+static bool put_row(put_value *put, plain_writer *w, uint64_t *state) {
+    bool whole = plain_open_row(w).number == 0;
+    for (size_t k = 0; whole && k < w->columns; k++) whole = put(w, w->types[k], state).number == 0;
+    return whole && plain_close_row(w).number == 0;
+}
+
 /* Rows of the open table until the buffer is full. The row that doesn't fit any more is taken back. */
 static size_t fill_rows(put_value *put, plain_writer *w) {
     uint64_t state = 1;
     for (;;) {
         size_t at = w->at;
         uint32_t rows = w->rows;
-        bool whole = plain_open_row(w).number == 0;
-        for (size_t k = 0; whole && k < w->columns; k++) whole = put(w, w->types[k], &state).number == 0;
-        if (!whole) {
+        if (!put_row(put, w, &state)) {
             w->at = at, w->rows = rows, w->stage = PLAIN_TABLE;
             break;
         }
-        plain_close_row(w);
     }
     plain_close_table(w);
     plain_finish(w);
@@ -215,21 +220,47 @@ static size_t mixed(uint8_t *buffer, size_t size) {
     return fill(buffer, size, types, sizeof types);
 }
 
-/* Tables of one bigint, as many as there may be. */
-static size_t tables(uint8_t *buffer, size_t size) {
-    const uint8_t types[] = {PLAIN_BIGINT};
-    const size_t one = 4 + 4 + 3 + 1 + 4 + 6 + 4 + 4 + 8;
+/* Whether there was room for a table of so many rows. */
+static bool put_table(plain_writer *w, const uint8_t *types, size_t count, size_t name_size, size_t rows, uint64_t *state) {
+    bool whole = open_table(w, types, count, name_size);
+    for (size_t j = 0; whole && j < rows; j++) whole = put_row(put_any, w, state);
+    return whole && plain_close_table(w).number == 0;
+}
+
+/* Tables until the buffer is full, or until there are as many as there may be. The table that doesn't fit any more is taken back. */
+static size_t fill_tables(uint8_t *buffer, size_t size, const uint8_t *types, size_t count, size_t name_size, size_t rows) {
     plain_writer w;
+    uint64_t state = 1;
     begin(&w, buffer, size);
-    while (w.tables < MOST_ITEMS && w.at + one <= size) {
-        open_table(&w, types, 1, 6);
-        plain_open_row(&w);
-        plain_put_number(&w, PLAIN_BIGINT, w.tables);
-        plain_close_row(&w);
-        plain_close_table(&w);
+    for (;;) {
+        size_t at = w.at;
+        uint32_t before = w.tables;
+        if (!put_table(&w, types, count, name_size, rows, &state)) {
+            w.at = at, w.tables = before, w.stage = PLAIN_REPLY;
+            break;
+        }
     }
     plain_finish(&w);
     return w.at;
+}
+
+/* Tables of one bigint. */
+static size_t tables(uint8_t *buffer, size_t size) {
+    const uint8_t types[] = {PLAIN_BIGINT};
+    return fill_tables(buffer, size, types, sizeof types, 6, 1);
+}
+
+/* Tables of two rows. */
+static size_t small_tables(uint8_t *buffer, size_t size) {
+    const uint8_t types[] = {PLAIN_INTEGER, PLAIN_STRING, PLAIN_DECIMAL, PLAIN_TIMESTAMP};
+    return fill_tables(buffer, size, types, sizeof types, 6, 2);
+}
+
+/* Tables that are nothing but metadata: 64 columns, of every type in turn, with short names. */
+static size_t wide_tables(uint8_t *buffer, size_t size) {
+    uint8_t types[64];
+    take_turns(types, sizeof types, every_type, sizeof every_type);
+    return fill_tables(buffer, size, types, sizeof types, 8, 0);
 }
 
 /* Rows of no columns, 4 bytes each. */
@@ -347,6 +378,8 @@ const shape shapes[] = {
     {"boats", "rows of a boat's values, each with such a point and every second with a null decimal", boats},
     {"mixed", "rows of 64 columns of all types", mixed},
     {"tables", "tables of one bigint, at most 32767", tables},
+    {"small tables", "tables of an integer, a string, a decimal and a timestamp, with two rows", small_tables},
+    {"wide tables", "tables of 64 columns of all types, whose names have 8 letters, without rows", wide_tables},
     {"names", "4 columns with long names", names},
     {"empty rows", "rows of no columns", empty_rows},
     {"row count", "the same, the count 2^31 - 1: refused", count_too_large},

@@ -20,9 +20,9 @@
 #include <string.h>
 
 #define CHALOENPIK_VERSION_MAJOR 0
-#define CHALOENPIK_VERSION_MINOR 4
+#define CHALOENPIK_VERSION_MINOR 5
 #define CHALOENPIK_VERSION_PATCH 0
-#define CHALOENPIK_VERSION "0.4.0"
+#define CHALOENPIK_VERSION "0.5.0"
 
 #ifdef __cplusplus
 extern "C" {
@@ -50,7 +50,8 @@ enum {
     CHALOENPIK_OUTPUT_SHORT = 8,  /* the output is too short: bytes needed, which in writing is the position that the step would reach */
     CHALOENPIK_NO_COLUMN = 9,     /* no column has that name: 0 */
     CHALOENPIK_CARD_STALE = 10,   /* a well-formed card doesn't fit the table: 0; chaloenpik_card_fit says why */
-    CHALOENPIK_PAST_END = 11,     /* a table, row, column, ring, vertex, entry or byte past the end, or a column's name past its buffer: 0 */
+    CHALOENPIK_PAST_END = 11,     /* a table, row, column, ring, vertex, entry or byte past the end, or a column's name, or a cell of a whole row,
+                                     past its buffer: 0 */
     CHALOENPIK_CARD_BROKEN = 12,  /* a card breaks its form: the first wrong byte; for a wrong size, the smaller of the sizes */
     CHALOENPIK_BAD_STAGE = 13,    /* a step of writing comes at a stage, or with a state, that doesn't permit it: the position */
     CHALOENPIK_BAD_TEXT = 20,     /* a text isn't well-formed UTF-8: the first byte that begins no well-formed sequence */
@@ -357,6 +358,17 @@ uint64_t chaloenpik_body_cell(uint8_t *out, size_t size, uint64_t state[CHALOENP
 
 /* Closes the row. */
 uint64_t chaloenpik_close_row(uint8_t *out, size_t size, uint64_t state[CHALOENPIK_STATE], const uint8_t types[CHALOENPIK_TYPES]);
+
+/* The size of a null in a whole row: all bits are set, as in its length of -1 in the message. */
+#define CHALOENPIK_NULL_SIZE UINT64_MAX
+
+/* A whole row in one step. It is the run of the steps above: opening the row, each of its cells, closing it. The first that would be refused
+   decides the refusal, at its own position; and then nothing is changed, by those before it neither. `cells` has `numbers` numbers, two for each
+   cell; one left over is ignored. A cell has its column's type: of a fixed size, by its upper and lower 64 bits; text or binary, by its start and
+   size in `bytes`, or for a null by any start and CHALOENPIK_NULL_SIZE. 11 at 0, when that cell's turn comes: it is no part of `bytes`; 13: a cell
+   too many, or too few. */
+uint64_t chaloenpik_whole_row(uint8_t *out, size_t size, uint64_t state[CHALOENPIK_STATE], const uint8_t types[CHALOENPIK_TYPES],
+                              const uint64_t *cells, size_t numbers, const uint8_t *bytes, size_t length);
 
 /* Closes the table. */
 uint64_t chaloenpik_close_table(uint8_t *out, size_t size, uint64_t state[CHALOENPIK_STATE], const uint8_t types[CHALOENPIK_TYPES]);

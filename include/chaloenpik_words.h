@@ -17,7 +17,7 @@ static inline const char *chaloenpik_refusal_text(unsigned refusal) {
     case CHALOENPIK_OUTPUT_SHORT: return "the output is too short";
     case CHALOENPIK_NO_COLUMN: return "no column has that name";
     case CHALOENPIK_CARD_STALE: return "a well-formed card doesn't fit the table";
-    case CHALOENPIK_PAST_END: return "a table, row, column, ring, vertex, list entry or byte offset is past the end, or a column entry past its name buffer";
+    case CHALOENPIK_PAST_END: return "a table, row, column, ring, vertex, list entry or byte offset is past the end, or a column entry past its name buffer, or a cell past the lent bytes";
     case CHALOENPIK_CARD_BROKEN: return "a card breaks its form";
     case CHALOENPIK_BAD_STAGE: return "a writer step comes at a stage, or with a saved state, that doesn't permit it";
     case CHALOENPIK_BAD_TEXT: return "a text isn't well-formed UTF-8";

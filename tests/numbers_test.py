@@ -14,6 +14,7 @@ sys.path.insert(0, str(ROOT / "tools"))
 sys.path.insert(0, str(ROOT / "tests" / "second"))
 
 import cards
+import writer
 from explain import paper
 
 
@@ -207,6 +208,26 @@ class Fits(unittest.TestCase):
 
     def test_explain_has_them_in_the_same_words(self):
         self.assertEqual(paper.FITS, self.SAID)
+
+
+class WholeRows(unittest.TestCase):
+    """The size of a null, which is the same number everywhere."""
+
+    NULL_SIZE = next(row[2] for row in table("Column", "First number", "Second number") if "null" in row[0])
+
+    def test_the_page_has_it(self):
+        self.assertEqual(self.NULL_SIZE, "2^64 - 1, which is `CHALOENPIK_NULL_SIZE` in C and `NULL_SIZE` in Rust")
+
+    def test_the_headers_and_rust_have_it(self):
+        self.assertIn("#define CHALOENPIK_NULL_SIZE UINT64_MAX\n", HEADER)
+        self.assertIn("pub const NULL_SIZE: u64 = u64::MAX;\n", source("bindings/rust/src/foreign.rs"))
+
+    def test_the_proved_code_and_its_definition_have_it(self):
+        self.assertIn("pub const NULL_SIZE: u64 = 0xffff_ffff_ffff_ffff;\n", source("crates/whole/src/lib.rt"))
+        self.assertIn("nullSize = 2 ^ 64 - 1\n", source("crates/whole/specs/Rows.antt"))
+
+    def test_the_second_writer_has_it(self):
+        self.assertEqual(writer.NULL_SIZE, 2**64 - 1)
 
 
 class Fields(unittest.TestCase):

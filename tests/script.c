@@ -7,10 +7,10 @@
 /* The steps, by the byte that names them. */
 enum {
     BUFFER, FORGE, SHOW, LOGIN, LOGIN_REPLY, BEGIN_INVOCATION, BEGIN_REPLY, ADD_NULL, ADD_VALUE, ADD_BYTE_ARRAY, OPEN_ARRAY, ADD_ELEMENT,
-    CLOSE_ARRAY, FINISH_INVOCATION, OPEN_TABLE, OPEN_ROW, ADD_CELL, CLOSE_ROW, CLOSE_TABLE, FINISH_REPLY
+    CLOSE_ARRAY, FINISH_INVOCATION, OPEN_TABLE, OPEN_ROW, ADD_CELL, CLOSE_ROW, WHOLE_ROW, CLOSE_TABLE, FINISH_REPLY
 };
 
-enum { MOST_FRAME = 1 << 22, MOST_BUFFER = 1 << 23, MOST_COLUMNS = 2 * CHALOENPIK_TYPES, PATTERN = 251 };
+enum { MOST_FRAME = 1 << 22, MOST_BUFFER = 1 << 23, MOST_COLUMNS = 2 * CHALOENPIK_TYPES, MOST_NUMBERS = 2 * MOST_COLUMNS, PATTERN = 251 };
 
 static uint8_t frame[MOST_FRAME], out[MOST_BUFFER], types[CHALOENPIK_TYPES];
 static uint64_t state[CHALOENPIK_STATE];
@@ -124,6 +124,41 @@ static uint64_t open_table(void) {
     return ASK(open_table, out, size, state, types, status, columns, 3 * count, names.bytes, names.size);
 }
 
+static bool is_body(uint8_t type) { return type == CHALOENPIK_STRING || type == CHALOENPIK_VARBINARY || type == CHALOENPIK_GEOGRAPHY; }
+
+/* A cell of a whole row, by its own step. */
+static uint64_t next_cell(uint8_t *to, uint64_t *at, uint8_t type, uint64_t first, uint64_t second, part lent) {
+    if (!is_body(type)) return chaloenpik_fixed_cell(to, size, at, types, type, first, second);
+    if (second == CHALOENPIK_NULL_SIZE) return chaloenpik_body_cell(to, size, at, types, type, true, lent.bytes, lent.size);
+    if (first > lent.size || second > lent.size - first) return CHALOENPIK_PAST_END;
+    return chaloenpik_body_cell(to, size, at, types, type, false, lent.bytes + first, second);
+}
+
+static uint64_t row_by_steps(uint8_t *to, uint64_t *at, const uint64_t *cells, size_t count, part lent) {
+    uint64_t columns = at[10], answer = chaloenpik_open_row(to, size, at, types);
+    for (size_t k = 0; k < count / 2 && chaloenpik_refusal(answer) == 0; k++)
+        answer = next_cell(to, at, k < columns ? types[k] : 0, cells[2 * k], cells[2 * k + 1], lent);
+    return chaloenpik_refusal(answer) == 0 ? chaloenpik_close_row(to, size, at, types) : answer;
+}
+
+/* Beside it the row by its steps, on a buffer and a state of their own. It must answer what they do, and leave all that they do, in numbers that mean
+   nothing at its stage too; if it is refused, `step` and the checksum tell what it left. */
+static uint64_t whole_row(void) {
+    static uint64_t cells[MOST_NUMBERS], other_state[CHALOENPIK_STATE];
+    static uint8_t other[MOST_BUFFER];
+    size_t count = big_endian(4);
+    if (count > MOST_NUMBERS) exit(1);
+    for (size_t k = 0; k < count; k++) cells[k] = number();
+    part lent = counted();
+    memcpy(other, out, size);
+    memcpy(other_state, state, sizeof state);
+    uint64_t wanted = row_by_steps(other, other_state, cells, count, lent);
+    uint64_t answer = ASK(whole_row, out, size, state, types, cells, count, lent.bytes, lent.size);
+    bool alike = chaloenpik_refusal(answer) != 0 || (memcmp(other, out, size) == 0 && memcmp(other_state, state, sizeof state) == 0);
+    if (answer != wanted || !alike) printf("not as by its steps ");
+    return answer;
+}
+
 /* ---- What is no step. */
 
 static void buffer(void) {
@@ -180,21 +215,25 @@ static uint64_t stepped(uint8_t name) {
     case OPEN_ROW: return ASK(open_row, out, size, state, types);
     case ADD_CELL: return add_cell(taken_value());
     case CLOSE_ROW: return ASK(close_row, out, size, state, types);
+    case WHOLE_ROW: return whole_row();
     case CLOSE_TABLE: return ASK(close_table, out, size, state, types);
     case FINISH_REPLY: return ASK(finish_reply, out, size, state);
     default: exit(1);
     }
 }
 
-/* Takes a step, and says what it answers and what it left. A refusal must leave every number of the state and every type as it was. */
+/* Takes a step, and says what it answers and what it left. The answer must have the position that the state has then, but a login's, which keeps none. A
+   refusal must leave every number of the state and every type as it was. */
 static void step(uint8_t name) {
     uint64_t state_before[CHALOENPIK_STATE];
     uint8_t types_before[CHALOENPIK_TYPES];
     memcpy(state_before, state, sizeof state);
     memcpy(types_before, types, sizeof types);
     uint64_t answer = stepped(name);
-    if (chaloenpik_refusal(answer) == 0) printf("fine\n");
-    else {
+    if (chaloenpik_refusal(answer) == 0) {
+        printf("fine\n");
+        if (name != LOGIN && name != LOGIN_REPLY && chaloenpik_value(answer) != state[1]) printf("answered another position\n");
+    } else {
         printf("refused %u %lu\n", chaloenpik_refusal(answer), chaloenpik_value(answer));
         if (memcmp(state_before, state, sizeof state) != 0 || memcmp(types_before, types, sizeof types) != 0) printf("changed by a refusal\n");
     }

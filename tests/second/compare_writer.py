@@ -3,9 +3,9 @@
 
 Half of the scripts spell a made-up record, into a buffer that is long enough or a little too short, and try what is refused by its own rule (flags,
 names, values, torn texts) before what they spell; the others take wild steps, with wrong arguments, out of order and on forged states. Some spell a
-reply with many columns. Then come texts and values at the edges of their rules, in each step that takes one, and beside other faults and limits; and
-tables of many columns, opened and forged. What `script` answers must be what the second writer does, line by line: after each step the whole state,
-all types and the buffer too.
+reply with many columns. Half of the rows are written whole. Then come texts and values at the edges of their rules, in each step that takes one, and
+beside other faults and limits; tables of many columns, opened and forged; and whole rows with all of that. What `script` answers must be what the
+second writer does, line by line: after each step the whole state, all types and the buffer too.
 """
 
 import pathlib
@@ -15,6 +15,7 @@ import sys
 
 import column_scripts
 import limit_scripts
+import row_scripts
 import steps
 import text_scripts
 import value_scripts
@@ -42,7 +43,9 @@ def main():
     scripts = [spelling(maker) if i % 2 else wild(maker) for i in range(count)]
     scripts += [spelling_wide(maker) for _ in range(WIDE_ONES)]
     scripts += [script for script, _ in (*text_scripts.by_turns(step=5), *value_scripts.by_turns(), *column_scripts.by_turns())]
-    scripts += [script for script, _ in (*text_scripts.in_order(), *value_scripts.in_order(), *limit_scripts.in_order(), *column_scripts.in_order())]
+    scripts += [script for _, script in row_scripts.by_turns(step=5)]
+    scripts += [script for script, _ in (*text_scripts.in_order(), *value_scripts.in_order(), *limit_scripts.in_order(), *column_scripts.in_order(),
+                                         *row_scripts.in_order())]
     data = b"".join(steps.packed(script) for script in scripts)
     found = subprocess.run(RUN, input=data, stdout=subprocess.PIPE, check=True).stdout.decode().splitlines()
     tally, at = Tally("compare_writer", must=MUST), 0
@@ -84,8 +87,17 @@ def spelling_wide(maker):
 
 def spelled(maker, kind, record):
     room = max(0, len(encode(kind, record)) + maker.rng.choice((-9, -1, 0, 0, 0, 1, 50)))
-    script = [tried for step in steps.spelled(kind, record) for tried in (*refused_before(maker, step), step)]
+    spelled_steps = steps.spelled(kind, record, row=lambda values: spelled_row(maker, values))
+    script = [tried for step in spelled_steps for tried in (*refused_before(maker, step), step)]
     return [("buffer", (room,)), *script, ("show", ())]
+
+
+def spelled_row(maker, values):
+    """Cell by cell; or whole, and before that often with something that is refused."""
+    if maker.rng.random() < 0.5:
+        return steps.cell_by_cell(values)
+    tried = [row_scripts.spoiled(maker, values)] if maker.rng.random() < 0.5 else []
+    return [*tried, row_scripts.scattered(maker.rng, values)]
 
 
 def refused_before(maker, step):

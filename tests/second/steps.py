@@ -13,6 +13,7 @@ commas between its entries, `-` if empty.
     add_null | add_value VALUE | add_byte_array BYTES | open_array TYPE | add_element VALUE | close_array
     open_table STATUS COLUMNS NAMES                     a column is TYPE/START/SIZE
     finish_invocation | open_row | add_cell VALUE | close_row | close_table | finish_reply
+    whole_row NUMBERS BYTES                             two numbers for a cell; bodies stand in the bytes
     forge STAGE POSITION COUNTAT COUNT INNERAT INNERTYPE INNERCOUNT TABLEAT ROWSAT ROWS COLUMNS TYPES
                                                         sets the whole state, whatever it is; TYPES are MOST_COLUMNS bytes
     show                                                the position, and the buffer's bytes
@@ -23,7 +24,8 @@ and the buffer in hexadecimal. A program prints the name of the exported functio
 
 For a program, `packed` makes each step a frame (frames.py): a byte that names the step (its place in NAMES), then its arguments: a
 number as 8 bytes; bytes as a length of 4 bytes (-1 null) and the bytes; a value as its wire type and a byte, 0 before 16 bytes of a number
-and 1 before bytes; columns as their number in 4 bytes, then for each its type and two numbers.
+and 1 before bytes; columns as their number in 4 bytes, then for each its type and two numbers; a list of numbers as their number in 4 bytes, and
+they.
 """
 
 import struct
@@ -33,13 +35,13 @@ from dataclasses import astuple, replace
 import encoder
 import writer
 from wire import *
-from writer import ARRAY_OPEN, CALL, ROW_OPEN, TABLE_OPEN, Bits, No, State
+from writer import ARRAY_OPEN, CALL, NULL_SIZE, ROW_OPEN, TABLE_OPEN, Bits, No, State
 
 WHOLE = {"login": writer.write_login, "login_reply": writer.write_login_reply}
 BEGINNINGS = {"begin_invocation": writer.begin_invocation, "begin_reply": writer.begin_reply}
 STEPS = {step.__name__: step for step in (
     writer.add_null, writer.add_value, writer.add_byte_array, writer.open_array, writer.add_element, writer.close_array,
-    writer.finish_invocation, writer.open_table, writer.open_row, writer.add_cell, writer.close_row, writer.close_table,
+    writer.finish_invocation, writer.open_table, writer.open_row, writer.add_cell, writer.close_row, writer.whole_row, writer.close_table,
     writer.finish_reply)}
 NO_STEPS = ("buffer", "forge", "show")
 
@@ -49,6 +51,10 @@ FUNCTIONS = {"login": "write_login_request", "login_reply": "write_login_respons
 VALUE_FUNCTIONS = {"add_value": "param", "add_element": "element", "add_cell": "cell"}
 NAMES = (*NO_STEPS, *WHOLE, *BEGINNINGS, *STEPS)
 NO_STATE = State(writer.CLOSED, 0)
+
+
+class Numbers(tuple):
+    """A list of numbers without a sign, which a step is lent."""
 
 
 def fresh(size):
@@ -136,8 +142,33 @@ def forging(state, **changes):
     return "forge", astuple(replace(state, **changes))
 
 
-def spelled(kind, record):
-    """The steps that write a record."""
+def cell_by_cell(values):
+    """The steps that write a row."""
+    return [("open_row", ()), *[("add_cell", (value,)) for value in values], ("close_row", ())]
+
+
+def in_one(values):
+    """The step that writes a row whole; its bodies stand one behind the other, with nothing else."""
+    numbers, lent = [], b""
+    for wire_type, it in values:
+        numbers += pair(wire_type, it, len(lent))
+        lent += it if isinstance(it, bytes) else b""
+    return [("whole_row", (Numbers(numbers), lent))]
+
+
+def pair(wire_type, it, start):
+    """The two numbers for a value in a whole row, the body of which starts there; the start of a null isn't looked at."""
+    if is_body(it):
+        return start, NULL_SIZE if it is None else len(it)
+    return divmod(int.from_bytes(bits_of(wire_type, it), "big"), 2**64)
+
+
+def bits_of(wire_type, it):
+    return it.to_bytes(16, "big") if isinstance(it, Bits) else encoder.value(wire_type, it)
+
+
+def spelled(kind, record, row=cell_by_cell):
+    """The steps that write a record, those of a row as `row` has them."""
     if kind == LOGIN:
         return [("login", (record["version"], record.get("hash_version", 0), record["service"], record["user"], record["hash"]))]
     if kind == LOGIN_REPLY:
@@ -153,7 +184,7 @@ def spelled(kind, record):
             record["version"], record["client_data"], record["flags"], record["status"], record.get("status_string"),
             record["application"], record.get("application_string"), record["round_trip"], record.get("exception", b""))))
         for table in record["tables"]:
-            script += spelled_table(table)
+            script += spelled_table(table, row)
     return script + [("finish_invocation" if kind == INVOCATION else "finish_reply", ())]
 
 
@@ -168,14 +199,14 @@ def spelled_parameter(wire_type, it):
     return [("open_array", (element_type,)), *[("add_element", (given(element_type, e),)) for e in elements], ("close_array", ())]
 
 
-def spelled_table(table):
+def spelled_table(table, spelled_row):
     names, columns = b"", []
     for wire_type, name in zip(table["types"], table["names"]):
         columns.append((wire_type, len(names), len(name)))
         names += name
     script = [("open_table", (table["status"], tuple(columns), names))]
     for row in table["rows"]:
-        script += [("open_row", ()), *[("add_cell", (value,)) for value in map(given, table["types"], row)], ("close_row", ())]
+        script += spelled_row([*map(given, table["types"], row)])
     return script + [("close_table", ())]
 
 
@@ -195,6 +226,8 @@ def word(argument):
         return "null"
     if isinstance(argument, bytes):
         return argument.hex() or "-"
+    if isinstance(argument, Numbers):
+        return ",".join(map(str, argument)) or "-"
     if isinstance(argument, tuple) and len(argument) == 2 and not isinstance(argument[0], tuple):
         return "%d:%s" % (argument[0], value_word(*argument))
     if isinstance(argument, tuple):
@@ -225,6 +258,8 @@ def packed(script):
 def packed_argument(argument):
     if argument is None or isinstance(argument, bytes):
         return encoder.counted(argument)
+    if isinstance(argument, Numbers):
+        return len(argument).to_bytes(4, "big") + b"".join(map(packed_argument, argument))
     if isinstance(argument, tuple) and len(argument) == 2 and not isinstance(argument[0], tuple):
         return encoder.number(argument[0], 1) + packed_value(*argument)
     if isinstance(argument, tuple):
@@ -236,5 +271,4 @@ def packed_argument(argument):
 def packed_value(wire_type, it):
     if is_body(it):
         return b"\1" + encoder.counted(it)
-    block = it.to_bytes(16, "big") if isinstance(it, Bits) else encoder.value(wire_type, it)
-    return b"\0" + block.rjust(16, b"\0")
+    return b"\0" + bits_of(wire_type, it).rjust(16, b"\0")

@@ -1,4 +1,4 @@
-"""The second writer: paper 01's "Writing", with requests 1, 4, 5 and 6, step by step, in plain Python.
+"""The second writer: paper 01's "Writing", with requests 1, 4, 5 and 6, step by step, in plain Python; and a whole row as the run of its steps.
 
 A step takes the state and the buffer and gives (answer, state, buffer): the answer is None, or (number, place), and then state and
 buffer are the same as before. A value is (wire type, value), with values as in reader.py, or the `Bits` of one of a fixed size, as the
@@ -12,6 +12,9 @@ from dataclasses import dataclass, replace
 import encoder
 from utf8 import torn_at
 from wire import *
+
+# The size of a null body in a whole row.
+NULL_SIZE = 2**64 - 1
 
 # What is open: nothing; a call, an array in it; a reply, a table in it, a row in that. The numbers are those that scripts use.
 CLOSED, CALL, ARRAY_OPEN, REPLY_OPEN, TABLE_OPEN, ROW_OPEN = range(6)
@@ -208,6 +211,27 @@ def close_row(state, buffer):
         raise No(WRONG_STAGE, state.position)
     state, buffer = append(state, buffer, b"")
     return replace(state, stage=TABLE_OPEN), fill(buffer, state.inner_at, state.position - state.inner_at - 4, 4)
+
+
+def whole_row(state, buffer, numbers, lent):
+    """The row by its steps, none of which is seen if one is refused. A cell is two numbers, and a number behind the last two is left out."""
+    state, buffer = open_row(state, buffer)
+    for first, second in zip(numbers[::2], numbers[1::2]):
+        state, buffer = add_cell(state, buffer, next_cell(state, first, second, lent))
+    return close_row(state, buffer)
+
+
+def next_cell(state, first, second, lent):
+    """The value of its column's type that two numbers stand for: its bits, or where its body stands in the lent bytes. Behind the last column there is
+    no type, and so no body to look for."""
+    wire_type = state.types[state.inner_count] if state.inner_count < state.columns else 0
+    if wire_type not in COUNTED_TYPES:
+        return wire_type, Bits(first << 64 | second)
+    if second == NULL_SIZE:
+        return wire_type, None
+    if first + second > len(lent):
+        raise No(PAST_END, 0)
+    return wire_type, lent[first:first + second]
 
 
 def close_table(state, buffer):

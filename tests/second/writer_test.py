@@ -5,8 +5,8 @@ The steps that a record spells write its encoding and nothing past it; in a buff
 at the place that it would reach, and changes nothing; a run of wild steps that reaches its end has written an accepted message. A null
 point is written from its numbers and from its bits, and what is nearly one is refused. Text that is torn, and what breaks another rule of its own, is
 refused where the writer stands, behind the faults before it and before those after it, and not looked at where it is left out or may be any bytes; the
-limits hold to the byte, and to the column, on forged states too. The same of the steps that write a geography's body. What was refused is counted
-(tally.py), by the second writer's answers.
+limits hold to the byte, and to the column, on forged states too. A whole row writes and answers what its steps do, and changes nothing if one of those is
+refused. The same of the steps that write a geography's body. What was refused is counted (tally.py), by the second writer's answers.
 """
 
 import random
@@ -18,6 +18,7 @@ import area_scripts
 import areas
 import column_scripts
 import limit_scripts
+import row_scripts
 import steps
 import text_scripts
 import value_scripts
@@ -38,10 +39,10 @@ NO_COLUMN_TYPES = (ARRAY % 256, NULL, 0)
 
 OF_WRITING = (NO_ROOM, LIMIT, LEFT_OVER, BAD_VERSION, BAD_TYPE, OUTPUT_SHORT, PAST_END, WRONG_STAGE, BAD_TEXT, *CAUSES)
 
-# The steps that refuse what breaks its own rule, by number.
+# The steps that refuse what breaks its own rule, or isn't lent, by number.
 SPOILED = {
-    BAD_TEXT: (*text_scripts.TEXT_ARGUMENTS, *steps.VALUE_FUNCTIONS), BAD_FLAGS: ("begin_reply",), BAD_NAME: ("open_table",),
-    **{number: tuple(steps.VALUE_FUNCTIONS) for number in CAUSE_OF_TYPE.values()},
+    BAD_TEXT: (*text_scripts.TEXT_ARGUMENTS, *steps.VALUE_FUNCTIONS, "whole_row"), BAD_FLAGS: ("begin_reply",), BAD_NAME: ("open_table",),
+    **{number: (*steps.VALUE_FUNCTIONS, "whole_row") for number in CAUSE_OF_TYPE.values()}, PAST_END: ("open_table", "whole_row"),
 }
 
 
@@ -57,6 +58,7 @@ def main():
         check_spelled(maker, REPLY, maker.wide_record())
     check_points()
     check_first_refusals()
+    check_whole_rows()
     check_order()
     for number in sorted(SPOILED):
         print("writer_test: %d was given by %s" % (number, ", ".join("%s %d" % (name, spoiled[name, number]) for name in SPOILED[number])))
@@ -80,15 +82,18 @@ def spelled_once(maker):
 
 def check_spelled(maker, kind, record):
     message = encode(kind, record)
-    script = steps.spelled(kind, record)
+    by_cells = steps.spelled(kind, record)
+    in_rows = steps.spelled(kind, record, row=lambda values: [row_scripts.scattered(maker.rng, values)])
     spare = maker.rng.choice((0, 1, 50))
-    answers, _, buffer = steps.run([("buffer", (len(message) + spare,)), *script])
-    assert set(answers) == {"fine"}, (kind, record, answers)
-    assert buffer == message + steps.fresh(len(message) + spare)[len(message):]
     short = maker.rng.randrange(len(message))
-    answers, _, buffer = steps.run([("buffer", (short,)), *script])
-    places = [place for number, place in map(refusal, answers) if number == OUTPUT_SHORT]
-    assert places and places[0] > short, (answers, short)
+    for script in (by_cells, in_rows):
+        answers, _, buffer = steps.run([("buffer", (len(message) + spare,)), *script])
+        assert set(answers) == {"fine"}, (kind, record, answers)
+        assert buffer == message + steps.fresh(len(message) + spare)[len(message):]
+        answers, _, buffer = steps.run([("buffer", (short,)), *script])
+        places = [place for number, place in map(refusal, answers) if number == OUTPUT_SHORT]
+        assert places and places[0] > short, (answers, short)
+    check_alike(*([("buffer", (short,)), *script] for script in (by_cells, in_rows)))
 
 
 def wild_once(maker, tally, spoiled):
@@ -132,15 +137,38 @@ def check_first_refusals():
     changes nothing."""
     for script, verdict in (*text_scripts.by_turns(step=11), *value_scripts.by_turns(), *column_scripts.by_turns()):
         walk = list(steps.walked(script[:-1]))
-        first = next((n for n, (answer, *_) in enumerate(walk) if answer not in (None, "fine")), None)
+        first = first_refused(walk)
         assert (first is None) == (verdict == "accepted"), steps.text(script)
         if first is not None:
             _, state, buffer = walk[first - 1]
             assert walk[first] == (refused(verdict[0], state.position), state, buffer), steps.text(script)
 
 
+def first_refused(walk):
+    """The number of the first step that is refused, if one is."""
+    return next((n for n, (answer, *_) in enumerate(walk) if answer not in (None, "fine")), None)
+
+
+def check_whole_rows():
+    for by_cells, in_rows in row_scripts.by_turns(step=11):
+        check_alike(by_cells[:-1], in_rows[:-1])
+
+
+def check_alike(by_cells, in_rows):
+    """Of two scripts that write the same, in whole rows what is refused first is what is refused first by their steps, and changes nothing; if nothing
+    is, both leave the same."""
+    wanted, found = list(steps.walked(by_cells)), list(steps.walked(in_rows))
+    at, found_at = first_refused(wanted), first_refused(found)
+    assert (at is None) == (found_at is None), steps.text(in_rows)
+    if at is None:
+        assert found[-1][1:] == wanted[-1][1:], steps.text(in_rows)
+    else:
+        assert found[found_at] == (wanted[at][0], *found[found_at - 1][1:]), steps.text(in_rows)
+
+
 def check_order():
-    for script, answer in (*text_scripts.in_order(), *value_scripts.in_order(), *limit_scripts.in_order(), *column_scripts.in_order()):
+    for script, answer in (*text_scripts.in_order(), *value_scripts.in_order(), *limit_scripts.in_order(), *column_scripts.in_order(),
+                           *row_scripts.in_order()):
         *fine, last = steps.run(script)[0]
         assert set(fine) <= {"fine"} and last == answer, (steps.text(script)[:400], fine, last, answer)
 
@@ -212,8 +240,15 @@ def wild(maker, forging=0.5):
         name, arguments = likely(maker, stage, types) if rng.random() < 0.85 else anything(maker)
         script.append((name, arguments))
         _, state, _ = steps.run(script)
-        stage, types = state.stage, (state.types[state.inner_count:state.columns] if state.stage == writer.ROW_OPEN else (state.inner_type,))
+        stage, types = state.stage, due(state)
     return script + [("show", ())]
+
+
+def due(state):
+    """The types of the values that are due: of an element, of the cells that the open row lacks, or of a whole row's."""
+    if state.stage in (writer.TABLE_OPEN, writer.ROW_OPEN):
+        return state.types[state.inner_count if state.stage == writer.ROW_OPEN else 0:state.columns]
+    return (state.inner_type,)
 
 
 def wild_login(maker):
@@ -238,7 +273,7 @@ def likely(maker, stage, types):
     if stage == writer.REPLY_OPEN:
         return rng.choice((table(maker), table(maker), ("finish_reply", ())))
     if stage == writer.TABLE_OPEN:
-        return rng.choice((("open_row", ()), ("open_row", ()), ("close_table", ())))
+        return rng.choice((("open_row", ()), ("open_row", ()), some_row(maker, types), some_row(maker, types), ("close_table", ())))
     if stage == writer.ROW_OPEN:
         return ("add_cell", (some_value(maker, types),)) if types else ("close_row", ())
     return anything(maker)
@@ -249,6 +284,7 @@ def anything(maker):
     return rng.choice((("add_null", ()), ("add_value", (some_value(maker),)), ("add_byte_array", (maker.blob()[:40],)),
                        ("open_array", (rng.choice((*COLUMN_TYPES, ARRAY, NULL, 0, 2, 127, -128)),)), ("add_element", (some_value(maker),)),
                        ("close_array", ()), table(maker), ("open_row", ()), ("add_cell", (some_value(maker),)), ("close_row", ()),
+                       some_row(maker, rng.choices(TYPES, k=rng.randrange(4))),
                        ("close_table", ()), ("finish_invocation", ()), ("finish_reply", ())))
 
 
@@ -262,8 +298,18 @@ def some_value(maker, types=()):
         return wire_type, maker.wrong(CAUSE_OF_TYPE[wire_type])
     if wire_type == STRING and rng.random() < 0.3:
         return wire_type, maker.torn(maker.text())
+    return short_value(maker, wire_type)
+
+
+def short_value(maker, wire_type):
     value = maker.value(wire_type)
     return steps.given(wire_type, value[:40] if isinstance(value, bytes) else value)
+
+
+def some_row(maker, types):
+    """A whole row of these types, often with something that is refused."""
+    values = [short_value(maker, wire_type) for wire_type in types]
+    return row_scripts.spoiled(maker, values) if maker.rng.random() < 0.6 else row_scripts.scattered(maker.rng, values)
 
 
 def odd_value(rng, wire_type):

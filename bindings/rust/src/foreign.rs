@@ -6,6 +6,9 @@ pub type State = [u64; 11];
 /// The types of the open table's columns: as many as a table may have.
 pub type Types = [u8; 1024];
 
+/// The size of a null among the numbers of a whole row.
+pub const NULL_SIZE: u64 = u64::MAX;
+
 /// How many bytes of a ring are kept as they came.
 pub const RING_KEPT: usize = 38;
 
@@ -89,6 +92,10 @@ extern "C" {
         out: *mut u8, size: usize, state: *mut State, types: *const Types, wire_type: u8, null: bool, bytes: *const u8, length: usize,
     ) -> u64;
     pub fn chaloenpik_close_row(out: *mut u8, size: usize, state: *mut State, types: *const Types) -> u64;
+    pub fn chaloenpik_whole_row(
+        out: *mut u8, size: usize, state: *mut State, types: *const Types, cells: *const u64, numbers: usize, bytes: *const u8,
+        length: usize,
+    ) -> u64;
     pub fn chaloenpik_close_table(out: *mut u8, size: usize, state: *mut State, types: *const Types) -> u64;
     pub fn chaloenpik_finish_reply(out: *mut u8, size: usize, state: *mut State) -> u64;
 

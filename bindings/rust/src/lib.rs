@@ -155,7 +155,7 @@ pub use area::{turn_holes, Area, AreaWriter, Ring, Vertex};
 pub use call::{element, invocation, parameter, CallWriter, Invocation, Parameter};
 pub use card::{card_fit, make_card, open_card, Card, Fit, Reason};
 pub use field::{field, fields, owner, Field};
-pub use foreign::{AREA_KEPT, RING_KEPT};
+pub use foreign::{AREA_KEPT, NULL_SIZE, RING_KEPT};
 pub use login::{login_request, login_response, write_login_request, write_login_response, LoginRequest, LoginResponse, Welcome};
 pub use query::{cell, cell_place, column_name, column_type, columns, find_column, rows, tables};
 pub use refusal::{Cause, Refusal};

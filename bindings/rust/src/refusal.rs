@@ -46,14 +46,15 @@ pub enum Cause {
     NoColumn = 9,
     /// A well-formed card doesn't fit the table: another column stands at its position, or none. [`card_fit`](crate::card_fit) says why.
     CardMisfit = 10,
-    /// There is no such table, row, column, parameter, element, ring, vertex, field or byte, or a column's name isn't inside the lent names.
+    /// There is no such table, row, column, parameter, element, ring, vertex, field or byte, or a column's name isn't inside the lent names, or
+    /// a whole row's cell not inside the lent bytes.
     PastEnd = 11,
     /// A card breaks its form: at its first wrong byte; for a wrong size, the smaller of the sizes.
     BadCard = 12,
     /// A step of a writer comes at a stage that doesn't permit it: at the writer's position.
     WrongStage = 13,
-    /// A text isn't well-formed UTF-8: at the first byte that begins no well-formed sequence. Only what is read is refused so: writers take
-    /// `&str`.
+    /// A text isn't well-formed UTF-8: at the first byte that begins no well-formed sequence. Only what is read is refused so, and bytes that
+    /// [`ReplyWriter::whole_row`](crate::ReplyWriter::whole_row) is lent: else writers take `&str`.
     BadText = 20,
     /// A decimal is neither from -(10^38 - 1) to 10^38 - 1 units nor null: at its first byte.
     BadDecimal = 21,

@@ -1,10 +1,11 @@
 //! Responses: what a message says before its tables, and writing one step by step.
 
-use crate::foreign::{self, State, Types};
-use crate::refusal::{found, Refusal};
+use crate::foreign::{self, State, Types, NULL_SIZE};
+use crate::refusal::{found, Cause, Refusal};
 use crate::table::Column;
 use crate::value::{part, text, Form, Value, WireType};
 use crate::written;
+use std::borrow::Cow;
 use std::fmt;
 use std::mem::MaybeUninit;
 
@@ -156,7 +157,41 @@ pub struct ReplyWriter<'b> {
     /// no value before. There is room for all that a table may have: in a box, so that moving the writer doesn't copy it, and not lent by the
     /// caller, who has nothing to do with it. That is one allocation for a reply, and none for a step inside a table.
     types: Box<MaybeUninit<Types>>,
+    /// The same ones, for [`ReplyWriter::row`], whose values say their types.
+    columns: Vec<WireType>,
     position: usize,
+}
+
+/// The cells of a whole row in numbers, and the bytes among which those of text and binary cells stand.
+struct Cells<'v> {
+    numbers: Vec<u64>,
+    bytes: Cow<'v, [u8]>,
+}
+
+impl<'v> Cells<'v> {
+    fn with_room_for(columns: usize) -> Self {
+        Cells { numbers: Vec::with_capacity(2 * columns), bytes: Cow::Borrowed(&[]) }
+    }
+
+    fn push(&mut self, value: Value<'v>) {
+        let pair = match value.form() {
+            Form::Fixed(bits) => [(bits >> 64) as u64, bits as u64],
+            Form::Body(Some(body)) => [self.lend(body) as u64, body.len() as u64],
+            Form::Body(None) => [0, NULL_SIZE],
+        };
+        self.numbers.extend(pair);
+    }
+
+    /// Where the bytes start that are lent with the others. One value's are lent as they stand; those of several have to be brought together.
+    fn lend(&mut self, body: &'v [u8]) -> usize {
+        let start = self.bytes.len();
+        if start == 0 {
+            self.bytes = Cow::Borrowed(body);
+        } else {
+            self.bytes.to_mut().extend_from_slice(body);
+        }
+        start
+    }
 }
 
 /// A step inside a table, which is lent the types of its columns.
@@ -198,7 +233,7 @@ impl<'b> ReplyWriter<'b> {
                 exception.len(),
             )
         })?;
-        Ok(ReplyWriter { out, state, types: Box::new(MaybeUninit::uninit()), position })
+        Ok(ReplyWriter { out, state, types: Box::new(MaybeUninit::uninit()), columns: Vec::new(), position })
     }
 
     /// How many bytes are written.
@@ -234,26 +269,72 @@ impl<'b> ReplyWriter<'b> {
                 names.len(),
             )
         };
-        self.reached(answer)
+        self.position = found(answer)?;
+        self.columns.clear();
+        self.columns.extend(columns.iter().map(|column| column.wire_type));
+        Ok(self)
     }
 
-    /// A whole row: opened, filled and closed. If one of these steps is refused the writer is as it was before the first, though bytes
-    /// past its position may not be.
+    /// A whole row: opened, filled and closed, in one step. It is refused as the first of these would be, and then changes nothing.
     pub fn row<'v>(&mut self, values: impl IntoIterator<Item = Value<'v>>) -> Result<&mut Self, Refusal> {
-        let before = (self.state, self.position);
-        let written = self.whole_row(values);
-        if written.is_err() {
-            (self.state, self.position) = before;
+        let columns = self.columns.len();
+        let mut cells = Cells::with_room_for(columns);
+        for (column, value) in values.into_iter().take(columns + 1).enumerate() {
+            if self.columns.get(column).map_or(false, |&wire_type| wire_type != value.wire_type()) {
+                return Err(self.of_another_type(cells));
+            }
+            cells.push(value);
         }
-        written.map(|()| self)
+        self.whole_row(&cells.numbers, &cells.bytes)
     }
 
-    fn whole_row<'v>(&mut self, values: impl IntoIterator<Item = Value<'v>>) -> Result<(), Refusal> {
-        self.open_row()?;
-        for value in values {
-            self.cell(value)?;
+    /// The refusal of a row in which these cells come before one that isn't of its column's type. With these alone it has too few, and is refused
+    /// for that where the other cell would come, unless it is before.
+    fn of_another_type(&mut self, cells: Cells<'_>) -> Refusal {
+        let row_at = self.position;
+        match self.whole_row(&cells.numbers, &cells.bytes) {
+            Err(Refusal { cause: Cause::WrongStage, place }) if place != row_at => Refusal { cause: Cause::WireType, place },
+            Err(refusal) => refusal,
+            Ok(_) => Refusal::UNKNOWN_ANSWER,
         }
-        self.close_row().map(|_| ())
+    }
+
+    /// A whole row by numbers, two for each cell, and by bytes among which its text and binary cells stand; one number left over is ignored.
+    /// [`ReplyWriter::row`] makes both from values: this is for who has them already, and needs no copy of the bytes.
+    ///
+    /// A cell has its column's type. If that has a fixed size they are its upper and its lower 64 bits, without a sign; else where its bytes
+    /// start and how many they are, or for a null any number and [`NULL_SIZE`]. Refused 6: the number has more bits than its type; 11: the bytes
+    /// aren't among those that are lent; 13: there are too few cells, or too many; 20: a text isn't UTF-8. A refusal changes nothing.
+    ///
+    /// ```
+    /// use chaloenpik::{cell, ReplyHead, ReplyWriter, Value, WireType, NULL_SIZE};
+    ///
+    /// let vessels = b"BodilTug 9";
+    /// let mut out = [0; 200];
+    /// let mut reply = ReplyWriter::begin(&mut out, ReplyHead::default())?;
+    /// reply.open_table(0, [("ENGINE_ID", WireType::Integer), ("VESSEL", WireType::String)])?;
+    /// reply.whole_row(&[0, 2, 0, 5], vessels)?.whole_row(&[0, 9, 5, 5], vessels)?.whole_row(&[0, 11, 0, NULL_SIZE], vessels)?;
+    /// reply.close_table()?;
+    /// let message = reply.finish()?;
+    /// assert_eq!(cell(message, 0, 1, 1)?, Value::from("Tug 9"));
+    /// assert_eq!(cell(message, 0, 2, 1)?, Value::Text(None));
+    /// # Ok::<(), chaloenpik::Refusal>(())
+    /// ```
+    pub fn whole_row(&mut self, cells: &[u64], bytes: &[u8]) -> Result<&mut Self, Refusal> {
+        // SAFETY: as above.
+        let answer = unsafe {
+            foreign::chaloenpik_whole_row(
+                self.out.as_mut_ptr(),
+                self.out.len(),
+                &mut self.state,
+                self.types.as_ptr(),
+                cells.as_ptr(),
+                cells.len(),
+                bytes.as_ptr(),
+                bytes.len(),
+            )
+        };
+        self.reached(answer)
     }
 
     /// Opens a row of the open table.

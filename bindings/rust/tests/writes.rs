@@ -1,6 +1,7 @@
 use chaloenpik::{
     cell, columns, element, find_column, login_response, parameter, response, rows, write_login_request, write_login_response, CallWriter,
     Cause, Cell, ColumnEntry, Decimal, LoginRequest, Optional, Parameter, Refusal, ReplyHead, ReplyWriter, Table, Value, Welcome, WireType,
+    NULL_SIZE,
 };
 
 const LOGIN: &[u8] = include_bytes!("../../../samples/1-login.bin");
@@ -228,6 +229,157 @@ fn a_refused_row_leaves_the_writer_as_it_was() -> Result<(), Refusal> {
     let message = w.finish()?;
     assert_eq!(rows(message, 0), Ok(2));
     assert_eq!(cell(message, 0, 1, 0), Ok(Value::Integer(2)));
+    Ok(())
+}
+
+/// A row written in some way into a table of these types, in so much room: what that was answered, where the writer stands then, and the whole buffer.
+fn written_row(
+    room: usize, types: &[WireType], write: impl FnOnce(&mut ReplyWriter<'_>) -> Result<(), Refusal>,
+) -> (Result<(), Refusal>, usize, Vec<u8>) {
+    let mut out = vec![7; room];
+    let mut w = ReplyWriter::begin(&mut out, ReplyHead::default()).unwrap();
+    w.open_table(0, types.iter().map(|&wire_type| ("", wire_type))).unwrap();
+    let (written, position) = (write(&mut w), w.position());
+    (written, position, out)
+}
+
+fn by_steps(w: &mut ReplyWriter<'_>, values: &[Value<'_>]) -> Result<(), Refusal> {
+    w.open_row()?;
+    for &value in values {
+        w.cell(value)?;
+    }
+    w.close_row().map(|_| ())
+}
+
+/// Rows of every type that are right, too short, too long, and with a value in each column that is wrong or of another type; in room that ends at
+/// each of their bytes. What is refused is what the first step would be, and nothing is written then.
+#[test]
+fn a_row_is_the_run_of_its_steps() {
+    let every = [
+        Value::Tinyint(-5),
+        Value::Text(Some("\u{c6}r\u{f8}")),
+        Value::Smallint(-300),
+        Value::Integer(-70_000),
+        Value::Binary(Some(&[0, 255])),
+        Value::Bigint(-1),
+        Value::Float(-0.0),
+        Value::Text(None),
+        Value::Timestamp(-1),
+        Value::Decimal(Decimal::from_units(-1)),
+        Value::Point { longitude: -12.25, latitude: 55.5 },
+        Value::Geography(Some(&[192, 1])),
+        Value::Binary(Some(b"")),
+    ];
+    let types = every.map(|value| value.wire_type());
+    let mut tried = vec![every.to_vec(), every[..12].to_vec(), [&every[..], &every[..2]].concat(), vec![]];
+    let others = [
+        Value::Tinyint(1),
+        Value::Bigint(1),
+        Value::Timestamp(1),
+        Value::Text(Some("x")),
+        Value::Binary(None),
+        Value::Decimal(Decimal::from_units(i128::MAX)),
+        Value::NullPoint,
+        Value::Point { longitude: 360.0, latitude: 0.0 },
+        Value::Geography(Some(b"")),
+    ];
+    for column in 0..every.len() {
+        for other in others {
+            let mut row = every.to_vec();
+            row[column] = other;
+            tried.push(row);
+        }
+    }
+    let table = written_row(500, &types, |_| Ok(())).1;
+    let end = written_row(500, &types, |w| by_steps(w, &every)).1;
+    for values in &tried {
+        for room in (table..=end + 20).step_by(if values[..] == every { 1 } else { 7 }) {
+            let (wanted, stepped_to, stepped) = written_row(room, &types, |w| by_steps(w, values));
+            let (written, position, out) = written_row(room, &types, |w| w.row(values.iter().copied()).map(|_| ()));
+            assert_eq!(written, wanted, "{values:?} in {room} bytes");
+            let (position_wanted, left) =
+                if wanted.is_ok() { (stepped_to, stepped) } else { (table, written_row(room, &types, |_| Ok(())).2) };
+            assert_eq!((position, out), (position_wanted, left), "{values:?} in {room} bytes");
+        }
+    }
+}
+
+/// Where no row may be opened, its values aren't looked at; and of endless ones not all.
+#[test]
+fn a_row_without_its_table() -> Result<(), Refusal> {
+    let mut out = [0; 100];
+    let mut w = ReplyWriter::begin(&mut out, ReplyHead::default())?;
+    let wrong_stage = |place| Err(Refusal { cause: Cause::WrongStage, place });
+    let place = w.position();
+    assert_eq!(w.row([Value::Integer(1)]).map(|_| ()), wrong_stage(place));
+    w.open_table(0, [("A", WireType::Integer)])?.open_row()?;
+    let place = w.position();
+    assert_eq!(w.row([Value::Integer(1)]).map(|_| ()), wrong_stage(place));
+    assert_eq!(w.row([Value::Bigint(1)]).map(|_| ()), wrong_stage(place));
+    w.cell(1)?.close_row()?;
+    let place = w.position();
+    assert_eq!(w.row(std::iter::repeat(Value::Integer(1))).map(|_| ()), wrong_stage(place + 8));
+    w.close_table()?;
+    assert_eq!(w.row([Value::Bigint(1)]).map(|_| ()), wrong_stage(place));
+    Ok(())
+}
+
+/// Whole rows by numbers: bodies anywhere among the lent bytes, nulls, a number left over; and what is refused, which changes nothing.
+#[test]
+fn rows_by_numbers() -> Result<(), Refusal> {
+    let lent = "b\u{e9}c".as_bytes();
+    let mut out = [0; 200];
+    let mut w = ReplyWriter::begin(&mut out, ReplyHead::default())?;
+    w.open_table(0, [("A", WireType::Smallint), ("B", WireType::String), ("C", WireType::Decimal), ("D", WireType::Varbinary)])?;
+    w.whole_row(&[0, 0xfffe, 1, 2, u64::MAX, u64::MAX, 0, 4], lent)?;
+    w.whole_row(&[0, 0, u64::MAX, NULL_SIZE, 1 << 63, 0, 4, 0, 9], lent)?;
+    let position = w.position();
+    for (cells, bytes, cause, place) in [
+        (&[0, 1 << 16, 4, 9, 0, 0, 0, 9][..], lent, Cause::WireType, position + 4),
+        (&[0, 0, 4, 1, 0, 0, 0, 0], lent, Cause::PastEnd, 0),
+        (&[0, 0, u64::MAX, 1, 0, 0, 0, 0], lent, Cause::PastEnd, 0),
+        (&[0, 0, 0, 0, 0, 0, 0, 1], b"", Cause::PastEnd, 0),
+        (&[0, 0, 1, 1, 0, 0, 0, 9], lent, Cause::BadText, position + 6),
+        (&[0, 0, 0, 0, u64::MAX >> 1, 0, 0, 9], lent, Cause::BadDecimal, position + 10),
+        (&[0, 0, 0, 0, 0, 0, 0], lent, Cause::WrongStage, position + 26),
+        (&[0, 0, 0, 0, 0, 0, 0, 0, 0, 0], lent, Cause::WrongStage, position + 30),
+        (&[], lent, Cause::WrongStage, position + 4),
+    ] {
+        assert_eq!(w.whole_row(cells, bytes).map(|_| ()), Err(Refusal { cause, place }), "{cells:?}");
+        assert_eq!(w.position(), position);
+    }
+    w.close_table()?;
+    let message = w.finish()?;
+    let table = Table::new(message, 0)?;
+    let rows: Vec<Vec<Value>> = table.rows().map(|row| row.cells().map(|cell| cell.unwrap().value).collect()).collect();
+    let first = vec![Value::Smallint(-2), Value::from("\u{e9}"), Value::Decimal(Decimal::from_units(-1)), Value::Binary(Some(lent))];
+    let second = vec![Value::Smallint(0), Value::Text(None), Value::Decimal(None), Value::Binary(Some(b""))];
+    assert_eq!(rows, [first, second]);
+    Ok(())
+}
+
+/// The sample's rows, passed on by the places of their cells, so that none of its bytes is copied on the way.
+#[test]
+fn a_reply_is_passed_on_by_its_places() -> Result<(), Refusal> {
+    let table = Table::new(REPLY, 0)?;
+    let mut out = vec![0; REPLY.len()];
+    let mut w = ReplyWriter::begin(&mut out, sample_head())?;
+    w.open_table(0, table.columns())?;
+    for row in table.rows() {
+        let mut cells = Vec::new();
+        for cell in row.cells() {
+            let Cell { value, place, .. } = cell?;
+            let bits = || REPLY[place.clone()].iter().fold(0, |bits: u128, &byte| bits << 8 | u128::from(byte));
+            cells.extend(match value {
+                Value::Text(None) => [0, NULL_SIZE],
+                Value::Text(Some(text)) => [place.start as u64 + 4, text.len() as u64],
+                _ => [(bits() >> 64) as u64, bits() as u64],
+            });
+        }
+        w.whole_row(&cells, REPLY)?;
+    }
+    w.close_table()?;
+    assert_eq!(w.finish()?, REPLY);
     Ok(())
 }
 

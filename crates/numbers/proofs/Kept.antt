@@ -11,7 +11,7 @@ use Rattle.steps.specs.Plans.{Out}
 use Rattle.steps.specs.Steps.{Step, step}
 use Rattle.write.specs.Shown.{seen, shownAnswer, answered, came, typesAfter, Stepped, Opened}
 use Rattle.numbers.specs.Packed.{packed, itself}
-use Rattle.numbers.specs.Stored.{stateOf, kept, listed, WroteFrom, Wrote, WroteAll, WroteLogin}
+use Rattle.numbers.specs.Stored.{stateOf, kept, listed, Gave, WroteFrom, Wrote, WroteAll, WroteLogin}
 
 -- by the answer
 pub answer-packed : (old : State) (a : Res ℕ) (s : definition.State) → packed itself (toldAnswer (answered old a s .answer)) ≡ packed itself a
@@ -22,14 +22,17 @@ state-kept : (ns : List ℕ) (old : State) (a : Res ℕ) (s : definition.State) 
 state-kept ns old (ok n) s = refl
 state-kept ns old (no f p) s = refl
 
+pub gave : (o : Out definition.State) (st : State) (ns : List ℕ) {s : Outcome} {r : ℕ} {ns′ b′ : List ℕ} → (s ≡ came st o) × (b′ ≡ o .buffer)
+    → (r ≡ packed itself (toldAnswer (s .answer))) × (ns′ ≡ kept ns (s .answer) (s .state)) → Gave o ns r ns′ b′
+gave o st ns comes keeps = (
+  keeps .0 ∙ ap (λ (z : Outcome). packed itself (toldAnswer (z .answer))) (comes .0) ∙ answer-packed st (o .answer) (o .state),
+  keeps .1 ∙ ap (λ (z : Outcome). kept ns (z .answer) (z .state)) (comes .0) ∙ state-kept ns st (o .answer) (o .state),
+  comes .1,
+)
+
 pub wrote-from : (S : Step) (st : State) (ns types b b′ ns′ : List ℕ) {s : Outcome} {r : ℕ} → Stepped S st types b s b′ → (r ≡ packed itself (toldAnswer (s .answer))) × (ns′ ≡ kept ns (s .answer) (s .state))
     → WroteFrom S st ns types b r ns′ b′
-wrote-from S st ns types b b′ ns′ steps keeps =
-    let o = step S (seen st types) b in (
-      keeps .0 ∙ ap (λ (z : Outcome). packed itself (toldAnswer (z .answer))) (steps .0) ∙ answer-packed st (o .answer) (o .state),
-      keeps .1 ∙ ap (λ (z : Outcome). kept ns (z .answer) (z .state)) (steps .0) ∙ state-kept ns st (o .answer) (o .state),
-      steps .1,
-    )
+wrote-from S st ns types b b′ ns′ steps keeps = gave (step S (seen st types) b) st ns steps keeps
 
 pub wrote : (S : Step) (ns types b b′ ns′ : List ℕ) {st : State} {s : Outcome} {r : ℕ} → st ≡ stateOf ns → Stepped S st types b s b′
     → (r ≡ packed itself (toldAnswer (s .answer))) × (ns′ ≡ kept ns (s .answer) (s .state)) → Wrote S ns types b r ns′ b′

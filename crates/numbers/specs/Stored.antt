@@ -53,12 +53,13 @@ abbrev pub listed : List ℕ → Res ℕ → definition.State → List ℕ
 listed ns (ok n) s = numbersOf (shown s)
 listed ns (no f p) s = ns
 
--- a step from a state st, with the types that are lent and on a buffer b, answers r, and leaves the numbers ns′ and the buffer b′: all three are
--- what the definition gives; a refusal leaves the numbers ns
+-- a call answers r, and leaves the numbers ns′ and the buffer b′: all three are what the definition gives, o; a refusal leaves the numbers ns
+abbrev pub Gave : Out definition.State → List ℕ → ℕ → List ℕ → List ℕ → Type 0
+Gave o ns r ns′ b′ = (r ≡ packed itself (o .answer)) × (ns′ ≡ listed ns (o .answer) (o .state)) × (b′ ≡ o .buffer)
+
+-- a step from a state st, with the types that are lent and on a buffer b
 abbrev pub WroteFrom : Step → State → List ℕ → List ℕ → List ℕ → ℕ → List ℕ → List ℕ → Type 0
-WroteFrom s st ns types b r ns′ b′ =
-    let o = step s (seen st types) b in
-    (r ≡ packed itself (o .answer)) × (ns′ ≡ listed ns (o .answer) (o .state)) × (b′ ≡ o .buffer)
+WroteFrom s st ns types b r ns′ b′ = Gave (step s (seen st types) b) ns r ns′ b′
 
 -- from the state that the numbers say
 abbrev pub Wrote : Step → List ℕ → List ℕ → List ℕ → ℕ → List ℕ → List ℕ → Type 0

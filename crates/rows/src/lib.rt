@@ -148,7 +148,7 @@ pub fn close_table(out: &mut [u8], st: State, types: &[u8; COLUMNS]) -> Outcome
 }
 
 // What each step is answered, in a buffer of so many bytes.
-fn ask_open_row(st: State, types: &[u8; COLUMNS], size: usize) -> Answer
+pub fn ask_open_row(st: State, types: &[u8; COLUMNS], size: usize) -> Answer
     ensures { λ r. ⌜ r ≡ shownAnswer (answerOf (plan openRow (seen st (now (types .entry))) size) size) ⌝ }
 {
     let permitted = write::at_table(st, types, size);
@@ -156,7 +156,7 @@ fn ask_open_row(st: State, types: &[u8; COLUMNS], size: usize) -> Answer
     write::judge(permitted, Check::Fine, more, st.position, 4, size)
 }
 
-fn ask_close_row(st: State, types: &[u8; COLUMNS], size: usize) -> Answer
+pub fn ask_close_row(st: State, types: &[u8; COLUMNS], size: usize) -> Answer
     ensures { λ r. ⌜ r ≡ shownAnswer (answerOf (plan closeRow (seen st (now (types .entry))) size) size) ⌝ }
 {
     // as a slice, so that its length is known from here on
@@ -176,7 +176,7 @@ fn ask_close_table(st: State, types: &[u8; COLUMNS], size: usize) -> Answer
 }
 
 // What a cell is answered, by what is wrong with its value and by how many bytes it has.
-fn ask_cell(
+pub fn ask_cell(
     st: State,
     types: &[u8; COLUMNS],
     t: u8,
@@ -208,7 +208,7 @@ fn ask_cell(
 }
 
 // The type of the column that the next cell is in, of so many columns; 0 where there is none.
-fn next_type(columns: usize, types: &[u8; COLUMNS], cells: usize) -> u8
+pub fn next_type(columns: usize, types: &[u8; COLUMNS], cells: usize) -> u8
     ensures { λ r. ⌜ r ≡ getD (typesIn columns (now (types .entry))) cells 0 ⌝ }
 {
     if COLUMNS < columns {

@@ -33,11 +33,12 @@ answered p size {permitted} {limits} {v} {n} {a} e f g h = e ∙ rw (f, g) (go (
     go true (bad x q) h = refl
     go false w h = refl
 
-shown-ok : (r : Res ℕ) {a : Answer} {n : ℕ} → a ≡ shownAnswer r → a ≡ Is n → r ≡ ok n
+-- what the code was answered
+pub shown-ok : (r : Res ℕ) {a : Answer} {n : ℕ} → a ≡ shownAnswer r → a ≡ Is n → r ≡ ok n
 shown-ok (ok m) e f = cc
 shown-ok (no g p) e f = let z : Is _ ≡ No _ = sym f ∙ e in cc
 
-shown-no : (r : Res ℕ) {a : Answer} {x : Refusal} → a ≡ shownAnswer r → a ≡ No x → r ≡ no (x .fault) (x .place)
+pub shown-no : (r : Res ℕ) {a : Answer} {x : Refusal} → a ≡ shownAnswer r → a ≡ No x → r ≡ no (x .fault) (x .place)
 shown-no (ok m) e f = let z : No _ ≡ Is _ = sym f ∙ e in cc
 shown-no (no g p) e f = let z : No _ ≡ No _ = sym f ∙ e in cc
 

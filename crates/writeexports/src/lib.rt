@@ -12,7 +12,7 @@ ghost use Rattle.steps.specs.Logins.{loginRequest, loginResponse};
 ghost use Rattle.write.specs.Shown.{zero};
 ghost use Rattle.columns.specs.Entries.{columnsOf as entriesWith};
 ghost use Rattle.numbers.specs.Entries.{entriesOf};
-ghost use Rattle.writeexports.specs.Given.{opening};
+ghost use Rattle.writeexports.specs.Given.{opening, RowGave};
 ghost use Rattle.login.specs.Parts.{welcome};
 ghost use Rattle.numbers.specs.Stored.{WroteFrom, Wrote, WroteAll, WroteLogin};
 
@@ -255,6 +255,23 @@ pub extern "C" fn chaloenpik_close_row(
 {
     let st = numbers::load(state);
     let step = rows::close_row(out, st, types);
+    numbers::keep(state, step)
+}
+
+// Writes a whole row, of which no cell is written where one is refused. Numbers say its cells, two to each: of a type of a fixed size the upper and
+// lower 64 bits; of a text or binary type where its bytes start among those that are lent and how many they are, or that it is null.
+#[no_mangle]
+pub extern "C" fn chaloenpik_whole_row(
+    out: &mut [u8],
+    state: &mut [u64; 11],
+    types: &[u8; COLUMNS],
+    cells: &[u64],
+    bytes: &[u8],
+) -> u64
+    ensures { λ r. ⌜ RowGave (now (bytes .entry)) (now (cells .entry)) (now (state .entry)) (now (types .entry)) (now (out .entry)) r (now (state .exit)) (now (out .exit)) ⌝ }
+{
+    let st = numbers::load(state);
+    let step = whole::whole_row(out, st, types, cells, bytes);
     numbers::keep(state, step)
 }
 

@@ -1,0 +1,6 @@
+-- The proofs. What two numbers say of a cell (Values), what is sure of it and what it is answered (Sures), the steps of a row in turn (Answers), and what they
+-- write (Lays).
+pub mod Values
+pub mod Sures
+pub mod Answers
+pub mod Lays
