@@ -30,13 +30,18 @@ gave o st ns comes keeps = (
   comes .1,
 )
 
+-- from the state that the numbers say
+pub gave-from : (f : State → Out definition.State) (ns : List ℕ) {st : State} {s : Outcome} {r : ℕ} {ns′ b′ : List ℕ} → st ≡ stateOf ns → (s ≡ came st (f st)) × (b′ ≡ f st .buffer)
+    → (r ≡ packed itself (toldAnswer (s .answer))) × (ns′ ≡ kept ns (s .answer) (s .state)) → Gave (f (stateOf ns)) ns r ns′ b′
+gave-from f ns {st} {s} {r} {ns′} {b′} is comes keeps = subst (λ (z : State). Gave (f z) ns r ns′ b′) is (gave (f st) st ns comes keeps)
+
 pub wrote-from : (S : Step) (st : State) (ns types b b′ ns′ : List ℕ) {s : Outcome} {r : ℕ} → Stepped S st types b s b′ → (r ≡ packed itself (toldAnswer (s .answer))) × (ns′ ≡ kept ns (s .answer) (s .state))
     → WroteFrom S st ns types b r ns′ b′
 wrote-from S st ns types b b′ ns′ steps keeps = gave (step S (seen st types) b) st ns steps keeps
 
 pub wrote : (S : Step) (ns types b b′ ns′ : List ℕ) {st : State} {s : Outcome} {r : ℕ} → st ≡ stateOf ns → Stepped S st types b s b′
     → (r ≡ packed itself (toldAnswer (s .answer))) × (ns′ ≡ kept ns (s .answer) (s .state)) → Wrote S ns types b r ns′ b′
-wrote S ns types b b′ ns′ {st} {s} {r} is steps keeps = subst (λ (z : State). WroteFrom S z ns types b r ns′ b′) is (wrote-from S st ns types b b′ ns′ steps keeps)
+wrote S ns types b b′ ns′ is steps keeps = gave-from (λ (z : State). step S (seen z types) b) ns is steps keeps
 
 pub wrote-all : (S : Step) (ns types b b′ ns′ types′ : List ℕ) {st : State} {s : Outcome} {r : ℕ} → st ≡ stateOf ns → Opened S st types b s types′ b′
     → (r ≡ packed itself (toldAnswer (s .answer))) × (ns′ ≡ kept ns (s .answer) (s .state)) → WroteAll S ns types b r ns′ types′ b′

@@ -1,10 +1,8 @@
 -- `writeexports::chaloenpik_whole_row` meets its contract: the state is read from the numbers, and what the row leaves is kept in them. Assumes nothing.
-use mathlib.Core.Path.{subst}
 use Rattle.write.specs.declared.State.{State}
 use Rattle.write.specs.Shown.{seen}
 use Rattle.whole.specs.Rows.{wholeRow}
-use Rattle.numbers.specs.Stored.{Gave}
-use Rattle.numbers.proofs.Kept.{gave}
+use Rattle.numbers.proofs.Kept.{gave-from}
 use borrow.Author.Needs.{needs}
 use Rattle.writeexports.proofs.chaloenpik_whole_row.Statement.{statement}
 use Rattle.writeexports.proofs.chaloenpik_whole_row.Tie as tie
@@ -25,9 +23,7 @@ returns : tie.Need-returns
 returns c =
     let before-keep = c .before .before .before .before in
     let a = before-keep .before .before .before .before .before .before .before .args in
-    let st = before-keep .before .before .load .result in
-    subst (λ (z : State). Gave (wholeRow (a .bytes .now) (a .cells .now) (seen z (a .types .now)) (a .out .now)) (a .state .now) _ _ _) (before-keep .before .before .load .ensures)
-    (gave (wholeRow (a .bytes .now) (a .cells .now) (seen st (a .types .now)) (a .out .now)) st (a .state .now) (before-keep .whole-row .ensures) (c .keep .ensures))
+    gave-from (λ (z : State). wholeRow (a .bytes .now) (a .cells .now) (seen z (a .types .now)) (a .out .now)) (a .state .now) (before-keep .before .before .load .ensures) (before-keep .whole-row .ensures) (c .keep .ensures)
 
 pub chaloenpik-whole-row-spec : {M : Type 1} → statement M
 chaloenpik-whole-row-spec =
