@@ -11,7 +11,6 @@ use lib.Seq.{getD-take, length-take-le}
 use lib.Dec.{leb, ltb, eqb}
 use borrow.Author.Tests.{leb-true, le-leb, lt-ltb, lt-leb, eq-eqb}
 use Rattle.format.specs.declared.Fault.{Fault}
-use Rattle.format.specs.declared.Answer.the-variants.{Is}
 use Rattle.format.specs.Result.{Res, ok, no, bind, pick}
 use Rattle.format.specs.Format.{fine}
 use Rattle.format.specs.Value.{Value, value, isColumn}
@@ -19,7 +18,7 @@ use Rattle.format.specs.Message.{mostColumns, mostItems, mostRow, unlimited}
 use Rattle.format.proofs.Numbers.{length-numBytes}
 use Rattle.format.proofs.Results.{and-true-both, no-ok, ok-same}
 use Rattle.steps.specs.declared.Stage.the-variants.{Table, Row}
-use Rattle.steps.specs.State.{State, sound, messageSound, outerSound, allColumns, atStage}
+use Rattle.steps.specs.State.{State, sound, messageSound, outerSound, stageNumber, allColumns, atStage}
 use Rattle.steps.specs.Next.{tableAt}
 use Rattle.steps.specs.Plans.{Plan, answerOf}
 use Rattle.steps.specs.Arguments.{valueFault}
@@ -27,12 +26,11 @@ use Rattle.steps.specs.Steps.{Step, openRow, cell, closeRow, plan, messageEnd}
 use Rattle.steps.proofs.Plans.{Fine, Accepted, answer-ok}
 use Rattle.steps.proofs.Sound.{Around, around, at-stage}
 use Rattle.write.specs.declared.State.{State as Code}
-use Rattle.write.specs.Shown.{seen, typesIn, shownAnswer}
+use Rattle.write.specs.Shown.{seen, typesIn}
 use Rattle.write.specs.Shared.{tabled, countIn}
 use Rattle.rows.proofs.Cells.{cell-counts}
 use Rattle.whole.specs.Rows.{valueIn, cellStep, stepsFrom, cellSteps}
-use Rattle.whole.specs.declared.Run.{Run}
-use Rattle.whole.specs.Asked.{asked, typeNow, answers, inRow, rowAnswer, restAnswer, answersFrom, Opened, EndOf, RunOf, Sure}
+use Rattle.whole.specs.Asked.{asked, typeNow, answers, inRow, rowAnswer, restAnswer, answersFrom, opens, Opened, EndOf, PastAll, Sure}
 
 -- what is known of a row that was opened
 pub record Ground (st : State) (size first : ℕ) : Type 0 where
@@ -150,21 +148,6 @@ module _ (bytes ns : List ℕ) (st : State) (size first : ℕ) (g : Ground st si
   pub from-closed : (k at : ℕ) → k ≡ length ns / 2 → k ≡ length (st .outer .types) → first ≤ at → at ≤ end → answersFrom bytes ns st size k at ≡ ok at
   from-closed k at h all lo hi = rest-end bytes ns (inRow st at k) size (omega arith) ∙ close-taken st size first g at k end ends lo hi all
 
--- the same in the code's terms: the types are the first of those that are lent
-module _ (bytes ns types : List ℕ) (columns from end : ℕ) (few : columns ≤ length types) (st : State) (size : ℕ) (e : Opened st size from) (ends : EndOf from size end) (same : st .outer .types ≡ take columns types) where
-  wide : length (st .outer .types) ≡ columns
-  wide = ap length same ∙ length-take-le columns types few
-
-  pub past-turn : (k at n : ℕ) → k < columns → k < length ns / 2 → from ≤ at → at + n ≤ end → Sure bytes at (getD types k 0) (getD ns (2 * k) 0) (getD ns (2 * k + 1) 0) n
-      → answersFrom bytes ns st size (k + 1) (at + n) ≡ answersFrom bytes ns st size k at
-  past-turn k at n h i lo hi s =
-      let t : getD types k 0 ≡ getD (st .outer .types) k 0 = sym (getD-take columns types k 0 h) ∙ ap (λ (l : List ℕ). getD l k 0) (sym same) in
-      from-sure bytes ns st size from (ground st size from e) end ends k at n i (omega (arith, wide)) lo hi
-      (subst (λ (t : ℕ). Sure bytes at t (getD ns (2 * k) 0) (getD ns (2 * k + 1) 0) n) t s)
-
-  pub past-run : (k at : ℕ) → k ≤ columns → k ≤ length ns / 2 → answersFrom bytes ns st size k at ≡ answersFrom bytes ns st size 0 from → RunOf bytes ns st size from (record { cells = k; at = at })
-  past-run k at h i r = record { pairs = i; columns = omega (arith, wide); same = r }
-
 -- a row that can't be opened, and one that was
 pub row-refused : (bytes ns : List ℕ) (st : State) (size : ℕ) (f : Fault) (p : ℕ) → answerOf (plan openRow st size) size ≡ no f p → rowAnswer bytes ns st size ≡ no f p
 unfolding answers
@@ -221,12 +204,65 @@ asked-counts bytes ns st types size k {n} e = go (valueIn bytes (typeNow (seen s
     go none e = absurd (no-ok e)
     go (some v) e = let t = typeNow (seen st types) in cell-counts st types size t v (answer-ok (plan (cell t v) (seen st types) size) size n e)
 
--- a row of which all cells were passed, where each has its column
-pub run-closed : (bytes ns : List ℕ) (st : Code) (types : List ℕ) (size first end : ℕ) (r : Run) → Opened (seen st types) size first → EndOf first size end → first ≤ r .at → r .at ≤ end
-    → RunOf bytes ns (seen st types) size first r → r .cells ≡ st .columns → st .columns ≡ length ns / 2 → Is (r .at) ≡ shownAnswer (answersFrom bytes ns (seen st types) size 0 first)
-run-closed bytes ns st types size first end r e ends lo hi run all pairs =
+-- cells that are passed, one after the other, where the types that are lent are those of the columns
+module _ (bytes ns types : List ℕ) (from end : ℕ) where
+  -- those that are left are answered as all are
+  abbrev pub Passed : ℕ → ℕ → Type 0
+  Passed k at = (st : State) (size : ℕ) → Opened st size from → EndOf from size end → st .outer .types ≡ take (length ns / 2) types
+      → answersFrom bytes ns st size k at ≡ answersFrom bytes ns st size 0 from
+
+  pub past-turn : (k at n : ℕ) → length ns / 2 ≤ length types → k < length ns / 2 → from ≤ at → at + n ≤ end → Sure bytes at (getD types k 0) (getD ns (2 * k) 0) (getD ns (2 * k + 1) 0) n
+      → Passed k at → Passed (k + 1) (at + n)
+  past-turn k at n few h lo hi s before st size e ends same =
+      let wide : length (st .outer .types) ≡ length ns / 2 = ap length same ∙ length-take-le (length ns / 2) types few in
+      let t : getD types k 0 ≡ getD (st .outer .types) k 0 = sym (getD-take (length ns / 2) types k 0 h) ∙ ap (λ (l : List ℕ). getD l k 0) (sym same) in
+      from-sure bytes ns st size from (ground st size from e) end ends k at n h (omega arith) lo hi (subst (λ (t : ℕ). Sure bytes at t (getD ns (2 * k) 0) (getD ns (2 * k + 1) 0) n) t s)
+      ∙ before st size e ends same
+
+  pub past-end : (k at : ℕ) → length ns / 2 ≤ length types → k ≡ length ns / 2 → from ≤ at → at ≤ end → allColumns (take k types) ≡ true → Passed k at → PastAll bytes ns types from end at
+  past-end k at few e lo hi all same = record { low = lo; high = hi; few = few; columns = subst (λ (m : ℕ). allColumns (take m types) ≡ true) e all; same = subst (λ (m : ℕ). Passed m at) e same }
+
+-- what the tests of a state say of its places
+pub opens-room : (st : Code) (size : ℕ) → opens st size ≡ true → (st .position + 4 ≤ messageEnd) × (st .position + 4 ≤ size) × (st .columns ≤ mostColumns)
+opens-room st size e =
+    let x = and-true-both (eqb (stageNumber (st .stage)) (stageNumber Table)) _ e in
+    let y = and-true-both (leb (st .count) mostItems && (leb (st .rows + 1) unlimited && leb (st .columns) mostColumns)) _ (x .1) in
+    let counts = and-true-both (leb (st .count) mostItems) _ (y .0) in
+    let more = and-true-both (leb (st .rows + 1) unlimited) _ (counts .1) in
+    let z = and-true-both (leb 4 (st .«count_at») && (leb (st .«count_at» + 2) (st .«table_at») && leb (st .«table_at» + 4) (st .«rows_at»))) _ (y .1) in
+    let row = and-true-both (leb (st .«rows_at» + 4) (st .position)) _ (z .1) in
+    let room = and-true-both (leb (st .position + 4) messageEnd) _ (row .1) in
+    (leb-true (st .position + 4) messageEnd (room .0), leb-true (st .position + 4) size (room .1), leb-true (st .columns) mostColumns (more .1))
+
+-- a row can be opened in a state that is sound, and whose types are columns'
+opened-so : (st : Code) (types : List ℕ) (size : ℕ) → opens st size ≡ true → allColumns (take (st .columns) types) ≡ true → Opened (seen st types) size (st .position + 4)
+unfolding sound messageSound outerSound
+opened-so st types size e all =
+    let x = and-true-both (eqb (stageNumber (st .stage)) (stageNumber Table)) _ e in
+    let y = and-true-both (leb (st .count) mostItems && (leb (st .rows + 1) unlimited && leb (st .columns) mostColumns)) _ (x .1) in
+    let counts = and-true-both (leb (st .count) mostItems) _ (y .0) in
+    let more = and-true-both (leb (st .rows + 1) unlimited) _ (counts .1) in
+    let z = and-true-both (leb 4 (st .«count_at») && (leb (st .«count_at» + 2) (st .«table_at») && leb (st .«table_at» + 4) (st .«rows_at»))) _ (y .1) in
+    let front = and-true-both (leb 4 (st .«count_at»)) _ (z .0) in
+    let table = and-true-both (leb (st .«count_at» + 2) (st .«table_at»)) _ (front .1) in
+    let row = and-true-both (leb (st .«rows_at» + 4) (st .position)) _ (z .1) in
+    let room = and-true-both (leb (st .position + 4) messageEnd) _ (row .1) in
+    let rows = leb-true (st .rows + 1) unlimited (more .0) in
+    let fits = leb-true (st .position + 4) size (room .1) in
+    let few = leb-true (st .columns) mostColumns (more .1) in
+    let wide : length (take (st .columns) types) ≤ mostColumns = omega (arith, length-take (st .columns) types) in
+    simp (more .1, x .0, counts .0, more .0, le-leb (st .rows) unlimited (omega arith), le-leb _ _ wide, all, front .0, table .0, table .1, row .0, le-leb (st .position) size (omega arith), length-numBytes, room .0, room .1)
+
+-- a row of which all cells were passed is taken
+pub end-sure : (bytes ns : List ℕ) (st : Code) (types : List ℕ) (size end r : ℕ) → opens st size ≡ true → st .columns ≡ length ns / 2 → EndOf (st .position + 4) size end
+    → PastAll bytes ns types (st .position + 4) end r → rowAnswer bytes ns (seen st types) size ≡ ok r
+end-sure bytes ns st types size end r e pairs ends past =
     let s = seen st types in
-    let few = columns-few st types size first e in
-    let wide : length (s .outer .types) ≤ st .columns = omega (arith, ap length (types-are st types few), length-take (st .columns) types) in
-    let closed = from-closed bytes ns s size first (ground s size first e) end ends (r .cells) (r .at) (all ∙ pairs) (omega (arith, run .columns)) lo hi in
-    ap shownAnswer (sym closed ∙ run .same)
+    let first = st .position + 4 in
+    let columns : allColumns (take (st .columns) types) ≡ true = subst (λ (m : ℕ). allColumns (take m types) ≡ true) (sym pairs) (past .columns) in
+    let o = opened-so st types size e columns in
+    let are = types-are st types (columns-few st types size first o) in
+    let same : s .outer .types ≡ take (length ns / 2) types = are ∙ ap (λ (m : ℕ). take m types) pairs in
+    let wide : length ns / 2 ≡ length (s .outer .types) = sym (ap length same ∙ length-take-le (length ns / 2) types (past .few)) in
+    row-opened bytes ns s size first o
+    ∙ (sym (past .same s size o ends same) ∙ from-closed bytes ns s size first (ground s size first o) end ends (length ns / 2) r refl wide (past .low) (past .high))

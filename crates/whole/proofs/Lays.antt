@@ -1,5 +1,5 @@
 -- What the cells of a row write, in turn; and the steps of a row that is taken: they write its cells one behind the other, and then its length.
-use Prim.Native.Nat.{ℕ, zero, suc, _+_, _-_, _*_, _/_, _<_, _≤_}
+use Prim.Native.Nat.{ℕ, zero, suc, _+_, _-_, _*_, _/_, _^_, _<_, _≤_}
 use native.Mathlib.Omega.{arith}
 use native.Mathlib.Nat.{add-zero}
 use mathlib.Core.Path.{_≡_, refl, sym, ap, _∙_, subst}
@@ -16,12 +16,12 @@ use Rattle.format.specs.declared.Answer.{Answer}
 use Rattle.format.specs.declared.Answer.the-variants.{Is, No}
 use Rattle.format.specs.Result.{Res, ok, no}
 use Rattle.format.specs.Number.{numBytes}
-use Rattle.format.specs.Value.{Value, value, isCounted}
+use Rattle.format.specs.Value.{Value, value, isCounted, widthOf}
 use Rattle.format.specs.Message.{mostColumns, unlimited}
 use Rattle.format.proofs.Numbers.{length-numBytes}
 use Rattle.format.proofs.Results.{and-true-both, no-ok, ok-same, bound}
 use Rattle.put.specs.Put.{put}
-use Rattle.put.proofs.Laws.{put-length, put-nothing}
+use Rattle.put.proofs.Laws.{put-length, put-nothing, lower-half}
 use Rattle.steps.specs.declared.Stage.the-variants.{Table, Row}
 use Rattle.steps.specs.State.{State, atStage}
 use Rattle.steps.specs.Next.{tableAt}
@@ -41,6 +41,19 @@ use Rattle.whole.specs.Asked.{asked, answers, inRow, rowAnswer, Opened}
 use Rattle.whole.specs.Laid.{Fits, cellBytes, cellAt, laid, FitAll}
 use Rattle.whole.proofs.Values.{cell-stands, cell-bytes}
 use Rattle.whole.proofs.Answers.{ground, columns-few, types-are}
+
+-- a number of at most 8 bytes is its lower half's
+pub low-number : (t w upper lower : ℕ) → widthOf t ≡ w → w ≤ 8 → numBytes (widthOf t) (upper * 2 ^ 64 + lower) ≡ numBytes w lower
+low-number t w upper lower e h = ap (λ (m : ℕ). numBytes m (upper * 2 ^ 64 + lower)) e ∙ lower-half w upper lower h
+
+pub low-put : (b : List ℕ) (at t w upper lower : ℕ) {r : ℕ} {c : List ℕ} → widthOf t ≡ w → w ≤ 8 → (r ≡ at + w) × (c ≡ put b at (numBytes w lower))
+    → (r ≡ at + widthOf t) × (c ≡ put b at (numBytes (widthOf t) (upper * 2 ^ 64 + lower)))
+low-put b at t w upper lower e h p = (p .0 ∙ ap (λ (m : ℕ). at + m) (sym e), p .1 ∙ ap (λ (l : List ℕ). put b at l) (sym (low-number t w upper lower e h)))
+
+-- a type that no value of a fixed size has writes nothing
+pub none-put : (b : List ℕ) (at t upper lower : ℕ) → widthOf t ≡ 0 → (at ≡ at + widthOf t) × (b ≡ put b at (numBytes (widthOf t) (upper * 2 ^ 64 + lower)))
+unfolding numBytes
+none-put b at t upper lower e = (sym (ap (λ (m : ℕ). at + m) e ∙ add-zero at), sym (ap (λ (m : ℕ). put b at (numBytes m (upper * 2 ^ 64 + lower))) e ∙ put-nothing b at))
 
 -- the next cell, of those that are left, and no cell left
 module _ (bytes types ns : List ℕ) (pairs : ℕ) where

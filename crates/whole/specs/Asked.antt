@@ -1,22 +1,24 @@
 -- What steps are answered, by their states and by how many bytes the buffer has: what stands in it doesn't count.
 use Prim.Native.Nat.{ℕ, _+_, _-_, _/_, _≤_}
+use mathlib.Core.Bool.{Bool, true, _&&_}
 use mathlib.Core.Path.{_≡_}
 use mathlib.Core.List.{List, [], _∷_}
 use mathlib.Core.Option.{Option, some, none}
-use lib.ListN.{length, getD}
+use lib.ListN.{length, take, getD}
+use lib.Dec.{leb, eqb}
 use Rattle.format.specs.declared.Fault.the-variants.{PastEnd}
 use Rattle.format.specs.Result.{Res, ok, no, bind}
 use Rattle.format.specs.Format.{fine}
 use Rattle.format.specs.Value.{Value, value}
-use Rattle.format.specs.Message.{mostRow}
-use Rattle.steps.specs.declared.Stage.the-variants.{Row}
-use Rattle.steps.specs.State.{State}
+use Rattle.format.specs.Message.{mostItems, mostColumns, mostRow, unlimited}
+use Rattle.steps.specs.declared.Stage.the-variants.{Table, Row}
+use Rattle.steps.specs.State.{State, stageNumber, allColumns}
+use Rattle.write.specs.declared.State.{State as Code}
 use Rattle.steps.specs.Next.{tableAt}
 use Rattle.steps.specs.Plans.{answerOf}
 use Rattle.steps.specs.Arguments.{valueFault}
 use Rattle.steps.specs.Steps.{Step, openRow, plan, messageEnd}
 use Rattle.whole.specs.Rows.{valueIn, stepsFrom, cellSteps}
-use Rattle.whole.specs.declared.Run.{Run}
 
 abbrev pub asked : Option Step → State → ℕ → Res ℕ
 asked none st size = no PastEnd 0
@@ -63,11 +65,22 @@ restAnswer bytes ns st size =
 abbrev pub answersFrom : List ℕ → List ℕ → State → ℕ → ℕ → ℕ → Res ℕ
 answersFrom bytes ns st size k at = restAnswer bytes ns (inRow st at k) size
 
--- after some of the cells, those that are left are answered as all are
-pub record RunOf (bytes ns : List ℕ) (st : State) (size from : ℕ) (r : Run) : Type 0 where
-  pub pairs : r .cells ≤ length ns / 2
-  pub columns : r .cells ≤ length (st .outer .types)
-  pub same : answersFrom bytes ns st size (r .cells) (r .at) ≡ answersFrom bytes ns st size 0 from
+-- whether a row can be opened in a state, if the types of its columns are columns'
+abbrev pub opens : Code → ℕ → Bool
+opens st size =
+    eqb (stageNumber (st .stage)) (stageNumber Table)
+    && ((leb (st .count) mostItems && (leb (st .rows + 1) unlimited && leb (st .columns) mostColumns))
+    && ((leb 4 (st .«count_at») && (leb (st .«count_at» + 2) (st .«table_at») && leb (st .«table_at» + 4) (st .«rows_at»)))
+    && (leb (st .«rows_at» + 4) (st .position) && (leb (st .position + 4) messageEnd && leb (st .position + 4) size))))
+
+-- all cells of a row are taken, from a place on, and end at r: their types are columns', and the closing is asked next
+pub record PastAll (bytes ns types : List ℕ) (from end r : ℕ) : Type 0 where
+  pub low : from ≤ r
+  pub high : r ≤ end
+  pub few : length ns / 2 ≤ length types
+  pub columns : allColumns (take (length ns / 2) types) ≡ true
+  pub same : (st : State) (size : ℕ) → Opened st size from → EndOf from size end → st .outer .types ≡ take (length ns / 2) types
+      → answersFrom bytes ns st size (length ns / 2) r ≡ answersFrom bytes ns st size 0 from
 
 -- a value without a fault, of so many bytes
 pub record Sure (bytes : List ℕ) (p t a b r : ℕ) : Type 0 where

@@ -10,27 +10,23 @@ use write::Check;
 use write::Outcome;
 use write::State;
 ghost use mathlib.Core.Path.{_≡_};
-ghost use Prim.Native.Nat.{ℕ, _+_, _/_, _<_, _≤_};
+ghost use Prim.Native.Nat.{ℕ, _+_, _*_, _/_, _^_, _<_, _≤_};
 ghost use mathlib.Core.Bool.{true};
-ghost use lib.ListN.{length, take};
-ghost use Rattle.format.specs.Value.{isCounted};
-ghost use Rattle.format.specs.Message.{mostColumns, unlimited};
+ghost use lib.ListN.{length};
+ghost use Rattle.format.specs.Result.{ok, pick};
+ghost use Rattle.format.specs.Number.{numBytes};
+ghost use Rattle.format.specs.Value.{isCounted, widthOf, fixedFine};
+ghost use Rattle.format.specs.Message.{mostColumns};
 ghost use Rattle.put.specs.Put.{put};
+ghost use Rattle.steps.specs.Arguments.{isNumberOf};
 ghost use Rattle.steps.specs.Steps.{messageEnd};
-ghost use Rattle.steps.specs.State.{State as Stated};
 ghost use Rattle.write.specs.Shown.{seen, shownAnswer};
 ghost use Rattle.whole.specs.Rows.{valueIn, bodyIn, cellStep, WroteRow};
-ghost use Rattle.whole.specs.Asked.{asked, typeNow, rowAnswer, answersFrom, Opened, EndOf, RunOf, Sure};
+ghost use Rattle.whole.specs.Asked.{asked, typeNow, rowAnswer, answersFrom, opens, Opened, EndOf, PastAll, Sure};
 ghost use Rattle.whole.specs.Laid.{cellBytes, bodyBytes, Fits, Stands, laid, FitAll};
 
 // The size that says that a text or binary cell is null.
 pub const NULL_SIZE: u64 = 0xffff_ffff_ffff_ffff;
-
-// How many cells were passed, and where the next one goes.
-struct Run {
-    cells: usize,
-    at: usize,
-}
 
 // Writes a row.
 pub fn whole_row(
@@ -65,34 +61,54 @@ pub fn whole_row(
 fn ask_row(st: State, types: &[u8; COLUMNS], cells: &[u64], bytes: &[u8], size: usize) -> Answer
     ensures { λ r. ⌜ r ≡ shownAnswer (rowAnswer (now (bytes .entry)) (now (cells .entry)) (seen st (now (types .entry))) size) ⌝ }
 {
-    let opened = rows::ask_open_row(st, types, size);
-    let Answer::Is(first) = opened else {
-        return opened;
-    };
-    ask_cells(st, first, types, cells, bytes, size)
+    let end = sure_end(st, types, cells, bytes, size);
+    if end != 0 {
+        return Answer::Is(end);
+    }
+    ask_each(st, types, cells, bytes, size)
 }
 
-// What the cells of a row that was opened are answered, and the closing behind them: where all are surely taken that is seen without the state.
-fn ask_cells(
-    st: State,
-    first: usize,
-    types: &[u8; COLUMNS],
-    cells: &[u64],
-    bytes: &[u8],
-    size: usize,
-) -> Answer
-    requires { ⌜ Opened (seen st (now types)) size first ⌝ }
-    ensures { λ r. ⌜ r ≡ shownAnswer (answersFrom (now (bytes .entry)) (now (cells .entry)) (seen st (now (types .entry))) size 0 first) ⌝ }
+// Where a row ends that is surely taken; 0 where that isn't sure. A cell that is taken has a column's type, so that the types aren't looked at before.
+fn sure_end(st: State, types: &[u8; COLUMNS], cells: &[u64], bytes: &[u8], size: usize) -> usize
+    ensures { λ r. ⌜ (0 < r → rowAnswer (now (bytes .entry)) (now (cells .entry)) (seen st (now (types .entry))) size ≡ ok r) ⌝ }
 {
-    let end = row_end(first, size);
-    let columns = st.columns;
-    let run = past_cells(first, end, columns, types, cells, bytes);
-    if run.cells == columns {
-        if columns == cells.len() / 2 {
-            return Answer::Is(run.at);
-        }
+    if !opens(st, size) {
+        return 0;
     }
-    ask_rest(st, run, types, cells, bytes, size)
+    if st.columns != cells.len() / 2 {
+        return 0;
+    }
+    let first = st.position + 4;
+    past_cells(first, row_end(first, size), types, cells, bytes)
+}
+
+// Whether a row can be opened in a state, if the types of its columns are columns'.
+fn opens(st: State, size: usize) -> bool
+    ensures { λ r. ⌜ r ≡ opens st size ⌝ }
+{
+    let more = write::one_more(st.rows, write::MOST_ROWS);
+    let counts = write::both(
+        st.count <= write::MOST_ITEMS,
+        write::both(more, st.columns <= COLUMNS),
+    );
+    let table = write::both(
+        4 <= st.count_at,
+        write::both(
+            write::ends_by(st.count_at, 2, st.table_at),
+            write::ends_by(st.table_at, 4, st.rows_at),
+        ),
+    );
+    let row = write::both(
+        write::ends_by(st.rows_at, 4, st.position),
+        write::both(
+            write::ends_by(st.position, 4, write::MESSAGE_END),
+            write::ends_by(st.position, 4, size),
+        ),
+    );
+    write::both(
+        write::is_at(st, 4),
+        write::both(counts, write::both(table, row)),
+    )
 }
 
 // Where a row may end whose first cell goes to a place: by its own limit, the message's and the buffer's.
@@ -112,50 +128,67 @@ fn least(a: usize, b: usize) -> usize
     if a <= b { a } else { b }
 }
 
-// Past as many cells as are surely taken.
-fn past_cells(
-    from: usize,
-    end: usize,
-    columns: usize,
-    types: &[u8; COLUMNS],
-    cells: &[u64],
-    bytes: &[u8],
-) -> Run
-    requires { ⌜ (from ≤ end) × (columns ≤ mostColumns) ⌝ }
-    ensures { λ r. ⌜ (from ≤ r .at) × (r .at ≤ end) × ((st : Stated) (size : ℕ) → Opened st size from → EndOf from size end → st .outer .types ≡ take columns (now (types .entry)) → RunOf (now (bytes .entry)) (now (cells .entry)) st size from r) ⌝ }
+// Past all cells of a row, if each is surely taken; else 0.
+fn past_cells(from: usize, end: usize, types: &[u8; COLUMNS], cells: &[u64], bytes: &[u8]) -> usize
+    requires { ⌜ (0 < from) × (from ≤ end) × (length (now cells) / 2 ≤ mostColumns) ⌝ }
+    ensures { λ r. ⌜ (0 < r → PastAll (now (bytes .entry)) (now (cells .entry)) (now (types .entry)) from end r) ⌝ }
 {
     // as a slice, so that its length is known from here on
     let lent: &[u8] = types;
-    let pairs = least(columns, cells.len() / 2);
     let mut at = from;
     let mut k = 0;
-    while k < pairs {
+    while k < cells.len() / 2 {
         let n = sure_size(at, lent[k], cells[2 * k], cells[2 * k + 1], bytes);
         if n == 0 {
-            return Run { cells: k, at: at };
+            return 0;
         }
         if end - at < n {
-            return Run { cells: k, at: at };
+            return 0;
         }
         at += n;
         k += 1;
     }
-    Run { cells: k, at: at }
+    at
 }
 
 // How many bytes a cell has that is surely without a fault; 0 where that isn't sure.
 fn sure_size(at: usize, t: u8, a: u64, b: u64, bytes: &[u8]) -> usize
     ensures { λ r. ⌜ (0 < r → Sure (now (bytes .entry)) at t a b r) ⌝ }
 {
-    if write::is_counted(t) {
-        return sure_body(at, t, a as usize, b, bytes);
+    match t {
+        format::STRING | format::VARBINARY | format::GEOGRAPHY => sure_body(
+            at,
+            t,
+            a as usize,
+            b,
+            bytes,
+        ),
+        _ => sure_fixed(t, a, b),
     }
-    let Check::Fine = write::fixed_fault(at, t, a, b) else {
-        return 0;
-    };
-    scan::width_of(t)
 }
 
+// The same of a value of a fixed size.
+fn sure_fixed(t: u8, upper: u64, lower: u64) -> usize
+    ensures { λ r. ⌜ (0 < r → (r ≡ widthOf t) × (isNumberOf t (upper * 2 ^ 64 + lower) ≡ true) × (fixedFine t (upper * 2 ^ 64 + lower) ≡ true)) ⌝ }
+{
+    match t {
+        format::TINYINT => if_so(write::both(upper == 0, lower <= 0xff), 1),
+        format::SMALLINT => if_so(write::both(upper == 0, lower <= 0xffff), 2),
+        format::INTEGER => if_so(write::both(upper == 0, lower <= 0xffff_ffff), 4),
+        format::BIGINT | format::FLOAT | format::TIMESTAMP => if_so(upper == 0, 8),
+        format::DECIMAL => if_so(write::decimal_fine(upper, lower), 16),
+        format::POINT => if_so(scan::point_fine(upper, lower), 16),
+        _ => 0,
+    }
+}
+
+fn if_so(t: bool, n: usize) -> usize
+    ensures { λ r. ⌜ r ≡ pick t n 0 ⌝ }
+{
+    if t { n } else { 0 }
+}
+
+// The same of a text or binary value.
 fn sure_body(at: usize, t: u8, start: usize, size: u64, bytes: &[u8]) -> usize
     requires { ⌜ isCounted t ≡ true ⌝ }
     ensures { λ r. ⌜ (0 < r → Sure (now (bytes .entry)) at t start size r) ⌝ }
@@ -173,22 +206,33 @@ fn sure_body(at: usize, t: u8, start: usize, size: u64, bytes: &[u8]) -> usize
     4 + n
 }
 
-// What the cells behind a run are answered, and the closing: each by its own step.
-fn ask_rest(
+// What a row is answered, each of its steps by itself.
+fn ask_each(st: State, types: &[u8; COLUMNS], cells: &[u64], bytes: &[u8], size: usize) -> Answer
+    ensures { λ r. ⌜ r ≡ shownAnswer (rowAnswer (now (bytes .entry)) (now (cells .entry)) (seen st (now (types .entry))) size) ⌝ }
+{
+    let opened = rows::ask_open_row(st, types, size);
+    let Answer::Is(first) = opened else {
+        return opened;
+    };
+    ask_cells(st, first, types, cells, bytes, size)
+}
+
+// What the cells of a row that was opened are answered, and the closing behind them.
+fn ask_cells(
     st: State,
-    run: Run,
+    first: usize,
     types: &[u8; COLUMNS],
     cells: &[u64],
     bytes: &[u8],
     size: usize,
 ) -> Answer
-    requires { ⌜ (st .rows < unlimited) × (st .columns ≤ mostColumns) ⌝ }
-    ensures { λ r. ⌜ r ≡ shownAnswer (answersFrom (now (bytes .entry)) (now (cells .entry)) (seen st (now (types .entry))) size (run .cells) (run .at)) ⌝ }
+    requires { ⌜ Opened (seen st (now types)) size first ⌝ }
+    ensures { λ r. ⌜ r ≡ shownAnswer (answersFrom (now (bytes .entry)) (now (cells .entry)) (seen st (now (types .entry))) size 0 first) ⌝ }
 {
     // as a slice, so that its length is known from here on
     let lent: &[u8] = types;
-    let mut row = write::in_table(st, Stage::Row, run.at, st.position, run.cells, st.rows + 1);
-    let mut k = run.cells;
+    let mut row = write::in_table(st, Stage::Row, first, st.position, 0, st.rows + 1);
+    let mut k = 0;
     while k < cells.len() / 2 {
         let a = ask_cell(row, types, cells[2 * k], cells[2 * k + 1], bytes, size);
         let Answer::Is(n) = a else {
@@ -265,10 +309,39 @@ fn put_cell(out: &mut [u8], at: usize, t: u8, a: u64, b: u64, bytes: &[u8]) -> u
     requires { ⌜ Fits (now bytes) t a b at (length (now out)) ⌝ }
     ensures { λ r. ⌜ (r ≡ at + length (cellBytes (now (bytes .entry)) t a b)) × (now (out .exit) ≡ put (now (out .entry)) at (cellBytes (now (bytes .entry)) t a b)) ⌝ }
 {
-    if write::is_counted(t) {
-        return put_body(out, at, a as usize, b, bytes);
+    match t {
+        format::STRING | format::VARBINARY | format::GEOGRAPHY => put_body(
+            out,
+            at,
+            a as usize,
+            b,
+            bytes,
+        ),
+        _ => put_fixed(out, at, t, a, b),
     }
-    put::fixed_at(out, at, t, a, b)
+}
+
+// The same of a value of a fixed size.
+fn put_fixed(out: &mut [u8], at: usize, t: u8, upper: u64, lower: u64) -> usize
+    requires { ⌜ at + widthOf t ≤ length (now out) ⌝ }
+    ensures { λ r. ⌜ (r ≡ at + widthOf t) × (now (out .exit) ≡ put (now (out .entry)) at (numBytes (widthOf t) (upper * 2 ^ 64 + lower))) ⌝ }
+{
+    match t {
+        format::TINYINT => put::number_at(out, at, lower, 1),
+        format::SMALLINT => put::number_at(out, at, lower, 2),
+        format::INTEGER => put::number_at(out, at, lower, 4),
+        format::BIGINT | format::FLOAT | format::TIMESTAMP => put::number_at(out, at, lower, 8),
+        format::DECIMAL | format::POINT => put_pair(out, at, upper, lower),
+        _ => at,
+    }
+}
+
+fn put_pair(out: &mut [u8], at: usize, upper: u64, lower: u64) -> usize
+    requires { ⌜ at + 16 ≤ length (now out) ⌝ }
+    ensures { λ r. ⌜ (r ≡ at + 16) × (now (out .exit) ≡ put (now (out .entry)) at (numBytes 16 (upper * 2 ^ 64 + lower))) ⌝ }
+{
+    let middle = put::number_at(out, at, upper, 8);
+    put::number_at(out, middle, lower, 8)
 }
 
 fn put_body(out: &mut [u8], at: usize, start: usize, size: u64, bytes: &[u8]) -> usize

@@ -75,7 +75,8 @@ body-bytes p x y t b e =
     let c = test-fine (isCounted t) _ p (a .0) in
     rw c (text-bytes true (ruleOf t) x y b)
 
-fault-column : (p t : ℕ) (v : Value) → valueFault p t v ≡ fine → isColumn t ≡ true
+-- a value without a fault is of a column's type
+pub fault-column : (p t : ℕ) (v : Value) → valueFault p t v ≡ fine → isColumn t ≡ true
 unfolding valueFault
 fault-column p t (fixed n) e = column-fixed t (number-fits t n (test-fine _ _ p (also-fine (test (isNumberOf t n) _ p) (test (fixedFine t n) _ p) e .0)) .0) .1
 fault-column p t (body b) e = let c = test-fine (isCounted t) _ p (also-fine (test (isCounted t) _ p) (nullTextFault (ruleOf t) p b) e .0) in rw c

@@ -1,47 +1,27 @@
--- `whole::ask_row` meets its contract: a row that can't be opened is refused so; else its cells are asked. Assumes nothing.
-use mathlib.Core.Path.{_≡_, sym, ap, _∙_}
-use Rattle.write.specs.Shown.{seen, shownAnswer}
-use Rattle.write.proofs.Taken.{shown-ok, shown-no}
-use Rattle.whole.proofs.Answers.{row-refused, row-opened}
+-- `whole::ask_row` meets its contract: what is sure is so, and else each step is asked. Assumes nothing.
+use native.Mathlib.Omega.{arith}
+use Prim.Native.Nat.{_<_}
+use mathlib.Core.Path.{_≡_, sym, ap}
+use Rattle.write.specs.Shown.{shownAnswer}
 use borrow.Author.Needs.{needs}
 use Rattle.whole.proofs.ask_row.Statement.{statement}
 use Rattle.whole.proofs.ask_row.Tie as tie
 use Rattle.whole.proofs.ask_row.Reads as reads
 use Rattle.whole.proofs.ask_row.Lts as lts
-use Rattle.rows.proofs.ask_open_row.Reads as ask-open-row-reads
-use Rattle.whole.proofs.ask_cells.Reads as ask-cells-reads
+use Rattle.whole.proofs.ask_each.Reads as ask-each-reads
+use Rattle.whole.proofs.sure_end.Reads as sure-end-reads
 
-ask-open-row-requires : tie.Need-ask-open-row-requires
-ask-open-row-requires c κs = search needs
-
-enum-known-opened : tie.Need-enum-known-opened
-enum-known-opened c = search needs
-
-enum-told : tie.Need-enum-told
-enum-told c = search needs
+sure-end-requires : tie.Need-sure-end-requires
+sure-end-requires c κs = search needs
 
 returns : tie.Need-returns
-returns c =
-    let a = c .before .before .before .before .before .args in
-    let s = seen (a .st) (a .types .now) in
-    c .enum-told .given .1 ∙ sym (ap shownAnswer (row-refused (a .bytes .now) (a .cells .now) s (a .size) _ _ (shown-no _ (c .before .before .ask-open-row .ensures) (c .enum-told .given .1))))
+returns c = sym (ap shownAnswer (c .before .sure-end .ensures (omega (arith, c .if1 .taken))))
 
-ask-cells-requires : tie.Need-ask-cells-requires
-ask-cells-requires c κs = shown-ok _ (c .before .before .before .ask-open-row .ensures) (c .before .opened .given .1)
+ask-each-requires : tie.Need-ask-each-requires
+ask-each-requires c κs = search needs
 
 returns-2 : tie.Need-returns-2
-returns-2 c =
-    let a = c .before .before .before .before .before .before .before .args in
-    let s = seen (a .st) (a .types .now) in
-    c .ask-cells .ensures ∙ sym (ap shownAnswer (row-opened (a .bytes .now) (a .cells .now) s (a .size) _ (shown-ok _ (c .before .before .before .before .ask-open-row .ensures) (c .before .before .opened .given .1))))
+returns-2 c = search needs
 
 pub ask-row-spec : {M : Type 1} → statement M
-ask-row-spec =
-    tie.close
-    (tie.spec
-    ask-open-row-requires
-    enum-known-opened
-    enum-told
-    returns
-    ask-cells-requires
-    returns-2)
+ask-row-spec = tie.close (tie.spec sure-end-requires returns ask-each-requires returns-2)
