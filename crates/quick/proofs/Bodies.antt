@@ -1,8 +1,9 @@
--- Readings that are plainly fine: a number that fits, a counted body or a null, and a number of 16 bytes that passes its rule.
+-- Readings that are plainly fine: a number that fits, a counted body or a null, a body that is no null's, and a number of 16 bytes that passes its rule.
 use Prim.Native.Nat.{ℕ, _+_, _*_, _-_, _^_, _<_, _≤_}
-use mathlib.Core.Path.{_≡_, refl, sym, _∙_, ap}
+use mathlib.Core.Path.{_≡_, refl, sym, _∙_, ap, subst}
 use mathlib.Core.Bool.{Bool, true, false}
 use mathlib.Core.List.{List}
+use mathlib.Core.Option.{some}
 use lib.ListN.{length, take, drop, length-drop}
 use lib.Seq.{length-take-le}
 use lib.Dec.{leb, eqb}
@@ -10,20 +11,23 @@ use native.Mathlib.Omega.{arith}
 use borrow.Author.Tests.{le-leb, ne-eqb}
 use Rattle.format.specs.declared.Fault.{Fault}
 use Rattle.format.specs.Result.{Res, ok, no, pick}
-use Rattle.format.specs.Number.{numAt, null4}
+use Rattle.format.specs.Number.{numAt, null4, half}
 use Rattle.format.specs.Format.{number, ruled, counted, Verdict, fine, judged}
-use Rattle.format.specs.Value.{mostBytes, notEmpty, anything, string, value, widthOf}
+use Rattle.format.specs.Value.{mostBytes, notEmpty, anything, ascii, string, value, widthOf}
+use Rattle.format.specs.Message.{unlimited}
 use Rattle.format.specs.Text.{utf8From, utf8}
 use Rattle.text.specs.declared.Found.{Found}
 use Rattle.text.specs.Shown.{shownAt}
 use Rattle.text.proofs.Finds.{finds-texts}
+use Rattle.scan.specs.declared.Body.{Body}
 use Rattle.scan.specs.declared.Next.{Next}
-use Rattle.scan.specs.Shown.{shownNext}
+use Rattle.scan.specs.Shown.{shownNext, shownBody}
 use Rattle.scan.proofs.Counted.{null-body, whole, some-fine}
 use Rattle.scan.proofs.Steps.{ruled-go}
 use Rattle.scan.proofs.Sixteen.{numAt-split}
 use Rattle.scan.proofs.Values.{plain-ends}
-use Rattle.quick.specs.Past.{Past, PastBody, mostValue, plainOf}
+use Rattle.quick.specs.declared.Sure.{Sure}
+use Rattle.quick.specs.Past.{Past, PastBody, SureBody, mostValue, plainOf}
 
 module _ (s : List ℕ) (at : ℕ) where
   pub number-reads : (k : ℕ) → at + k ≤ length s → number k 0 .read s at ≡ ok (numAt k s at, at + k)
@@ -99,6 +103,34 @@ module _ (s : List ℕ) (at : ℕ) where
       let plain : 0 < plainOf t = omega (arith, is) in
       let same : at + plainOf t ≡ at + k = ap (λ (n : ℕ). at + n) is in
       (omega arith, omega arith, λ h. plain-reads t plain (omega (arith, is)) ∙ ap Next.At same)
+
+-- a counted body that fits and whose bytes its rule permits, whatever its limit
+module _ (s : List ℕ) (at end : ℕ) (place : end ≡ at + 4 + numAt 4 s at) (fit : end ≤ length s) where
+  pub counted-reads : (limit : ℕ) (rule : List ℕ → Verdict) (l b : ℕ) → numAt 4 s at ≤ limit → limit < half 4 → rule (take (numAt 4 s at) (drop (at + 4) s)) ≡ fine
+      → counted false limit rule l b .read s at ≡ ok (some (take (numAt 4 s at) (drop (at + 4) s)), end)
+  counted-reads limit rule l b few unsigned permits =
+      let n = numAt 4 s at in
+      let bs = take n (drop (at + 4) s) in
+      let room : leb (at + 4 + n) (length s) ≡ true = le-leb (at + 4 + n) (length s) (omega arith) in
+      let read = whole false limit rule l b s at n (at + 4) (number-reads s at 4 (omega arith)) refl (omega arith) few room in
+      read .0 ∙ ap (λ (v : Verdict). judged v (bs, at + 4 + n) at) permits ∙ ap (λ (p : ℕ). ok (some bs, p)) (sym place)
+
+module _ (s : List ℕ) (at most : ℕ) {b : Sure} {start end : ℕ} (is : SureBody s at most b) (told : b ≡ Sure.Is start end) where
+  -- what is known of a body that surely is one
+  pub sure : SureBody s at most (Sure.Is start end)
+  sure = subst (SureBody s at most) told is
+
+  pub room-reads : most ≤ unlimited → Body.Is start end ≡ shownBody at (counted false unlimited anything 0 0 .read s at)
+  room-reads few =
+      let read = counted-reads s at end (sure .1) (sure .3) unlimited anything 0 0 (omega (arith, sure .2)) (omega arith) refl in
+      ap (λ (p : ℕ). Body.Is p end) (sure .0) ∙ sym (ap (shownBody at) read)
+
+  pub name-reads : most ≤ mostBytes → ascii (take (end - start) (drop start s)) ≡ fine → shownNext (string false ascii 46 47 .read s at) ≡ Next.At end
+  name-reads few permits =
+      let size : end - start ≡ numAt 4 s at = omega (arith, sure .0, sure .1) in
+      let same = ap (λ (p : ℕ). ascii (take (end - start) (drop p s))) (sym (sure .0)) ∙ permits in
+      let bytes : ascii (take (numAt 4 s at) (drop (at + 4) s)) ≡ fine = sym (ap (λ (n : ℕ). ascii (take n (drop (at + 4) s))) size) ∙ same in
+      ap shownNext (counted-reads s at end (sure .1) (sure .3) mostBytes ascii 46 47 (omega (arith, sure .2)) (omega arith) bytes)
 
 module _ {A B : Type 0} (s : List ℕ) (at r : ℕ) (x : Res (A × ℕ)) (y : Res (B × ℕ)) where
   -- two readings that end alike

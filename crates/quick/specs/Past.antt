@@ -13,6 +13,7 @@ use Rattle.format.specs.Message.{second, third, row, mostColumns}
 use Rattle.scan.specs.declared.Next.{Next}
 use Rattle.scan.specs.Shown.{shownNext}
 use Rattle.quick.specs.declared.Run.{Run}
+use Rattle.quick.specs.declared.Sure.{Sure}
 
 -- the most bytes that a value has
 abbrev pub mostValue : ℕ
@@ -34,6 +35,11 @@ module _ {A : Type 0} where
 
   abbrev pub Surely : Res (A × ℕ) → ℕ → Type 0
   Surely x r = 0 < r → shownNext x ≡ Next.At r
+
+-- a counted body of at most so many bytes, which fits
+abbrev pub SureBody : List ℕ → ℕ → ℕ → Sure → Type 0
+SureBody s at most (Sure.Is start end) = (start ≡ at + 4) × (end ≡ at + 4 + numAt 4 s at) × (numAt 4 s at ≤ most) × (end ≤ length s)
+SureBody s at most Sure.Not = Unit
 
 -- how many bytes follow a length
 abbrev pub sizeOf : ℕ → ℕ
@@ -66,8 +72,8 @@ module _ {A : Type 0} (f : Format A) (s : List ℕ) where
 
   -- after some of n readings, those that are left end where all do
   abbrev pub RunOf : ℕ → ℕ → Run → Type 0
-  RunOf from n r = (r .rows ≤ n) × (Ends (n - r .rows) (r .at) ≡ Ends n from)
+  RunOf from n r = (r .passed ≤ n) × (Ends (n - r .passed) (r .at) ≡ Ends n from)
 
 -- the same of rows of so many bytes, whatever their types, if any such bytes are their cells
 abbrev pub PlainRun : List ℕ → ℕ → ℕ → ℕ → Run → Type 0
-PlainRun s from n plain r = (r .rows ≤ n) × ((types : List ℕ) → PlainRow types plain → Ends (row types) s (n - r .rows) (r .at) ≡ Ends (row types) s n from)
+PlainRun s from n plain r = (r .passed ≤ n) × ((types : List ℕ) → PlainRow types plain → Ends (row types) s (n - r .passed) (r .at) ≡ Ends (row types) s n from)

@@ -1,21 +1,22 @@
-// Past a table's rows, by the shortest way: places are kept in registers, a row whose columns have no rule is judged by its length
+// Past a table's names and rows, by the shortest way: places are kept in registers, a row whose columns have no rule is judged by its length
 // alone, and a cell's room by where the row's last cell ends. Each helper answers a place, or 0 where it isn't sure; then scan is
 // asked, which says what is refused and where.
+use scan::Body;
 use scan::Next;
 use text::Found;
 ghost use mathlib.Core.Path.{_≡_};
 ghost use Prim.Native.Nat.{_+_, _<_, _≤_};
 ghost use lib.ListN.{length, replicate};
-ghost use mathlib.Core.Bool.{true};
+ghost use mathlib.Core.Bool.{true, false};
 ghost use mathlib.Core.List.{map};
 ghost use Rattle.format.specs.declared.Fault.the-variants.{Decimal, Point};
 ghost use Rattle.format.specs.Number.{numAt};
-ghost use Rattle.format.specs.Format.{each, number, ruled};
+ghost use Rattle.format.specs.Format.{each, number, ruled, counted};
 ghost use Rattle.format.specs.Text.{utf8};
-ghost use Rattle.format.specs.Value.{value, string, notEmpty, decimalFine, pointFine};
-ghost use Rattle.format.specs.Message.{second, third, row, mostColumns};
-ghost use Rattle.scan.specs.Shown.{shownNext};
-ghost use Rattle.quick.specs.Past.{Low, Past, PastBody, PlainRow, PlainRun, RowOf, RunOf, Surely, Within, mostPlain, plainOf, sizeOf};
+ghost use Rattle.format.specs.Value.{value, string, ascii, anything, notEmpty, decimalFine, pointFine};
+ghost use Rattle.format.specs.Message.{second, third, row, mostColumns, unlimited};
+ghost use Rattle.scan.specs.Shown.{shownNext, shownBody};
+ghost use Rattle.quick.specs.Past.{Low, Past, PastBody, PlainRow, PlainRun, RowOf, RunOf, SureBody, Surely, Within, mostPlain, plainOf, sizeOf};
 
 // A byte as a number.
 fn wide(b: u8) -> u64
@@ -34,6 +35,92 @@ pub fn four(s: &[u8], at: usize) -> u64
     let c = wide(s[at + 2]);
     let d = wide(s[at + 3]);
     a * 16777216 + (b * 65536 + (c * 256 + d))
+}
+
+// A counted body that surely is one: where it starts and where it ends.
+enum Sure {
+    Is(usize, usize),
+    Not,
+}
+
+// The counted body of at most so many bytes whose length stands at a place, if it fits. It is no null's. The limit is far below the least length that has a
+// sign: for a test of the sign by itself the compiler would read the length byte by byte.
+fn sure_body(s: &[u8], at: usize, most: u64) -> Sure
+    ensures { λ r. ⌜ SureBody (now (s .entry)) at most r ⌝ }
+{
+    if s.len() < at {
+        return Sure::Not;
+    }
+    if s.len() - at < 4 {
+        return Sure::Not;
+    }
+    let n = four(s, at);
+    if most < n {
+        return Sure::Not;
+    }
+    let start = at + 4;
+    if s.len() - start < n as usize {
+        return Sure::Not;
+    }
+    Sure::Is(start, start + n as usize)
+}
+
+// The room of a table or of its metadata. None that is longer than a message fits one, so that scan only has to say what is refused.
+pub fn read_room(s: &[u8], at: usize) -> Body
+    ensures { λ r. ⌜ r ≡ shownBody at (counted false unlimited anything 0 0 .read (now (s .entry)) at) ⌝ }
+{
+    let Sure::Is(start, end) = sure_body(s, at, format::MOST_MESSAGE) else {
+        return scan::read_body(s, at, false, format::UNLIMITED);
+    };
+    Body::Is(start, end)
+}
+
+// Past a column's name.
+fn past_name(s: &[u8], at: usize) -> usize
+    ensures { λ r. ⌜ Surely (string false ascii 46 47 .read (now (s .entry)) at) r ⌝ }
+{
+    let Sure::Is(start, end) = sure_body(s, at, format::MOST_BYTES) else {
+        return 0;
+    };
+    if text::is_surely_name(&s[start..end]) {
+        end
+    } else {
+        0
+    }
+}
+
+// Some names or rows that were passed: how many, and where the next one starts.
+struct Run {
+    passed: usize,
+    at: usize,
+}
+
+// Past as many of n names as are surely fine.
+fn past_names(s: &[u8], from: usize, n: usize) -> Run
+    ensures { λ r. ⌜ RunOf (string false ascii 46 47) (now (s .entry)) from n r ⌝ }
+{
+    let mut at = from;
+    let mut i = 0;
+    while i < n {
+        let past = past_name(s, at);
+        if past == 0 {
+            return Run { passed: i, at: at };
+        }
+        at = past;
+        i += 1;
+    }
+    Run { passed: i, at: at }
+}
+
+// Past n names: scan says what is refused of one that isn't surely fine.
+pub fn skip_names(s: &[u8], from: usize, n: usize) -> Next
+    ensures { λ r. ⌜ r ≡ shownNext (each third 0 (replicate n (string false ascii 46 47)) .read (now (s .entry)) from) ⌝ }
+{
+    let run = past_names(s, from, n);
+    if run.passed == n {
+        return Next::At(run.at);
+    }
+    scan::skip_names(s, run.at, n - run.passed)
 }
 
 // How many bytes follow a length: none if it is a null's.
@@ -193,29 +280,11 @@ fn past_row(s: &[u8], at: usize, types: &[u8]) -> usize
     requires { ⌜ length (now types) ≤ mostColumns ⌝ }
     ensures { λ r. ⌜ Surely (row (now (types .entry)) .read (now (s .entry)) at) r ⌝ }
 {
-    if s.len() < at {
+    let Sure::Is(start, end) = sure_body(s, at, format::MOST_ROW) else {
         return 0;
-    }
-    if s.len() - at < 4 {
-        return 0;
-    }
-    let n = four(s, at);
-    if format::MOST_ROW < n {
-        return 0;
-    }
-    let start = at + 4;
-    if s.len() - start < n as usize {
-        return 0;
-    }
-    let end = start + n as usize;
+    };
     let past = past_cells(&s[..end], start, types);
     if past == end { end } else { 0 }
-}
-
-// Some rows that were passed: how many, and where the next one starts.
-struct Run {
-    rows: usize,
-    at: usize,
 }
 
 // Past as many of n rows as are surely fine.
@@ -228,12 +297,12 @@ fn past_rows(s: &[u8], from: usize, types: &[u8], n: usize) -> Run
     while i < n {
         let past = past_row(s, at, types);
         if past == 0 {
-            return Run { rows: i, at: at };
+            return Run { passed: i, at: at };
         }
         at = past;
         i += 1;
     }
-    Run { rows: i, at: at }
+    Run { passed: i, at: at }
 }
 
 // Past n rows of any columns: scan looks at a row that isn't surely fine.
@@ -245,7 +314,7 @@ fn skip_ruled(s: &[u8], from: usize, types: &[u8], n: usize) -> Next
     let mut i = 0;
     while i < n {
         let run = past_rows(s, at, types, n - i);
-        i = i + run.rows;
+        i = i + run.passed;
         at = run.at;
         if i == n {
             return Next::At(at);
@@ -314,28 +383,31 @@ fn plain_rows(s: &[u8], from: usize, n: usize, plain: usize) -> Run
     let mut i = 0;
     while i < n {
         if !is_plain(s, at, plain) {
-            return Run { rows: i, at: at };
+            return Run { passed: i, at: at };
         }
         at = at + (4 + plain);
         i += 1;
     }
-    Run { rows: i, at: at }
+    Run { passed: i, at: at }
 }
 
-// Past n rows. As skip_ruled has two callers it stays a function of its own, in which the compiler keeps all places in registers.
+// Past n rows. Where there are none, no type is looked at. As skip_ruled has two callers it stays a function of its own, in which the compiler keeps all places in registers.
 pub fn skip_rows(s: &[u8], from: usize, types: &[u8], n: usize) -> Next
     ensures { λ r. ⌜ r ≡ shownNext (each second 0 (replicate n (row (now (types .entry)))) .read (now (s .entry)) from) ⌝ }
 {
     if format::MOST_COLUMNS < types.len() as u64 {
         return scan::skip_rows(s, from, types, n);
     }
+    if n == 0 {
+        return Next::At(from);
+    }
     let plain = plain_row(types);
     if plain == 0 {
         return skip_ruled(s, from, types, n);
     }
     let run = plain_rows(s, from, n, plain);
-    if run.rows == n {
+    if run.passed == n {
         return Next::At(run.at);
     }
-    skip_ruled(s, run.at, types, n - run.rows)
+    skip_ruled(s, run.at, types, n - run.passed)
 }

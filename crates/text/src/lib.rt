@@ -4,7 +4,7 @@ ghost use mathlib.Core.Path.{_≡_};
 ghost use Prim.Native.Nat.{ℕ, _+_, _-_, _<_, _≤_};
 ghost use lib.ListN.{length, getD, drop};
 ghost use mathlib.Core.Bool.{true, _&&_, _||_};
-ghost use Rattle.format.specs.Value.{asciiFrom};
+ghost use Rattle.format.specs.Value.{ascii, asciiFrom};
 ghost use Rattle.format.specs.Format.{fine};
 ghost use Rattle.format.specs.Text.{from-to, tail, sequence, utf8From};
 ghost use Rattle.text.specs.Shown.{LowRun, shownAt, sequenceAt, upTo, secondOfThree, secondOfFour};
@@ -39,21 +39,24 @@ fn are_low(b: &[u8], i: usize, n: usize) -> bool
     top <= HIGHEST_ASCII
 }
 
-// Whether all bytes are surely ASCII, of which there are a step's or more: so many at a time, and the last ones whatever was looked at before, so that none
-// is looked at by itself.
+// Whether all bytes are surely ASCII, of which there are a step's or more: the last ones, and so many at a time up to them, so that none is looked at by
+// itself. No answer is that of the last test: the compiler would join it with those of other ways, and then makes no single test of several bytes.
 fn is_ascii_by(b: &[u8], step: usize) -> bool
     requires { ⌜ (0 < step) × (step ≤ length (now b)) ⌝ }
     ensures { λ r. ⌜ (r ≡ true → LowRun (now (b .entry)) 0 (length (now (b .entry)))) ⌝ }
 {
     let last = b.len() - step;
+    if !are_low(b, last, step) {
+        return false;
+    }
     let mut i = 0;
-    while i <= last {
+    while i < last {
         if !are_low(b, i, step) {
             return false;
         }
         i += step;
     }
-    are_low(b, last, step)
+    true
 }
 
 // The first byte that no name has: one above 127. Eight are looked at together and not 16, as many names have fewer than 16.
@@ -342,6 +345,22 @@ fn is_ascii(b: &[u8]) -> bool
         return is_ascii_by(b, 8);
     }
     is_ascii_by(b, 16)
+}
+
+// Whether a column's name surely is ASCII. It tells no place, so that the loop over names is small, and looks at the bytes of a short one together too.
+pub fn is_surely_name(b: &[u8]) -> bool
+    ensures { λ r. ⌜ (r ≡ true → ascii (now (b .entry)) ≡ fine) ⌝ }
+{
+    if 8 <= b.len() {
+        return is_ascii_by(b, 8);
+    }
+    if 4 <= b.len() {
+        return is_ascii_by(b, 4);
+    }
+    if 2 <= b.len() {
+        return is_ascii_by(b, 2);
+    }
+    is_short_ascii(b)
 }
 
 // Where a text is torn: the first byte that begins no well-formed sequence, those before it being well-formed. What asks whether it is ASCII has this one

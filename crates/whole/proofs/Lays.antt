@@ -4,24 +4,24 @@ use native.Mathlib.Omega.{arith}
 use native.Mathlib.Nat.{add-zero}
 use mathlib.Core.Path.{_≡_, refl, sym, ap, _∙_, subst}
 use mathlib.Core.Bool.{true}
-use mathlib.Core.List.{List, [], _∷_}
+use mathlib.Core.List.{List, [], _∷_, _++_}
 use mathlib.Core.Option.{Option, some, none}
 use lib.ListN.{length, getD, length-take}
 use lib.Seq.{getD-take}
-use lib.Dec.{ltb, eqb}
+use lib.Dec.{ltb, eqb, lit≤}
 use borrow.Author.Tests.{ltb-true, eqb-true}
 use Rattle.format.specs.declared.Fault.{Fault}
 use Rattle.format.specs.declared.Refusal.{Refusal}
 use Rattle.format.specs.declared.Answer.{Answer}
 use Rattle.format.specs.declared.Answer.the-variants.{Is, No}
-use Rattle.format.specs.Result.{Res, ok, no}
+use Rattle.format.specs.Result.{Res, ok, no, pick}
 use Rattle.format.specs.Number.{numBytes}
 use Rattle.format.specs.Value.{Value, value, isCounted, widthOf}
 use Rattle.format.specs.Message.{mostColumns, unlimited}
 use Rattle.format.proofs.Numbers.{length-numBytes}
 use Rattle.format.proofs.Results.{and-true-both, no-ok, ok-same, bound}
 use Rattle.put.specs.Put.{put}
-use Rattle.put.proofs.Laws.{put-length, put-nothing, lower-half}
+use Rattle.put.proofs.Laws.{put-length, put-nothing, lower-half, halves, widths, puts-number, puts-both}
 use Rattle.steps.specs.declared.Stage.the-variants.{Table, Row}
 use Rattle.steps.specs.State.{State, atStage}
 use Rattle.steps.specs.Next.{tableAt}
@@ -38,22 +38,41 @@ use Rattle.write.proofs.Seen.{tabled-shown}
 use Rattle.rows.proofs.Cells.{cell-fine}
 use Rattle.whole.specs.Rows.{valueIn, cellStep, stepsFrom, cellSteps, runEach, wholeRow, WroteRow}
 use Rattle.whole.specs.Asked.{asked, answers, inRow, rowAnswer, Opened}
-use Rattle.whole.specs.Laid.{Fits, cellBytes, cellAt, laid, FitAll}
+use Rattle.whole.specs.Laid.{upperOf, lowerOf, Fits, cellBytes, cellAt, laid, FitAll}
 use Rattle.whole.proofs.Values.{cell-stands, cell-bytes}
 use Rattle.whole.proofs.Answers.{ground, columns-few, types-are}
 
--- a number of at most 8 bytes is its lower half's
-pub low-number : (t w upper lower : ℕ) → widthOf t ≡ w → w ≤ 8 → numBytes (widthOf t) (upper * 2 ^ 64 + lower) ≡ numBytes w lower
-low-number t w upper lower e h = ap (λ (m : ℕ). numBytes m (upper * 2 ^ 64 + lower)) e ∙ lower-half w upper lower h
+-- a value of a fixed size is its upper half, if it has one, and its lower one
+halves-width : (t : ℕ) → upperOf t + lowerOf t ≡ widthOf t
+halves-width = widths (λ w. pick (eqb w 16) 8 0 + pick (eqb w 16) 8 w ≡ w) refl refl refl refl refl refl
 
-pub low-put : (b : List ℕ) (at t w upper lower : ℕ) {r : ℕ} {c : List ℕ} → widthOf t ≡ w → w ≤ 8 → (r ≡ at + w) × (c ≡ put b at (numBytes w lower))
-    → (r ≡ at + widthOf t) × (c ≡ put b at (numBytes (widthOf t) (upper * 2 ^ 64 + lower)))
-low-put b at t w upper lower e h p = (p .0 ∙ ap (λ (m : ℕ). at + m) (sym e), p .1 ∙ ap (λ (l : List ℕ). put b at l) (sym (low-number t w upper lower e h)))
-
--- a type that no value of a fixed size has writes nothing
-pub none-put : (b : List ℕ) (at t upper lower : ℕ) → widthOf t ≡ 0 → (at ≡ at + widthOf t) × (b ≡ put b at (numBytes (widthOf t) (upper * 2 ^ 64 + lower)))
+halves-bytes : (t upper lower : ℕ) → lower < 2 ^ 64 → numBytes (upperOf t) upper ++ numBytes (lowerOf t) lower ≡ numBytes (widthOf t) (upper * 2 ^ 64 + lower)
 unfolding numBytes
-none-put b at t upper lower e = (sym (ap (λ (m : ℕ). at + m) e ∙ add-zero at), sym (ap (λ (m : ℕ). put b at (numBytes m (upper * 2 ^ 64 + lower))) e ∙ put-nothing b at))
+halves-bytes t upper lower h =
+    widths (λ w. numBytes (pick (eqb w 16) 8 0) upper ++ numBytes (pick (eqb w 16) 8 w) lower ≡ numBytes w (upper * 2 ^ 64 + lower))
+    refl (sym (lower-half 1 upper lower (lit≤ tt))) (sym (lower-half 2 upper lower (lit≤ tt))) (sym (lower-half 4 upper lower (lit≤ tt))) (sym (lower-half 8 upper lower (lit≤ tt))) (sym (halves upper lower h)) t
+
+pub upper-room : (t at size : ℕ) → at + widthOf t ≤ size → at + upperOf t ≤ size
+upper-room t at size h = omega (arith, halves-width t)
+
+pub lower-room : (t at size : ℕ) {m : ℕ} → at + widthOf t ≤ size → m ≡ at + upperOf t → m + lowerOf t ≤ size
+lower-room t at size h e = omega (arith, halves-width t)
+
+pub halves-put : (b : List ℕ) (at t upper lower : ℕ) {m r : ℕ} {c d : List ℕ} → lower < 2 ^ 64 → at + widthOf t ≤ length b → (m ≡ at + upperOf t) × (c ≡ put b at (numBytes (upperOf t) upper))
+    → (r ≡ m + lowerOf t) × (d ≡ put c m (numBytes (lowerOf t) lower)) → (r ≡ at + widthOf t) × (d ≡ put b at (numBytes (widthOf t) (upper * 2 ^ 64 + lower)))
+halves-put b at t upper lower {m} {r} {c} {d} low h p q =
+    let sum = halves-width t in
+    let one = puts-number b at (upperOf t) upper (omega arith) p in
+    let two = puts-both one (puts-number c m (lowerOf t) lower (omega (arith, one .kept, one .ends)) q) in
+    (two .ends ∙ ap (λ (k : ℕ). at + k) sum, two .is ∙ ap (λ (l : List ℕ). put b at l) (halves-bytes t upper lower low))
+
+-- what one arm of a match on the type writes, and what one that writes nothing does
+pub arm-put : (b : List ℕ) (at n w v : ℕ) {r : ℕ} {c : List ℕ} → v ≡ w → (r ≡ at + w) × (c ≡ put b at (numBytes w n)) → (r ≡ at + v) × (c ≡ put b at (numBytes v n))
+arm-put b at n w v e p = (p .0 ∙ ap (λ (k : ℕ). at + k) (sym e), p .1 ∙ ap (λ (k : ℕ). put b at (numBytes k n)) (sym e))
+
+pub none-put : (b : List ℕ) (at n v : ℕ) → v ≡ 0 → (at ≡ at + v) × (b ≡ put b at (numBytes v n))
+unfolding numBytes
+none-put b at n v e = (sym (ap (λ (k : ℕ). at + k) e ∙ add-zero at), sym (ap (λ (k : ℕ). put b at (numBytes k n)) e ∙ put-nothing b at))
 
 -- the next cell, of those that are left, and no cell left
 module _ (bytes types ns : List ℕ) (pairs : ℕ) where

@@ -1,6 +1,7 @@
 -- The proofs. What two numbers say of a cell (Values), what is sure of it and what it is answered (Sures), the steps of a row in turn (Answers), and what they
--- write (Lays).
+-- write (Halves, Lays).
 pub mod Values
 pub mod Sures
 pub mod Answers
+pub mod Halves
 pub mod Lays

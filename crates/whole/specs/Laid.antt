@@ -20,6 +20,13 @@ bodyBytes bytes start size = sized (pick (eqb size nullSize) none (some (take si
 unfoldable pub cellBytes : List ℕ → ℕ → ℕ → ℕ → List ℕ
 cellBytes bytes t a b = pick (isCounted t) (bodyBytes bytes a b) (numBytes (widthOf t) (a * 2 ^ 64 + b))
 
+-- how many bytes of a value of a fixed size its upper and its lower half have
+abbrev pub upperOf : ℕ → ℕ
+upperOf t = pick (eqb (widthOf t) 16) 8 0
+
+abbrev pub lowerOf : ℕ → ℕ
+lowerOf t = pick (eqb (widthOf t) 16) 8 (widthOf t)
+
 -- the bytes of a cell that isn't null are there
 abbrev pub Stands : List ℕ → ℕ → ℕ → Type 0
 Stands bytes start size = eqb size nullSize ≡ false → start + size ≤ length bytes

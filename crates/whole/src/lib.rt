@@ -23,7 +23,7 @@ ghost use Rattle.steps.specs.Steps.{messageEnd};
 ghost use Rattle.write.specs.Shown.{seen, shownAnswer};
 ghost use Rattle.whole.specs.Rows.{valueIn, bodyIn, cellStep, WroteRow};
 ghost use Rattle.whole.specs.Asked.{asked, typeNow, rowAnswer, answersFrom, opens, Opened, EndOf, PastAll, Sure};
-ghost use Rattle.whole.specs.Laid.{cellBytes, bodyBytes, Fits, Stands, laid, FitAll};
+ghost use Rattle.whole.specs.Laid.{upperOf, lowerOf, cellBytes, bodyBytes, Fits, Stands, laid, FitAll};
 
 // The size that says that a text or binary cell is null.
 pub const NULL_SIZE: u64 = 0xffff_ffff_ffff_ffff;
@@ -321,27 +321,39 @@ fn put_cell(out: &mut [u8], at: usize, t: u8, a: u64, b: u64, bytes: &[u8]) -> u
     }
 }
 
-// The same of a value of a fixed size.
+// The same of a value of a fixed size. Its two halves are written apart: the compiler makes one store of 8 bytes, and none of 16.
 fn put_fixed(out: &mut [u8], at: usize, t: u8, upper: u64, lower: u64) -> usize
     requires { ⌜ at + widthOf t ≤ length (now out) ⌝ }
     ensures { λ r. ⌜ (r ≡ at + widthOf t) × (now (out .exit) ≡ put (now (out .entry)) at (numBytes (widthOf t) (upper * 2 ^ 64 + lower))) ⌝ }
+{
+    let middle = put_upper(out, at, t, upper);
+    put_lower(out, middle, t, lower)
+}
+
+// The upper half of a value that has one.
+fn put_upper(out: &mut [u8], at: usize, t: u8, upper: u64) -> usize
+    requires { ⌜ at + upperOf t ≤ length (now out) ⌝ }
+    ensures { λ r. ⌜ (r ≡ at + upperOf t) × (now (out .exit) ≡ put (now (out .entry)) at (numBytes (upperOf t) upper)) ⌝ }
+{
+    match t {
+        format::DECIMAL | format::POINT => put::number_at(out, at, upper, 8),
+        _ => at,
+    }
+}
+
+// The lower half.
+fn put_lower(out: &mut [u8], at: usize, t: u8, lower: u64) -> usize
+    requires { ⌜ at + lowerOf t ≤ length (now out) ⌝ }
+    ensures { λ r. ⌜ (r ≡ at + lowerOf t) × (now (out .exit) ≡ put (now (out .entry)) at (numBytes (lowerOf t) lower)) ⌝ }
 {
     match t {
         format::TINYINT => put::number_at(out, at, lower, 1),
         format::SMALLINT => put::number_at(out, at, lower, 2),
         format::INTEGER => put::number_at(out, at, lower, 4),
-        format::BIGINT | format::FLOAT | format::TIMESTAMP => put::number_at(out, at, lower, 8),
-        format::DECIMAL | format::POINT => put_pair(out, at, upper, lower),
+        format::BIGINT | format::FLOAT | format::TIMESTAMP | format::DECIMAL | format::POINT =>
+            put::number_at(out, at, lower, 8),
         _ => at,
     }
-}
-
-fn put_pair(out: &mut [u8], at: usize, upper: u64, lower: u64) -> usize
-    requires { ⌜ at + 16 ≤ length (now out) ⌝ }
-    ensures { λ r. ⌜ (r ≡ at + 16) × (now (out .exit) ≡ put (now (out .entry)) at (numBytes 16 (upper * 2 ^ 64 + lower))) ⌝ }
-{
-    let middle = put::number_at(out, at, upper, 8);
-    put::number_at(out, middle, lower, 8)
 }
 
 fn put_body(out: &mut [u8], at: usize, start: usize, size: u64, bytes: &[u8]) -> usize

@@ -11,8 +11,8 @@ use borrow.Author.Needs.{needs}
 use Rattle.message.proofs.read_columns.Statement.{statement}
 use Rattle.message.proofs.read_columns.Tie as tie
 
-read-body-requires : tie.Need-read-body-requires
-read-body-requires c κs = search needs
+read-room-requires : tie.Need-read-room-requires
+read-room-requires c κs = search needs
 
 enum-known-room : tie.Need-enum-known-room
 enum-known-room c = search needs
@@ -23,13 +23,13 @@ body-refusal-requires c κs = search needs
 returns : tie.Need-returns
 returns c =
     let a = c .before .before .before .before .args in
-    let stop = refuses unlimited (a .s .now) (a .at) (c .before .before .read-body .ensures) (c .before .match .keys2) (c .body-refusal .ensures) in
+    let stop = refuses unlimited (a .s .now) (a .at) (c .before .before .read-room .ensures) (c .before .match .keys2) (c .body-refusal .ensures) in
     sym (ap (shownColumns _) (metadata-room _ _ ∙ room-stop unlimited 42 described (a .s .now) (a .at) stop))
 
 slice-aggregate-read-described : tie.Need-slice-aggregate-read-described
 slice-aggregate-read-described c =
     let a = c .before .before .before .before .before .before .args in
-    let h = here false unlimited (a .s .now) (a .at) (c .before .before .before .before .read-body .ensures) (c .before .before .room .given .1) in
+    let h = here false unlimited (a .s .now) (a .at) (c .before .before .before .before .read-room .ensures) (c .before .before .room .given .1) in
     sym (length-take-le _ (a .s .now) (h .fit))
 
 read-described-requires : tie.Need-read-described-requires
@@ -47,21 +47,21 @@ columns-refusal-requires c κs = search needs
 returns-2 : tie.Need-returns-2
 returns-2 c =
     let a = c .before .before .before .before .before .before .before .before .before .before .args in
-    let h = here false unlimited (a .s .now) (a .at) (c .before .before .before .before .before .before .before .before .read-body .ensures) (c .before .before .before .before .before .before .room .given .1) in
+    let h = here false unlimited (a .s .now) (a .at) (c .before .before .before .before .before .before .before .before .read-room .ensures) (c .before .before .before .before .before .before .room .given .1) in
     let stop = columns-stop _ _ (c .before .before .before .read-described .ensures) (c .before .enum-told .given .1) (c .columns-refusal .ensures) in
     sym (ap (shownColumns _) (metadata-room _ _ ∙ room-fault unlimited 42 described (a .s .now) (a .at) h stop))
 
 returns-3 : tie.Need-returns-3
 returns-3 c =
     let a = c .before .before .before .before .before .before .before .before .before .before .before .args in
-    let h = here false unlimited (a .s .now) (a .at) (c .before .before .before .before .before .before .before .before .before .read-body .ensures) (c .before .before .before .before .before .before .before .room .given .1) in
+    let h = here false unlimited (a .s .now) (a .at) (c .before .before .before .before .before .before .before .before .before .read-room .ensures) (c .before .before .before .before .before .before .before .room .given .1) in
     let go = columns-go _ _ (c .before .before .before .before .read-described .ensures) (c .before .before .inner .given .1) in
     sym (ap (shownColumns _) (metadata-room _ _ ∙ room-left unlimited 42 described (a .s .now) (a .at) h (go .1) (c .if1 .taken)))
 
 returns-4 : tie.Need-returns-4
 returns-4 c =
     let a = c .before .before .before .before .before .before .before .before .before .before .before .args in
-    let h = here false unlimited (a .s .now) (a .at) (c .before .before .before .before .before .before .before .before .before .read-body .ensures) (c .before .before .before .before .before .before .before .room .given .1) in
+    let h = here false unlimited (a .s .now) (a .at) (c .before .before .before .before .before .before .before .before .before .read-room .ensures) (c .before .before .before .before .before .before .before .room .given .1) in
     let go = columns-go _ _ (c .before .before .before .before .read-described .ensures) (c .before .before .inner .given .1) in
     same-columns _ (types-place _ (a .at) (go .2) (h .place)) (go .3) ∙ sym (ap (shownColumns _) (metadata-room _ _ ∙ room-full unlimited 42 described (a .s .now) (a .at) h (go .1) (c .if1 .left)))
 
@@ -69,7 +69,7 @@ pub read-columns-spec : {M : Type 1} → statement M
 read-columns-spec =
     tie.close
     (tie.spec
-    read-body-requires
+    read-room-requires
     enum-known-room
     body-refusal-requires
     returns

@@ -12,8 +12,8 @@ use borrow.Author.Needs.{needs}
 use Rattle.message.proofs.skip_table.Statement.{statement}
 use Rattle.message.proofs.skip_table.Tie as tie
 
-read-body-requires : tie.Need-read-body-requires
-read-body-requires c κs = search needs
+read-room-requires : tie.Need-read-room-requires
+read-room-requires c κs = search needs
 
 enum-known-room : tie.Need-enum-known-room
 enum-known-room c = search needs
@@ -24,13 +24,13 @@ body-refusal-requires c κs = search needs
 returns : tie.Need-returns
 returns c =
     let a = c .before .before .before .before .args in
-    let stop = refuses unlimited (a .m .now) (a .at) (c .before .before .read-body .ensures) (c .before .match .keys2) (c .body-refusal .ensures) in
+    let stop = refuses unlimited (a .m .now) (a .at) (c .before .before .read-room .ensures) (c .before .match .keys2) (c .body-refusal .ensures) in
     sym (ap shownNext (table-room _ _ ∙ room-stop unlimited 41 contents (a .m .now) (a .at) stop))
 
 skip-contents-requires : tie.Need-skip-contents-requires
 skip-contents-requires c κs =
     let a = c .before .before .before .before .before .args in
-    let h = here false unlimited (a .m .now) (a .at) (c .before .before .before .read-body .ensures) (c .before .room .given .1) in
+    let h = here false unlimited (a .m .now) (a .at) (c .before .before .before .read-room .ensures) (c .before .room .given .1) in
     (h .order, h .fit)
 
 enum-known-step : tie.Need-enum-known-step
@@ -45,21 +45,21 @@ next-refusal-requires c κs = search needs
 returns-2 : tie.Need-returns-2
 returns-2 c =
     let a = c .before .before .before .before .before .before .before .before .before .args in
-    let h = here false unlimited (a .m .now) (a .at) (c .before .before .before .before .before .before .before .read-body .ensures) (c .before .before .before .before .before .room .given .1) in
+    let h = here false unlimited (a .m .now) (a .at) (c .before .before .before .before .before .before .before .read-room .ensures) (c .before .before .before .before .before .room .given .1) in
     let stop = next-stop _ (c .before .before .before .skip-contents .ensures) (c .before .enum-told .given .1) (c .next-refusal .ensures) in
     sym (ap shownNext (table-room _ _ ∙ room-fault unlimited 41 contents (a .m .now) (a .at) h stop))
 
 returns-3 : tie.Need-returns-3
 returns-3 c =
     let a = c .before .before .before .before .before .before .before .before .before .before .args in
-    let h = here false unlimited (a .m .now) (a .at) (c .before .before .before .before .before .before .before .before .read-body .ensures) (c .before .before .before .before .before .before .room .given .1) in
+    let h = here false unlimited (a .m .now) (a .at) (c .before .before .before .before .before .before .before .before .read-room .ensures) (c .before .before .before .before .before .before .room .given .1) in
     let go = next-go _ (c .before .before .before .before .skip-contents .ensures) (c .before .before .step .given .1) in
     sym (ap shownNext (table-room _ _ ∙ room-left unlimited 41 contents (a .m .now) (a .at) h (go .1) (c .if1 .taken)))
 
 returns-4 : tie.Need-returns-4
 returns-4 c =
     let a = c .before .before .before .before .before .before .before .before .before .before .args in
-    let h = here false unlimited (a .m .now) (a .at) (c .before .before .before .before .before .before .before .before .read-body .ensures) (c .before .before .before .before .before .before .room .given .1) in
+    let h = here false unlimited (a .m .now) (a .at) (c .before .before .before .before .before .before .before .before .read-room .ensures) (c .before .before .before .before .before .before .room .given .1) in
     let go = next-go _ (c .before .before .before .before .skip-contents .ensures) (c .before .before .step .given .1) in
     ap Next.At (sym (c .if1 .left)) ∙ sym (ap shownNext (table-room _ _ ∙ room-full unlimited 41 contents (a .m .now) (a .at) h (go .1) (c .if1 .left)))
 
@@ -67,7 +67,7 @@ pub skip-table-spec : {M : Type 1} → statement M
 skip-table-spec =
     tie.close
     (tie.spec
-    read-body-requires
+    read-room-requires
     enum-known-room
     body-refusal-requires
     returns

@@ -1,82 +1,62 @@
 -- `quick::past_row` meets its contract: a room that fits, and cells that fill it. Assumes nothing.
 use mathlib.Core.Path.{_≡_, sym, ap, _∙_}
-use Prim.Native.Nat.{ℕ, _+_, _≤_}
 use lib.ListN.{length, take}
 use lib.Seq.{length-take-le}
 use native.Mathlib.Omega.{arith}
+use Rattle.format.specs.Message.{mostRow}
 use Rattle.scan.specs.declared.Next.{Next}
+use Rattle.quick.proofs.Bodies.{sure}
 use Rattle.quick.proofs.Rows.{row-reads}
 use borrow.Author.Needs.{needs}
 use Rattle.quick.proofs.past_row.Statement.{statement}
 use Rattle.quick.proofs.past_row.Tie as tie
 
+sure-body-requires : tie.Need-sure-body-requires
+sure-body-requires c κs = search needs
+
+enum-known-start : tie.Need-enum-known-start
+enum-known-start c = search needs
+
+enum-told : tie.Need-enum-told
+enum-told c = search needs
+
 returns : tie.Need-returns
 returns c = λ there. absurd (omega arith)
 
-sub-if2 : tie.Need-sub-if2
-sub-if2 c = search needs
-
-returns-2 : tie.Need-returns-2
-returns-2 c = λ there. absurd (omega arith)
-
-four-requires : tie.Need-four-requires
-four-requires c κs = search needs
-
-returns-3 : tie.Need-returns-3
-returns-3 c = λ there. absurd (omega arith)
-
-add-start : tie.Need-add-start
-add-start c = search needs
-
-sub-if4 : tie.Need-sub-if4
-sub-if4 c = search needs
-
-returns-4 : tie.Need-returns-4
-returns-4 c = λ there. absurd (omega arith)
-
-add-end : tie.Need-add-end
-add-end c = search needs
-
 slice-aggregate-past-cells : tie.Need-slice-aggregate-past-cells
 slice-aggregate-past-cells c =
-    let a = c .before .before .before .before .before .before .before .before .args in
-    let fit : a .at + 4 + c .before .before .before .four .result ≤ length (a .s .now) = omega (arith, c .before .if4 .left, c .before .before .before .before .if2 .left, c .before .before .before .before .before .if1 .left) in
-    sym (length-take-le _ (a .s .now) fit)
+    let a = c .before .before .before .before .before .before .before .args in
+    let is = sure (a .s .now) (a .at) mostRow (c .before .before .before .before .sure-body .ensures) (c .before .before .start .given .1) in
+    sym (length-take-le _ (a .s .now) (is .3))
 
 past-cells-requires : tie.Need-past-cells-requires
 past-cells-requires c κs =
-    let a = c .before .before .before .before .before .before .before .before .args in
-    let fit : a .at + 4 + c .before .before .before .four .result ≤ length (a .s .now) = omega (arith, c .before .if4 .left, c .before .before .before .before .if2 .left, c .before .before .before .before .before .if1 .left) in
-    (omega (arith, length-take-le (a .at + 4 + c .before .before .before .four .result) (a .s .now) fit), c .before .before .before .before .before .before .before .before .pre)
+    let b = c .before .before .before .before .before .before .before in
+    let is = sure (b .args .s .now) (b .args .at) mostRow (c .before .before .before .before .sure-body .ensures) (c .before .before .start .given .1) in
+    (omega (arith, is .0, is .1, length-take-le _ (b .args .s .now) (is .3)), b .pre)
 
-returns-5 : tie.Need-returns-5
-returns-5 c =
-    let a = c .before .before .before .before .before .before .before .before .before .before .args in
-    let four = c .before .before .before .before .before .four in
-    let end = a .at + 4 + four .result in
-    let fit : end ≤ length (a .s .now) = omega (arith, c .before .before .before .if4 .left, c .before .before .before .before .before .before .if2 .left, c .before .before .before .before .before .before .before .if1 .left) in
-    let size : length (take end (a .s .now)) ≡ end = length-take-le end (a .s .now) fit in
-    λ there.
-    row-reads (a .types .now) (a .s .now) (a .at) end (omega (arith, four .ensures .0, c .before .before .before .before .if3 .left)) (ap (λ (n : ℕ). a .at + 4 + n) (four .ensures .0)) fit
-    (c .before .past-cells .ensures (omega (arith, c .if5 .taken)) (omega (arith, c .if5 .taken, size)) ∙ ap Next.At (c .if5 .taken))
+returns-2 : tie.Need-returns-2
+returns-2 c =
+    let a = c .before .before .before .before .before .before .before .before .before .args in
+    let told = c .before .before .before .before .start .given in
+    let end = told .0 .1 .0 in
+    let is = sure (a .s .now) (a .at) mostRow (c .before .before .before .before .before .before .sure-body .ensures) (told .1) in
+    let size : length (take end (a .s .now)) ≡ end = length-take-le end (a .s .now) (is .3) in
+    let cells = c .before .past-cells .ensures (omega (arith, c .if1 .taken, is .1)) (omega (arith, c .if1 .taken, size)) ∙ ap Next.At (c .if1 .taken) in
+    λ there. row-reads (a .types .now) (a .s .now) (a .at) end (is .2) (is .1) (is .3) (rw (sym (is .0)) cells)
 
-returns-6 : tie.Need-returns-6
-returns-6 c = λ there. absurd (omega arith)
+returns-3 : tie.Need-returns-3
+returns-3 c = λ there. absurd (omega arith)
 
 pub past-row-spec : {M : Type 1} → statement M
 past-row-spec =
     tie.close
     (tie.spec
+    sure-body-requires
+    enum-known-start
+    enum-told
     returns
-    sub-if2
-    returns-2
-    four-requires
-    returns-3
-    add-start
-    sub-if4
-    returns-4
-    add-end
     slice-aggregate-past-cells
     past-cells-requires
-    returns-5
-    returns-6)
+    returns-2
+    returns-3)

@@ -35,7 +35,7 @@ returns c =
     let a = c .before .before .before .before .before .before .before .args in
     let l = c .before .before .before .before .loop in
     let run = c .before .before .past-rows in
-    sym (ends-done (row (a .types .now)) (a .s .now) (a .n) (l .i + run .result .rows) (run .result .at) (omega (arith, c .if1 .taken)))
+    sym (ends-done (row (a .types .now)) (a .s .now) (a .n) (l .i + run .result .passed) (run .result .at) (omega (arith, c .if1 .taken)))
     ∙ ends-run (row (a .types .now)) (a .s .now) (a .from) (a .n) (l .i) (l .at) (run .result) (run .ensures) (l .inv .1)
 
 skip-row-requires : tie.Need-skip-row-requires Inv-loop μ-loop
@@ -55,8 +55,8 @@ returns-2 c =
     let a = c .before .before .before .before .before .before .before .before .before .before .before .args in
     let l = c .before .before .before .before .before .before .before .before .loop in
     let run = c .before .before .before .before .before .before .past-rows in
-    let more : l .i + run .result .rows < a .n = omega (arith, c .before .before .before .before .if1 .left, run .ensures .0, c .before .before .before .before .before .before .before .loop-test .taken) in
-    sym (ends-stop (row (a .types .now)) (a .s .now) (a .n) (l .i + run .result .rows) (run .result .at) more (c .before .before .before .skip-row .ensures) (c .before .enum-told .given .1) (c .next-refusal .ensures))
+    let more : l .i + run .result .passed < a .n = omega (arith, c .before .before .before .before .if1 .left, run .ensures .0, c .before .before .before .before .before .before .before .loop-test .taken) in
+    sym (ends-stop (row (a .types .now)) (a .s .now) (a .n) (l .i + run .result .passed) (run .result .at) more (c .before .before .before .skip-row .ensures) (c .before .enum-told .given .1) (c .next-refusal .ensures))
     ∙ ends-run (row (a .types .now)) (a .s .now) (a .from) (a .n) (l .i) (l .at) (run .result) (run .ensures) (l .inv .1)
 
 add-i-2 : tie.Need-add-i-2 Inv-loop μ-loop
@@ -70,9 +70,9 @@ loop-again c =
     let a = c .before .before .before .before .before .before .before .before .before .before .before .args in
     let l = c .before .before .before .before .before .before .before .before .loop in
     let run = c .before .before .before .before .before .before .past-rows in
-    let more : l .i + run .result .rows < a .n = omega (arith, c .before .before .before .before .if1 .left, run .ensures .0, c .before .before .before .before .before .before .before .loop-test .taken) in (
+    let more : l .i + run .result .passed < a .n = omega (arith, c .before .before .before .before .if1 .left, run .ensures .0, c .before .before .before .before .before .before .before .loop-test .taken) in (
       omega (arith, more),
-      ends-turn (row (a .types .now)) (a .s .now) (a .n) (l .i + run .result .rows) (run .result .at) more (c .before .before .before .skip-row .ensures) (c .before .step .given .1)
+      ends-turn (row (a .types .now)) (a .s .now) (a .n) (l .i + run .result .passed) (run .result .at) more (c .before .before .before .skip-row .ensures) (c .before .step .given .1)
           ∙ ends-run (row (a .types .now)) (a .s .now) (a .from) (a .n) (l .i) (l .at) (run .result) (run .ensures) (l .inv .1),
     )
 

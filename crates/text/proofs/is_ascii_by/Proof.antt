@@ -1,7 +1,7 @@
--- `text::is_ascii_by` meets its contract: the bytes before the place that is looked at are all ASCII; the last ones join them. Assumes nothing.
+-- `text::is_ascii_by` meets its contract: the bytes before the place that is looked at are all ASCII; the last ones, looked at first, join them. Assumes nothing.
 use mathlib.Core.Path.{_≡_, sym, subst}
 use mathlib.Core.Bool.{true≢false}
-use Prim.Native.Nat.{ℕ, _+_, _-_, _≤_}
+use Prim.Native.Nat.{_+_, _-_, _≤_}
 use lib.ListN.{length}
 use native.Mathlib.Omega.{arith}
 use borrow.Author.Tests.{not-false}
@@ -20,14 +20,20 @@ abbrev μ-loop : tie.MeasureT-loop
 sub-last : tie.Need-sub-last Inv-loop μ-loop
 sub-last c = search needs
 
-loop-holds : tie.Need-loop-holds Inv-loop μ-loop
-loop-holds c = (omega arith, low-none (c .before .args .b .now) 0)
-
 are-low-requires : tie.Need-are-low-requires Inv-loop μ-loop
 are-low-requires c κs = search needs
 
 returns : tie.Need-returns Inv-loop μ-loop
 returns c = λ e. absurd (true≢false (sym e))
+
+loop-holds : tie.Need-loop-holds Inv-loop μ-loop
+loop-holds c = (omega arith, low-none (c .before .before .before .args .b .now) 0)
+
+are-low-requires-2 : tie.Need-are-low-requires-2 Inv-loop μ-loop
+are-low-requires-2 c κs = search needs
+
+returns-2 : tie.Need-returns-2 Inv-loop μ-loop
+returns-2 c = λ e. absurd (true≢false (sym e))
 
 add-i : tie.Need-add-i Inv-loop μ-loop
 add-i c = search needs
@@ -38,23 +44,21 @@ loop-less c = search needs
 loop-again : tie.Need-loop-again Inv-loop μ-loop
 loop-again c =
     let l = c .before .before .before .loop in
-    let a = c .before .before .before .before .before .args in
+    let a = c .before .before .before .before .before .before .before .args in
     let b = a .b .now in (
       omega (arith, c .before .before .loop-test .taken),
-      low-join b (l .i) (l .i) (a .step) (omega arith) (l .inv .1) (c .before .are-low .ensures (not-false _ (c .if1 .left))),
+      low-join b (l .i) (l .i) (a .step) (omega arith) (l .inv .1) (c .before .are-low2 .ensures (not-false _ (c .if2 .left))),
     )
 
-are-low-requires-2 : tie.Need-are-low-requires-2 Inv-loop μ-loop
-are-low-requires-2 c κs = search needs
-
-returns-2 : tie.Need-returns-2 Inv-loop μ-loop
-returns-2 c =
-    let l = c .before .before .loop in
-    let s = c .before .before .before .before in
+returns-3 : tie.Need-returns-3 Inv-loop μ-loop
+returns-3 c =
+    let l = c .before .loop in
+    let s = c .before .before .before .before .before in
     let b = s .args .b .now in
     let step = s .args .step in
     let end : length b - step + step ≡ length b = omega (arith, s .pre .1) in
-    λ e. subst (LowRun b 0) end (low-join b (l .i) (length b - step) step (omega (arith, c .before .loop-test .left)) (l .inv .1) (c .are-low2 .ensures e))
+    let last = c .before .before .before .are-low .ensures (not-false _ (c .before .before .if1 .left)) in
+    λ e. subst (LowRun b 0) end (low-join b (l .i) (length b - step) step (omega (arith, c .loop-test .left)) (l .inv .1) last)
 
 pub is-ascii-by-spec : {M : Type 1} → statement M
 is-ascii-by-spec =
@@ -63,11 +67,12 @@ is-ascii-by-spec =
     Inv-loop
     μ-loop
     sub-last
-    loop-holds
     are-low-requires
     returns
+    loop-holds
+    are-low-requires-2
+    returns-2
     add-i
     loop-less
     loop-again
-    are-low-requires-2
-    returns-2)
+    returns-3)
