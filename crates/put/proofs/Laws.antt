@@ -8,7 +8,7 @@ use native.Mathlib.Omega.{arith}
 use mathlib.Core.List.{List, [], _∷_, _++_, append-assoc, append-nil}
 use mathlib.Core.Option.{some, none}
 use lib.ListN.{length, take, drop, set, getD, length-append, length-drop, take-append-drop}
-use lib.Seq.{take-all, take-at, take-length, drop-at, drop-drop, drop-length, length-take-le, set-split, take-take, set-append-left, drop-append-add, paste, paste-suc, length-paste}
+use lib.Seq.{take-all, take-at, take-length, drop-at, drop-drop, drop-length, length-take-le, set-split, take-take, set-append-left, drop-append-add, drop-cons, take-append-le, take-add, sets-eq, paste, paste-suc, length-paste}
 use lib.Arith.{digits-div}
 use lib.Pow.{pow-add}
 use lib.Dec.{eqb, lit≤}
@@ -138,6 +138,50 @@ copied-more xs s i h l =
 
 pub copied-all : (xs s : List ℕ) (i : ℕ) → i ≡ length s → paste xs 0 s i ≡ s ++ drop (length s) xs
 copied-all xs s i e = rw (e, take-length, zero-add)
+
+-- the k bytes from a place on, each read by itself
+abbrev each : List ℕ → ℕ → ℕ → List ℕ
+each s i zero = []
+each s i (suc k) = getD s i 0 ∷ each s (suc i) k
+
+each-is : (s : List ℕ) (i k : ℕ) → i + k ≤ length s → each s i k ≡ take k (drop i s)
+each-is s i zero h = refl
+each-is s i (suc k) h = ap (λ (r : List ℕ). getD s i 0 ∷ r) (each-is s (suc i) k (omega arith)) ∙ sym (ap (take (suc k)) (drop-cons s i 0 (omega arith)))
+
+-- eight bytes, read and then stored one after the other, are put at once
+pub eight-copied : (xs s : List ℕ) (i : ℕ) → i + 8 ≤ length s → length s ≤ length xs
+    → set (set (set (set (set (set (set (set xs i (getD s i 0)) (i + 1) (getD s (i + 1) 0)) (i + 2) (getD s (i + 2) 0)) (i + 3) (getD s (i + 3) 0)) (i + 4) (getD s (i + 4) 0)) (i + 5) (getD s (i + 5) 0)) (i + 6) (getD s (i + 6) 0)) (i + 7) (getD s (i + 7) 0)
+    ≡ put xs i (take 8 (drop i s))
+unfolding put
+eight-copied xs s i h l =
+    let e₁ : i + 1 ≡ suc i = omega arith in
+    let e₂ : i + 2 ≡ suc (suc i) = omega arith in
+    let e₃ : i + 3 ≡ suc (suc (suc i)) = omega arith in
+    let e₄ : i + 4 ≡ suc (suc (suc (suc i))) = omega arith in
+    let e₅ : i + 5 ≡ suc (suc (suc (suc (suc i)))) = omega arith in
+    let e₆ : i + 6 ≡ suc (suc (suc (suc (suc (suc i))))) = omega arith in
+    let e₇ : i + 7 ≡ suc (suc (suc (suc (suc (suc (suc i)))))) = omega arith in
+    rw (e₁, e₂, e₃, e₄, e₅, e₆, e₇) (sets-eq (each s i 8) xs i (omega arith))
+    ∙ append-assoc (take i xs) (each s i 8) (drop (i + 8) xs)
+    ∙ ap (λ (bs : List ℕ). take i xs ++ (bs ++ drop (i + length bs) xs)) (each-is s i 8 h)
+
+-- eight bytes more of a copy, some of which may stand there already
+pub copied-eight : (xs s : List ℕ) (k j : ℕ) → j ≤ k → k ≤ j + 8 → j + 8 ≤ length s → length s ≤ length xs → put (paste xs 0 s k) j (take 8 (drop j s)) ≡ paste xs 0 s (j + 8)
+unfolding put
+copied-eight xs s k j a b h l =
+    let n : length (take k s) ≡ k = length-take-le k s (omega arith) in
+    let m : length (take 8 (drop j s)) ≡ 8 = length-take-le 8 (drop j s) (rw length-drop (omega arith)) in
+    let front : take j (take k s ++ drop (0 + k) xs) ≡ take j s = take-append-le j (take k s) (drop (0 + k) xs) (omega arith) ∙ take-take j k s a in
+    let sum : j + length (take 8 (drop j s)) ≡ length (take k s) + (j + 8 - k) = omega arith in
+    let end : 0 + k + (j + 8 - k) ≡ 0 + (j + 8) = omega arith in
+    let rear : drop (j + length (take 8 (drop j s))) (take k s ++ drop (0 + k) xs) ≡ drop (0 + (j + 8)) xs =
+    ap (λ (x : ℕ). drop x (take k s ++ drop (0 + k) xs)) sum
+    ∙ drop-append-add (take k s) (drop (0 + k) xs) (j + 8 - k)
+    ∙ drop-drop (j + 8 - k) (0 + k) xs
+    ∙ ap (λ (x : ℕ). drop x xs) end in
+    ap₂ (λ (x y : List ℕ). x ++ (take 8 (drop j s) ++ y)) front rear
+    ∙ sym (append-assoc (take j s) (take 8 (drop j s)) (drop (0 + (j + 8)) xs))
+    ∙ ap (λ (x : List ℕ). x ++ drop (0 + (j + 8)) xs) (sym (take-add j 8 s))
 
 -- the same for k bytes
 pub lent-sized : (k : ℕ) (xs : List ℕ) (a : ℕ) (bs ys : List ℕ) → length bs ≡ k → a + k ≤ length xs → ys ≡ bs ++ drop k (midOf a (length xs - a) xs)

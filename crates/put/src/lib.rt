@@ -2,7 +2,7 @@
 ghost use mathlib.Core.Path.{_≡_};
 ghost use Prim.Native.Nat.{_+_, _*_, _^_, _≤_};
 ghost use mathlib.Core.List.{_++_};
-ghost use lib.ListN.{length, drop};
+ghost use lib.ListN.{length, take, drop};
 ghost use Rattle.format.specs.Number.{numBytes};
 ghost use Rattle.format.specs.Value.{widthOf};
 ghost use Rattle.put.specs.Put.{put, optional, sized};
@@ -57,8 +57,8 @@ pub fn put_number(out: &mut [u8], n: u64, k: usize)
     put_each(out, n, k);
 }
 
-// Writes bytes as they are.
-pub fn put_bytes(out: &mut [u8], s: &[u8])
+// Writes bytes one by one: those that are too few for eight at a time.
+fn put_few(out: &mut [u8], s: &[u8])
     requires { ⌜ length (now s) ≤ length (now out) ⌝ }
     ensures { λ _. ⌜ now (out .exit) ≡ now (s .entry) ++ drop (length (now (s .entry))) (now (out .entry)) ⌝ }
 {
@@ -67,6 +67,48 @@ pub fn put_bytes(out: &mut [u8], s: &[u8])
         out[i] = s[i];
         i += 1;
     }
+}
+
+// Copies the 8 bytes at a place to the same place. All are read before one is written: so it is one load and one store.
+fn copy_eight(out: &mut [u8], s: &[u8], i: usize)
+    requires { ⌜ (i + 8 ≤ length (now s)) × (length (now s) ≤ length (now out)) ⌝ }
+    ensures { λ _. ⌜ now (out .exit) ≡ put (now (out .entry)) i (take 8 (drop i (now (s .entry)))) ⌝ }
+{
+    let a = s[i];
+    let b = s[i + 1];
+    let c = s[i + 2];
+    let d = s[i + 3];
+    let e = s[i + 4];
+    let f = s[i + 5];
+    let g = s[i + 6];
+    let h = s[i + 7];
+    out[i] = a;
+    out[i + 1] = b;
+    out[i + 2] = c;
+    out[i + 3] = d;
+    out[i + 4] = e;
+    out[i + 5] = f;
+    out[i + 6] = g;
+    out[i + 7] = h;
+}
+
+// Writes bytes as they are, eight at a time. The last eight are written whole too, over some that stand already.
+pub fn put_bytes(out: &mut [u8], s: &[u8])
+    requires { ⌜ length (now s) ≤ length (now out) ⌝ }
+    ensures { λ _. ⌜ now (out .exit) ≡ now (s .entry) ++ drop (length (now (s .entry))) (now (out .entry)) ⌝ }
+{
+    let n = s.len();
+    if n < 8 {
+        put_few(out, s);
+        return;
+    }
+    let last = n - 8;
+    let mut i = 0;
+    while i < last {
+        copy_eight(out, s, i);
+        i += 8;
+    }
+    copy_eight(out, s, last);
 }
 
 // Writes a value of a fixed size, by its upper and lower 64 bits.
