@@ -8,13 +8,13 @@ use lib.ListN.{length, take, drop, getD, replicate, length-replicate, take-appen
 use lib.Seq.{length-take-le, drop-cons}
 use lib.Dec.{leb, ltb, eqb, lit<}
 use native.Mathlib.Omega.{arith}
-use borrow.Author.Tests.{ltb-false}
+use borrow.Author.Tests.{ltb-false, eqb-true}
 use Rattle.format.specs.declared.Fault.the-variants.{WireType, Limit, Negative}
 use Rattle.format.specs.Result.{ok}
 use Rattle.format.specs.Number.{Bytes, half}
 use Rattle.format.specs.Format.{Format, Index, number, block, nothing, ruled, room, into, both, each}
 use Rattle.format.specs.Value.{string, ascii, isColumn, Value, value}
-use Rattle.format.specs.Message.{count, columnType, list, third, mostColumns, unlimited, mostRow, Metadata, metadata, row, table, second, first, mostItems, flagByte, afterFlags, head, response}
+use Rattle.format.specs.Message.{count, columnType, list, third, mostColumns, unlimited, mostRow, Metadata, metadata, row, Table, table, inTable, second, first, mostItems, flagByte, afterFlags, head, response}
 use Rattle.format.proofs.Results.{ok-same, bound, spared, passed}
 use Rattle.format.proofs.Numbers.{Bytes-take}
 use Rattle.format.proofs.Laws.{Lawful, lawful-number, lawful-block, lawful-nothing, lawful-ruled, lawful-into, lawful-both, lawful-present, lawful-each, all-replicate, all-map, length-each}
@@ -37,10 +37,11 @@ pub record Roomed {A : Type 0} (f : Format A) (s : List ℕ) (at : ℕ) (a : A) 
   pub length-read : number 4 0 .read s at ≡ ok (n, at + 4)
   pub fit : at + 4 + n ≤ length s
   pub inside : f .read s (at + 4) ≡ ok (a, next)
+  pub end : next ≡ at + 4 + n
 
 pub roomed : {A : Type 0} (most field : ℕ) {f : Format A} (l : Lawful f) (s : List ℕ) (by : Bytes s) (at : ℕ) (a : A) (next : ℕ) → room most field f .read s at ≡ ok (a, next) → Roomed f s at a next
 unfolding room number
-roomed most field {f} l s by at a next e =
+roomed {A} most field {f} l s by at a next e =
     let r = bound (number 4 field .read s at) e in
     let n = r .0 .0 in
     let place : r .0 .1 ≡ at + 4 = took 4 field s at n (r .0 .1) (r .1) .place in
@@ -53,7 +54,7 @@ roomed most field {f} l s by at a next e =
     let q = bound (f .read cut (at + 4)) (t₃ .1) in
     let end = passed (eqb (q .0 .1) (at + 4 + n)) _ _ (q .2) in
     let long = looks-longer l cut (Bytes-take (at + 4 + n) s by) (at + 4) (q .0 .1) (q .0 .0) (omega arith) (q .1) (drop (at + 4 + n) s) in
-    record { n = n; length-read = r .1 ∙ ap (λ (p : ℕ). ok (n, p)) place; fit = fit; inside = rw take-append-drop at long ∙ end .1 }
+    record { n = n; length-read = r .1 ∙ ap (λ (p : ℕ). ok (n, p)) place; fit = fit; inside = rw take-append-drop at long ∙ end .1; end = sym (ap (λ (p : A × ℕ). p .1) (ok-same (end .1))) ∙ eqb-true (q .0 .1) (at + 4 + n) (end .0) }
 
 module _ (s : List ℕ) (by : Bytes s) {ix : Index} {tour : Tour} {out : List ℕ} {mid : Tour} {written : List ℕ} {after : Tour} {more : List ℕ} where
   pub walked-room : {A : Type 0} (most field : ℕ) {f : Format A} → Lawful f → Walked (number 4 field) s ix tour out mid written → Walked f s ix mid written after more
@@ -68,7 +69,7 @@ module _ (s : List ℕ) (by : Bytes s) {ix : Index} {tour : Tour} {out : List �
   }
 
 -- the types of columns, as they stand
-types-are : (at-index : ℕ → Index → Index) (k n field : ℕ) (s : List ℕ) (at : ℕ) → at ≤ length s → (ts : List ℕ) (next : ℕ)
+pub types-are : (at-index : ℕ → Index → Index) (k n field : ℕ) (s : List ℕ) (at : ℕ) → at ≤ length s → (ts : List ℕ) (next : ℕ)
     → each at-index k (replicate n (columnType field)) .read s at ≡ ok (ts, next) → (ts ≡ take n (drop at s)) × (at + n ≤ length s)
 unfolding each nothing
 types-are at-index k zero field s at h ts next e = (sym (ap (λ (p : List ℕ × ℕ). p .0) (ok-same e)), omega arith)
@@ -155,6 +156,13 @@ where-columns s by at m next e =
 abbrev pub rows : Metadata → Format (List (List Value))
 rows m = list 4 unlimited 48 second (row (m .types))
 
+-- what stands in the rooms of a row and of a table
+lawful-cells : (types : List ℕ) → Lawful (each third 0 (map (value 50 51) types))
+lawful-cells types = search laws
+
+lawful-rows : Lawful (inTable metadata)
+lawful-rows = search laws depth 6
+
 module _ (s : List ℕ) (by : Bytes s) {ix : Index} {tour : Tour} {out : List ℕ} {mid : Tour} {written : List ℕ} {after : Tour} {more : List ℕ} where
   pub walked-metadata : Walked (number 4 42) s ix tour out mid written → Walked described s ix mid written after more → Walked metadata s ix tour out after more
   unfolding metadata
@@ -163,12 +171,12 @@ module _ (s : List ℕ) (by : Bytes s) {ix : Index} {tour : Tour} {out : List �
   pub walked-row : (types : List ℕ) → Walked (number 4 49) s ix tour out mid written → Walked (each third 0 (map (value 50 51) types)) s ix mid written after more
       → Walked (row types) s ix tour out after more
   unfolding row
-  walked-row types t u = walked-room s by mostRow 49 (search laws) t u
+  walked-row types t u = walked-room s by mostRow 49 (lawful-cells types) t u
 
   pub walked-table : Walked (number 4 41) s ix tour out mid written → Walked (both metadata rows) s ix mid written after more → Walked table s ix tour out after more
   unfolding table
   walked-table t u =
-      walked-room s by unlimited 41 (search laws depth 6) t
+      walked-room s by unlimited 41 lawful-rows t
       (walked-into s (λ v. record { metadata = v .0; rows = v .1 }) (λ l. (l .metadata, l .rows)) by (search laws depth 6) (λ v g. refl) u)
 
 module _ (s : List ℕ) (by : Bytes s) {ix : Index} {tour : Tour} {out : List ℕ} {after : Tour} {written : List ℕ} where
@@ -182,6 +190,29 @@ module _ (s : List ℕ) (by : Bytes s) {ix : Index} {tour : Tour} {out : List �
   pub walked-reply : (timed : Bool) → Walked (both (head timed) (λ h. list 2 mostItems 40 first table)) s ix tour out after written → Walked (response timed) s ix tour out after written
   unfolding response
   walked-reply timed w = walked-into s _ _ by (search (laws, lawful-head)) (λ v g. refl) w
+
+-- where a room ends that was read, by its length
+pub record Ended (s : List ℕ) (at next : ℕ) : Type 0 where
+  pub n : ℕ
+  pub length-read : number 4 0 .read s at ≡ ok (n, at + 4)
+  pub fit : at + 4 + n ≤ length s
+  pub end : next ≡ at + 4 + n
+
+ended : {A : Type 0} {f : Format A} {s : List ℕ} {at : ℕ} {a : A} {next : ℕ} → Roomed f s at a next → Ended s at next
+ended r = record { n = r .n; length-read = r .length-read; fit = r .fit; end = r .end }
+
+module _ (s : List ℕ) (by : Bytes s) (at : ℕ) where
+  pub row-ended : (types : List ℕ) (a : List Value) (next : ℕ) → row types .read s at ≡ ok (a, next) → Ended s at next
+  unfolding row
+  row-ended types a next e = ended (roomed mostRow 49 (lawful-cells types) s by at a next e)
+
+  pub metadata-ended : (a : Metadata) (next : ℕ) → metadata .read s at ≡ ok (a, next) → Ended s at next
+  unfolding metadata
+  metadata-ended a next e = ended (roomed unlimited 42 lawful-told s by at a next e)
+
+  pub table-ended : (a : Table) (next : ℕ) → table .read s at ≡ ok (a, next) → Ended s at next
+  unfolding table
+  table-ended a next e = ended (roomed unlimited 41 lawful-rows s by at a next e)
 
 -- the same by what the code finds
 pub found-columns : (s : List ℕ) → Bytes s → (at : ℕ) (m : Metadata) (next : ℕ) → metadata .read s at ≡ ok (m, next) → {count first n : ℕ}

@@ -1,7 +1,7 @@
 -- What a walk over a value meets, by how its format is made: each law here makes the walk over a format from walks over its parts.
 use Prim.Native.Nat.{ℕ, suc, _+_, _-_, _≤_}
 use mathlib.Core.Path.{_≡_, refl, sym, _∙_, ap, subst}
-use mathlib.Core.Bool.{Bool, true, false, _&&_}
+use mathlib.Core.Bool.{Bool, true, false, _&&_, true≢false}
 use mathlib.Core.List.{List, [], _∷_}
 use mathlib.Core.Option.{Option, some, none}
 use lib.ListN.{length, take, drop, getD, length-drop}
@@ -10,7 +10,7 @@ use lib.Dec.{leb, ltb, eqb}
 use mir.Val.{Fits}
 use mir.Syntax.{w8}
 use native.Mathlib.Omega.{arith}
-use borrow.Author.Tests.{leb-true, leb-false, ltb-false, eqb-true, le-leb}
+use borrow.Author.Tests.{leb-true, leb-false, ltb-false, eqb-true, eqb-false, le-leb}
 use Rattle.format.specs.declared.Fault.{Fault}
 use Rattle.format.specs.declared.Fault.the-variants.{Short, Negative, Limit}
 use Rattle.format.specs.Result.{Res, ok, no, pick}
@@ -131,6 +131,10 @@ module _ (most : ℕ) (rule : List ℕ → Verdict) (s : List ℕ) (at n next : 
       let h = spared (leb (half 4) n) _ _ e in
       absurd (omega (arith, leb-false (half 4) n (h .0)))
 
+  not-null : (t : Bool) → t ≡ false → tests t ≡ ok (v, next) → n ≡ null4 → ⊥
+  not-null true never e z = true≢false never
+  not-null false never e z = let low = leb-false (half 4) n (spared (leb (half 4) n) _ _ e .0) in omega arith
+
   is-some : (nullable t : Bool) → nullable && eqb n null4 ≡ t → (n ≡ null4 → ⊥) → tests t ≡ ok (v, next) → Some s at n v next
   is-some nullable true i z e = absurd (z (eqb-true n null4 (and-true-both nullable (eqb n null4) i .1)))
   is-some nullable false i z e =
@@ -163,6 +167,21 @@ module _ (s : List ℕ) {ix : Index} {tour : Tour} {out : List ℕ} {mid : Tour}
         (x .0 ∙ place ∙ sym (w .end), rw (w .none-there) (x .1));
   }
 
+  -- a null, and no bytes after it
+  pub walked-none : {after : Tour} {more : List ℕ} → n ≡ null4 → Walked (number 0 b) s ix mid written after more → Walked (counted nullable most rule l b) s ix tour out after more
+  unfolding counted number visited
+  walked-none z u = record {
+    goes = λ v next e.
+        let r = bound (number 4 l .read s (tour .at)) e in
+        let same : n ≡ r .0 .0 = told (r .0 .0) (r .0 .1) (r .1) in
+        let w = is-null most rule s (tour .at) (r .0 .0) next v (nullable && eqb (r .0 .0) null4) (sym same ∙ z) (r .2) in
+        let x = t .goes (r .0 .0) (r .0 .1) (r .1) in
+        let length-there = took 4 l s (tour .at) (r .0 .0) (r .0 .1) (r .1) in
+        let fit : mid .at + 0 ≤ length s = omega (arith, x .0, length-there .place, length-there .fit) in
+        let y = u .goes (numAt 0 s (mid .at)) (mid .at + 0) (rw (le-leb _ _ fit)) in
+        (omega (arith, y .0, x .0, length-there .place, w .end), rw (w .none-there) (y .1 ∙ x .1));
+  }
+
   pub walked-some : {after : Tour} {more : List ℕ} → (n ≡ null4 → ⊥) → Walked (number n b) s ix mid written after more → Walked (counted nullable most rule l b) s ix tour out after more
   unfolding counted number
   walked-some {after} {more} z u = record {
@@ -177,6 +196,28 @@ module _ (s : List ℕ) {ix : Index} {tour : Tour} {out : List ℕ} {mid : Tour}
         let size : length (w .body) ≡ n = w .size ∙ sym same in
         (omega (arith, y .0, w .end), rw (w .there, visited-both, size, ← place, ← x .1) (y .1));
   }
+
+  -- a body that can't be null
+  pub walked-there : {after : Tour} {more : List ℕ} → nullable ≡ false → Walked (number n b) s ix mid written after more → Walked (counted nullable most rule l b) s ix tour out after more
+  unfolding counted number
+  walked-there {after} {more} never u = by-case (eqb n null4) refl
+    where
+      by-case : (null : Bool) → eqb n null4 ≡ null → Walked (counted nullable most rule l b) s ix tour out after more
+      by-case false z = walked-some (eqb-false n null4 z) u
+      by-case true z = record {
+        goes = λ v next e.
+            let r = bound (number 4 l .read s (tour .at)) e in
+            let same : n ≡ r .0 .0 = told (r .0 .0) (r .0 .1) (r .1) in
+            absurd (not-null most rule s (tour .at) (r .0 .0) next v (nullable && eqb (r .0 .0) null4) (ap (λ (t : Bool). t && eqb (r .0 .0) null4) never) (r .2) (sym same ∙ eqb-true n null4 z));
+      }
+
+  -- a null or not: as many bytes as there are
+  pub walked-sized : {size : ℕ} {after : Tour} {more : List ℕ} → size ≡ pick (eqb n null4) 0 n → Walked (number size b) s ix mid written after more → Walked (counted nullable most rule l b) s ix tour out after more
+  walked-sized {size} {after} {more} is u = by-case (eqb n null4) refl is
+    where
+      by-case : (null : Bool) → eqb n null4 ≡ null → size ≡ pick null 0 n → Walked (counted nullable most rule l b) s ix tour out after more
+      by-case true z m = walked-none (eqb-true n null4 z) (rw m at u)
+      by-case false z m = walked-some (eqb-false n null4 z) (rw m at u)
 
 -- a slice's bytes
 pub bytes-all : (s : List ℕ) → ((k : ℕ) → Fits w8 (getD s k 0)) → Bytes s

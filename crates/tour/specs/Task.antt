@@ -1,6 +1,7 @@
 -- What is done with the fields of a message: a task, the lent list that it works on, and what comes of one field more. All that is known of a task stands here.
-use Prim.Native.Nat.{ℕ, _+_, _*_, _/_, _%_, _^_}
+use Prim.Native.Nat.{ℕ, _+_, _*_, _/_, _%_, _^_, _≤_}
 use mathlib.Core.Bool.{Bool, _&&_}
+use mathlib.Core.Logic.{_⊎_}
 use mathlib.Core.List.{List, [], _∷_}
 use lib.ListN.{length}
 use lib.Seq.{sets}
@@ -44,3 +45,11 @@ acted st e =
       };
       out = pick w (sets (st .out) (6 * t .taken) (six e)) (st .out);
     }
+
+-- a task after so many fields in all, if none more was listed
+abbrev pub seenTo : Task → ℕ → Task
+seenTo t n = record { first = t .first; offset = t .offset; seen = n; taken = t .taken; last = t .last }
+
+-- no field up to end is wanted, of which there are at most n: the list is full, or each ends too early, or has too low a number
+abbrev pub Calm : Task → ℕ → ℕ → ℕ → Type 0
+Calm t room end n = (room / 6 ≤ t .taken) ⊎ ((end ≤ t .offset) ⊎ (t .seen + n ≤ t .first))

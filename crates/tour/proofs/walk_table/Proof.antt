@@ -16,8 +16,8 @@ walk-fixed-requires c κs = search needs
 types-of-requires : tie.Need-types-of-requires
 types-of-requires c κs = search needs
 
-walk-metadata-requires : tie.Need-walk-metadata-requires
-walk-metadata-requires c κs = search needs
+pass-metadata-requires : tie.Need-pass-metadata-requires
+pass-metadata-requires c κs = search needs
 
 number-at-requires : tie.Need-number-at-requires
 number-at-requires c κs = search needs
@@ -29,14 +29,14 @@ walk-rows-requires : tie.Need-walk-rows-requires
 walk-rows-requires c κs = search needs
 
 same-length : tie.Need-same-length
-same-length c = (c .before .before .walk-rows .kept .1 .0) ∙ ((c .before .before .before .before .before .before .walk-fixed2 .kept .1 .0) ∙ ((c .before .before .before .before .before .before .before .before .before .before .before .walk-metadata .kept .1 .0) ∙ (c .before .before .before .before .before .before .before .before .before .before .before .before .before .before .before .before .walk-fixed .kept .1 .0)))
+same-length c = (c .before .before .walk-rows .kept .1 .0) ∙ ((c .before .before .before .before .before .before .walk-fixed2 .kept .1 .0) ∙ ((c .before .before .before .before .before .before .before .before .before .before .before .pass-metadata .kept .1 .0) ∙ (c .before .before .before .before .before .before .before .before .before .before .before .before .before .before .before .before .walk-fixed .kept .1 .0)))
 
 returns : tie.Need-returns
 returns c =
     let a = c .before .before .before .before .before .before .before .before .before .before .before .before .before .before .before .before .before .before .before .before .args in
     let s = a .s .now in
     let b = bytes-all (a .s .now) (c .before .before .before .before .before .before .before .before .before .before .before .before .before .before .before .before .before .before .before .shared-slice-known .given) in
-    walked-table s b (c .before .before .before .before .before .before .before .before .before .before .before .before .before .before .before .before .walk-fixed .ensures) (walked-both b {g = rows} lawful-metadata (c .before .before .before .before .before .before .before .before .before .before .before .walk-metadata .ensures) (λ m next e.
+    walked-table s b (c .before .before .before .before .before .before .before .before .before .before .before .before .before .before .before .before .walk-fixed .ensures) (walked-both b {g = rows} lawful-metadata (c .before .before .before .before .before .before .before .before .before .before .before .pass-metadata .ensures) (λ m next e.
     let same = (c .before .before .before .before .before .before .before .before .before .before .before .before .before .types-of .ensures) m next e in
     rw (← same) (walked-list 4 unlimited 48 second (lawful-row _) s b (number-stands (c .before .before .before .before .before .before .before .before .number-at .ensures)) (c .before .before .before .before .before .before .walk-fixed2 .ensures) (c .before .before .walk-rows .ensures))))
 
@@ -46,7 +46,7 @@ walk-table-spec =
     (tie.spec
     walk-fixed-requires
     types-of-requires
-    walk-metadata-requires
+    pass-metadata-requires
     number-at-requires
     walk-fixed-requires-2
     walk-rows-requires

@@ -19,8 +19,8 @@ abbrev μ-loop : tie.MeasureT-loop
 loop-holds : tie.Need-loop-holds Inv-loop μ-loop
 loop-holds c = let a = c .before .before .args in round-first first (λ m. table) _ _ _ _ _
 
-walk-table-requires : tie.Need-walk-table-requires Inv-loop μ-loop
-walk-table-requires c κs = search needs
+pass-table-requires : tie.Need-pass-table-requires Inv-loop μ-loop
+pass-table-requires c κs = search needs
 
 add-i : tie.Need-add-i Inv-loop μ-loop
 add-i c = let few = c .before .before .before .before .loop-test .taken in omega arith
@@ -32,7 +32,7 @@ loop-again : tie.Need-loop-again Inv-loop μ-loop
 loop-again c =
     let a = c .before .before .before .before .before .before .before .before .args in
     let l = c .before .before .before .before .before .loop in
-    round-next first (λ m. table) (λ m. lawful-table) (a .s .now) (bytes-all (a .s .now) (c .before .before .before .before .before .before .before .shared-slice-known .given)) (indexOf (a .ix)) (a .n) (l .i) (c .before .before .before .before .loop-test .taken) (l .inv) (c .before .before .walk-table .ensures) (c .before .before .walk-table .kept .1 .0)
+    round-next first (λ m. table) (λ m. lawful-table) (a .s .now) (bytes-all (a .s .now) (c .before .before .before .before .before .before .before .shared-slice-known .given)) (indexOf (a .ix)) (a .n) (l .i) (c .before .before .before .before .loop-test .taken) (l .inv) (c .before .before .pass-table .ensures) (c .before .before .pass-table .kept .1 .0)
 
 same-length : tie.Need-same-length Inv-loop μ-loop
 same-length c = (c .before .loop .inv .long)
@@ -49,7 +49,7 @@ walk-tables-spec =
     Inv-loop
     μ-loop
     loop-holds
-    walk-table-requires
+    pass-table-requires
     add-i
     loop-less
     loop-again

@@ -1,0 +1,71 @@
+-- What the counts inside are held to, which ask no task at each field, and what makes the fields of a run unwanted.
+use Prim.Native.Nat.{ℕ, _+_, _*_, _-_, _<_, _≤_}
+use mathlib.Core.Path.{_≡_}
+use mathlib.Core.Bool.{Bool, true}
+use mathlib.Core.List.{List, [], _∷_}
+use lib.ListN.{length}
+use Rattle.format.specs.Result.{ok}
+use Rattle.format.specs.Format.{Format, Index, number}
+use Rattle.format.specs.Value.{widthOf}
+use Rattle.format.specs.Message.{mostColumns, unlimited}
+use Rattle.tour.specs.declared.Task.{Task}
+use Rattle.tour.specs.declared.Tour.{Tour}
+use Rattle.tour.specs.Task.{listTask, seenTo, Calm}
+use Rattle.tour.specs.Walks.{Walked}
+use Rattle.tour.specs.declared.Tally.{Tally}
+
+-- a count is a tour whose list has no room, so that no field is wanted
+abbrev pub counting : Tally → Tour
+counting t = record { at = t .at; task = seenTo (listTask 0 0) (t .seen) }
+
+pub record Tallied {A : Type 0} (f : Format A) (s : List ℕ) (from after : Tally) : Type 0 where
+  pub walks : (ix : Index) → Walked f s ix (counting from) [] (counting after) []
+
+-- the tour goes on where a count of its fields ended
+abbrev pub tallyOf : Tour → Tally
+tallyOf t = record { at = t .at; seen = t .task .seen }
+
+abbrev pub resumed : Tour → Tally → Tour
+resumed t c = record { at = c .at; task = seenTo (t .task) (c .seen) }
+
+-- where the room ends whose length stands at a place
+abbrev pub RoomEnd : List ℕ → ℕ → ℕ → Type 0
+RoomEnd s at r = (n next : ℕ) → number 4 0 .read s at ≡ ok (n, next) → next + n ≤ length s → r ≡ next + n
+
+-- the room whose length stands at a tour's place is calm
+abbrev pub CalmRoom : List ℕ → ℕ → Tour → Bool → Type 0
+CalmRoom s room t r = r ≡ true → (n next : ℕ) → number 4 0 .read s (t .at) ≡ ok (n, next) → next + n ≤ length s → Calm (t .task) room (next + n) (next + n - t .at)
+
+-- the types all have fixed sizes, which add up to so many bytes
+abbrev pub Fixed : List ℕ → Type 0
+Fixed [] = Unit {0}
+Fixed (t ∷ ts) = (0 < widthOf t) × Fixed ts
+
+abbrev pub widths : List ℕ → ℕ
+widths [] = 0
+widths (t ∷ ts) = widthOf t + widths ts
+
+-- the most bytes of a row of fixed sizes, with its length
+abbrev pub mostFixed : ℕ
+mostFixed = 4 + 16 * mostColumns
+
+-- how many bytes a row has by the types of its columns; 0 promises nothing
+pub record FixedRow (types : List ℕ) (size : ℕ) : Type 0 where
+  pub few : size ≤ mostFixed
+  pub sizes : 0 < size → (length types ≤ mostColumns) × Fixed types × (size ≡ 4 + widths types)
+
+-- n rows, at least one, of so many bytes stand at a place
+pub record Standing (s : List ℕ) (at size n : ℕ) : Type 0 where
+  pub some-rows : 0 < n
+  pub some-bytes : 0 < size
+  pub few : n ≤ unlimited
+  pub fit : at + n * size ≤ length s
+
+-- so many of n rows, each of so many bytes and so many fields, aren't wanted from a place on
+abbrev pub CalmRows : Task → ℕ → ℕ → ℕ → ℕ → ℕ → ℕ → Type 0
+CalmRows t room at size fields n r = (r ≤ n) × (0 < r → Calm t room (at + r * size) (r * fields))
+
+-- and they stand there
+pub record CalmRun (s : List ℕ) (room : ℕ) (t : Tour) (size fields n : ℕ) (r : ℕ) : Type 0 where
+  pub few : r ≤ n
+  pub calm : 0 < r → Standing s (t .at) size r × Calm (t .task) room (t .at + r * size) (r * fields)
