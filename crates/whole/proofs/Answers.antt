@@ -222,22 +222,21 @@ module _ (bytes ns types : List ℕ) (from end : ℕ) where
   pub past-end : (k at : ℕ) → length ns / 2 ≤ length types → k ≡ length ns / 2 → from ≤ at → at ≤ end → allColumns (take k types) ≡ true → Passed k at → PastAll bytes ns types from end at
   past-end k at few e lo hi all same = record { low = lo; high = hi; few = few; columns = subst (λ (m : ℕ). allColumns (take m types) ≡ true) e all; same = subst (λ (m : ℕ). Passed m at) e same }
 
--- what the tests of a state say of its places
-pub opens-room : (st : Code) (size : ℕ) → opens st size ≡ true → (st .position + 4 ≤ messageEnd) × (st .position + 4 ≤ size) × (st .columns ≤ mostColumns)
-opens-room st size e =
-    let x = and-true-both (eqb (stageNumber (st .stage)) (stageNumber Table)) _ e in
-    let y = and-true-both (leb (st .count) mostItems && (leb (st .rows + 1) unlimited && leb (st .columns) mostColumns)) _ (x .1) in
-    let counts = and-true-both (leb (st .count) mostItems) _ (y .0) in
-    let more = and-true-both (leb (st .rows + 1) unlimited) _ (counts .1) in
-    let z = and-true-both (leb 4 (st .«count_at») && (leb (st .«count_at» + 2) (st .«table_at») && leb (st .«table_at» + 4) (st .«rows_at»))) _ (y .1) in
-    let row = and-true-both (leb (st .«rows_at» + 4) (st .position)) _ (z .1) in
-    let room = and-true-both (leb (st .position + 4) messageEnd) _ (row .1) in
-    (leb-true (st .position + 4) messageEnd (room .0), leb-true (st .position + 4) size (room .1), leb-true (st .columns) mostColumns (more .1))
+-- the tests of a state, one by one
+record Tests (st : Code) (size : ℕ) : Type 0 where
+  stage : eqb (stageNumber (st .stage)) (stageNumber Table) ≡ true
+  tables : leb (st .count) mostItems ≡ true
+  more : leb (st .rows + 1) unlimited ≡ true
+  columns : leb (st .columns) mostColumns ≡ true
+  front : leb 4 (st .«count_at») ≡ true
+  table : leb (st .«count_at» + 2) (st .«table_at») ≡ true
+  rows : leb (st .«table_at» + 4) (st .«rows_at») ≡ true
+  behind : leb (st .«rows_at» + 4) (st .position) ≡ true
+  message : leb (st .position + 4) messageEnd ≡ true
+  room : leb (st .position + 4) size ≡ true
 
--- a row can be opened in a state that is sound, and whose types are columns'
-opened-so : (st : Code) (types : List ℕ) (size : ℕ) → opens st size ≡ true → allColumns (take (st .columns) types) ≡ true → Opened (seen st types) size (st .position + 4)
-unfolding sound messageSound outerSound
-opened-so st types size e all =
+tests : (st : Code) (size : ℕ) → opens st size ≡ true → Tests st size
+tests st size e =
     let x = and-true-both (eqb (stageNumber (st .stage)) (stageNumber Table)) _ e in
     let y = and-true-both (leb (st .count) mostItems && (leb (st .rows + 1) unlimited && leb (st .columns) mostColumns)) _ (x .1) in
     let counts = and-true-both (leb (st .count) mostItems) _ (y .0) in
@@ -247,11 +246,23 @@ opened-so st types size e all =
     let table = and-true-both (leb (st .«count_at» + 2) (st .«table_at»)) _ (front .1) in
     let row = and-true-both (leb (st .«rows_at» + 4) (st .position)) _ (z .1) in
     let room = and-true-both (leb (st .position + 4) messageEnd) _ (row .1) in
-    let rows = leb-true (st .rows + 1) unlimited (more .0) in
-    let fits = leb-true (st .position + 4) size (room .1) in
-    let few = leb-true (st .columns) mostColumns (more .1) in
-    let wide : length (take (st .columns) types) ≤ mostColumns = omega (arith, length-take (st .columns) types) in
-    simp (more .1, x .0, counts .0, more .0, le-leb (st .rows) unlimited (omega arith), le-leb _ _ wide, all, front .0, table .0, table .1, row .0, le-leb (st .position) size (omega arith), length-numBytes, room .0, room .1)
+    record { stage = x .0; tables = counts .0; more = more .0; columns = more .1; front = front .0; table = table .0; rows = table .1; behind = row .0; message = room .0; room = room .1 }
+
+-- where the first cell of a row goes, and how many columns there are
+pub opens-room : (st : Code) (size : ℕ) → opens st size ≡ true → (st .position + 4 ≤ messageEnd) × (st .position + 4 ≤ size) × (st .columns ≤ mostColumns)
+opens-room st size e =
+    let t = tests st size e in
+    (leb-true (st .position + 4) messageEnd (t .message), leb-true (st .position + 4) size (t .room), leb-true (st .columns) mostColumns (t .columns))
+
+-- a row can be opened in a state that is sound, and whose types are columns'
+opened-so : (st : Code) (types : List ℕ) (size : ℕ) → opens st size ≡ true → allColumns (take (st .columns) types) ≡ true → Opened (seen st types) size (st .position + 4)
+unfolding sound messageSound outerSound
+opened-so st types size e all =
+    let t = tests st size e in
+    let rows = leb-true (st .rows + 1) unlimited (t .more) in
+    let room = opens-room st size e in
+    let wide : length (take (st .columns) types) ≤ mostColumns = omega (arith, length-take (st .columns) types, room .2) in
+    simp (t .columns, t .stage, t .tables, t .more, le-leb (st .rows) unlimited (omega arith), le-leb _ _ wide, all, t .front, t .table, t .rows, t .behind, le-leb (st .position) size (omega (arith, room .1)), length-numBytes, t .message, t .room)
 
 -- a row of which all cells were passed is taken
 pub end-sure : (bytes ns : List ℕ) (st : Code) (types : List ℕ) (size end r : ℕ) → opens st size ≡ true → st .columns ≡ length ns / 2 → EndOf (st .position + 4) size end
