@@ -148,7 +148,7 @@ pub fn close_table(out: &mut [u8], st: State, types: &[u8; COLUMNS]) -> Outcome
 }
 
 // What each step is answered, in a buffer of so many bytes.
-pub fn ask_open_row(st: State, types: &[u8; COLUMNS], size: usize) -> Answer
+fn ask_open_row(st: State, types: &[u8; COLUMNS], size: usize) -> Answer
     ensures { λ r. ⌜ r ≡ shownAnswer (answerOf (plan openRow (seen st (now (types .entry))) size) size) ⌝ }
 {
     let permitted = write::at_table(st, types, size);
@@ -156,7 +156,7 @@ pub fn ask_open_row(st: State, types: &[u8; COLUMNS], size: usize) -> Answer
     write::judge(permitted, Check::Fine, more, st.position, 4, size)
 }
 
-pub fn ask_close_row(st: State, types: &[u8; COLUMNS], size: usize) -> Answer
+fn ask_close_row(st: State, types: &[u8; COLUMNS], size: usize) -> Answer
     ensures { λ r. ⌜ r ≡ shownAnswer (answerOf (plan closeRow (seen st (now (types .entry))) size) size) ⌝ }
 {
     // as a slice, so that its length is known from here on

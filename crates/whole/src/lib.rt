@@ -19,7 +19,8 @@ ghost use Rattle.format.specs.Value.{isCounted, widthOf, fixedFine};
 ghost use Rattle.format.specs.Message.{mostColumns};
 ghost use Rattle.put.specs.Put.{put};
 ghost use Rattle.steps.specs.Arguments.{isNumberOf};
-ghost use Rattle.steps.specs.Steps.{messageEnd};
+ghost use Rattle.steps.specs.Plans.{answerOf};
+ghost use Rattle.steps.specs.Steps.{openRow, closeRow, plan, messageEnd};
 ghost use Rattle.write.specs.Shown.{seen, shownAnswer};
 ghost use Rattle.whole.specs.Rows.{valueIn, bodyIn, cellStep, WroteRow};
 ghost use Rattle.whole.specs.Asked.{asked, typeNow, rowAnswer, answersFrom, opens, Opened, EndOf, PastAll, Sure};
@@ -210,11 +211,33 @@ fn sure_body(at: usize, t: u8, start: usize, size: u64, bytes: &[u8]) -> usize
 fn ask_each(st: State, types: &[u8; COLUMNS], cells: &[u64], bytes: &[u8], size: usize) -> Answer
     ensures { λ r. ⌜ r ≡ shownAnswer (rowAnswer (now (bytes .entry)) (now (cells .entry)) (seen st (now (types .entry))) size) ⌝ }
 {
-    let opened = rows::ask_open_row(st, types, size);
+    let opened = ask_open(st, types, size);
     let Answer::Is(first) = opened else {
         return opened;
     };
     ask_cells(st, first, types, cells, bytes, size)
+}
+
+// What opening and closing are answered. These are the tests of `rows`, made here once more: a function with two callers isn't put into the step that opens or
+// closes a row, which then takes up to twice as long.
+fn ask_open(st: State, types: &[u8; COLUMNS], size: usize) -> Answer
+    ensures { λ r. ⌜ r ≡ shownAnswer (answerOf (plan openRow (seen st (now (types .entry))) size) size) ⌝ }
+{
+    let permitted = write::at_table(st, types, size);
+    let more = write::one_more(st.rows, write::MOST_ROWS);
+    write::judge(permitted, Check::Fine, more, st.position, 4, size)
+}
+
+fn ask_close(st: State, types: &[u8; COLUMNS], size: usize) -> Answer
+    ensures { λ r. ⌜ r ≡ shownAnswer (answerOf (plan closeRow (seen st (now (types .entry))) size) size) ⌝ }
+{
+    // as a slice, so that its length is known from here on
+    let lent: &[u8] = types;
+    let in_row = write::at_row(st, types, size);
+    let full = st.inner_count == write::columns_seen(st.columns);
+    let permitted = write::both(in_row, full);
+    let keeps = write::row_keeps(st.inner_at, st.position, 0);
+    write::judge(permitted, Check::Fine, keeps, st.position, 0, size)
 }
 
 // What the cells of a row that was opened are answered, and the closing behind them.
@@ -248,7 +271,7 @@ fn ask_cells(
         );
         k += 1;
     }
-    rows::ask_close_row(row, types, size)
+    ask_close(row, types, size)
 }
 
 // What a cell is answered, by its two numbers.

@@ -19,7 +19,7 @@ use Rattle.whole.proofs.ask_cells.Statement.{statement}
 use Rattle.whole.proofs.ask_cells.Tie as tie
 use Rattle.whole.proofs.ask_cells.Reads as reads
 use Rattle.whole.proofs.ask_cells.Lts as lts
-use Rattle.rows.proofs.ask_close_row.Reads as ask-close-row-reads
+use Rattle.whole.proofs.ask_close.Reads as ask-close-reads
 use Rattle.whole.proofs.ask_cell.Reads as ask-cell-reads
 use Rattle.write.proofs.in_table.Reads as in-table-reads
 
@@ -125,8 +125,8 @@ loop-again c =
     let next = ap (λ (r : Code). seen r (a .types .now)) e ∙ tabled-seen (l .row) (a .types .now) n (l .row .«inner_at») (l .row .«inner_count» + 1) (l .row .rows) (l .inv .1) in
     (ap (λ (m : ℕ). m + 1) (l .inv .0) ∙ sym (ap (λ (r : Code). r .«inner_count») e), subst (λ (r : Code). r .columns ≤ mostColumns) (sym e) (tabled-few (l .row) n (l .row .«inner_at») (l .row .«inner_count» + 1) (l .row .rows) (l .inv .1)), ap (λ (x : State). restAnswer (a .bytes .now) (a .cells .now) x (a .size)) next ∙ (sym turn ∙ l .inv .2))
 
-ask-close-row-requires : tie.Need-ask-close-row-requires Inv-loop μ-loop
-ask-close-row-requires c κs = search needs
+ask-close-requires : tie.Need-ask-close-requires Inv-loop μ-loop
+ask-close-requires c κs = search needs
 
 returns-2 : tie.Need-returns-2 Inv-loop μ-loop
 returns-2 c =
@@ -136,7 +136,7 @@ returns-2 c =
     let s = seen (l .row) (a .types .now) in
     let r = rest-end (a .bytes .now) (a .cells .now) s (a .size) (omega (arith, l .inv .0, c .before .loop-test .left)) in
     let start = begun (a .st) (a .types .now) (a .size) (a .first) (c .before .before .before .in-table .ensures) (f .pre) in
-    c .ask-close-row .ensures ∙ ap shownAnswer (sym r ∙ l .inv .2 ∙ ap (λ (x : State). restAnswer (a .bytes .now) (a .cells .now) x (a .size)) start)
+    c .ask-close .ensures ∙ ap shownAnswer (sym r ∙ l .inv .2 ∙ ap (λ (x : State). restAnswer (a .bytes .now) (a .cells .now) x (a .size)) start)
 
 pub ask-cells-spec : {M : Type 1} → statement M
 ask-cells-spec =
@@ -163,5 +163,5 @@ ask-cells-spec =
     add-k
     loop-less
     loop-again
-    ask-close-row-requires
+    ask-close-requires
     returns-2)
