@@ -16,10 +16,10 @@ use Rattle.format.specs.Format.{Entry}
 use Rattle.format.specs.Message.{readMessage}
 use Rattle.format.proofs.Results.{ok-same, bound}
 use Rattle.format.proofs.Took.{Tiles}
-use Rattle.tour.specs.declared.Task.{Task}
+use Rattle.tally.specs.declared.Task.{Task}
 use Rattle.tour.specs.declared.Toured.{Toured}
-use Rattle.tour.specs.Task.{State, doing, listTask, six}
-use Rattle.tour.specs.Tour.{visited, fieldsOf, taskAfter, outAfter}
+use Rattle.tally.specs.Task.{State, doing, listTask, six, visited}
+use Rattle.tour.specs.Tour.{fieldsOf, taskAfter, outAfter}
 use Rattle.tour.specs.Told.{toldToured, touredNo}
 use Rattle.fields.specs.Questions.{nth, ownerOf, windowOf, windowCount, windowOut, sixes, over, entryAt}
 use Rattle.fields.specs.Met.{countMet, fieldMet, ownerMet, windowMet}

@@ -10,8 +10,7 @@ use native.Mathlib.Nat.{mod-eq-of-lt}
 use native.Mathlib.Decide.{decLt}
 use borrow.Author.Tests.{le-leb, lt-leb, lt-ltb, le-ltb}
 use Rattle.format.specs.Format.{Entry}
-use Rattle.tour.specs.Task.{State, doing, six, wanted, acted}
-use Rattle.tour.specs.Tour.{visited}
+use Rattle.tally.specs.Task.{State, doing, six, wanted, acted, visited}
 use Rattle.fields.specs.Questions.{sixes}
 
 -- the same, but for how many were seen

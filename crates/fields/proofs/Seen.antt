@@ -15,9 +15,8 @@ use Rattle.format.specs.Result.{Res, ok, no as refused, pick}
 use Rattle.format.specs.Format.{Entry}
 use Rattle.format.proofs.Took.{Tiles}
 use Rattle.format.proofs.Results.{no-ok}
-use Rattle.tour.specs.Task.{State, doing, listTask, six, wanted, acted}
-use Rattle.tour.specs.Tour.{visited}
-use Rattle.tour.proofs.Visits.{visited-both}
+use Rattle.tally.specs.Task.{State, doing, listTask, six, wanted, acted, visited}
+use Rattle.tally.proofs.Visits.{visited-both}
 use Rattle.fields.specs.Questions.{ownerFrom, windowOf, sixes, over}
 use Rattle.fields.proofs.Listing.{counted, Each, Asked, passes, early, full, taken-one, step-take, step-past, fills, each-drop, length-sixes}
 

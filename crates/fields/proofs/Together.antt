@@ -21,7 +21,7 @@ use Rattle.format.proofs.Results.{ok-same, no-ok}
 use Rattle.format.proofs.Took.{Tiles}
 use Rattle.format.proofs.Owner.{Owns, Owner, owner}
 use Rattle.format.proofs.Demands.{accepted→encodes, fields-tile}
-use Rattle.tour.specs.Task.{six}
+use Rattle.tally.specs.Task.{six}
 use Rattle.fields.specs.declared.Entry as fields
 use Rattle.fields.specs.declared.Listed.{Listed}
 use Rattle.fields.specs.declared.Owned.{Owned}

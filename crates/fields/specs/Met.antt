@@ -5,7 +5,7 @@ use lib.Dec.{leb, eqb}
 use Rattle.format.specs.declared.Fault.the-variants.{PastEnd}
 use Rattle.format.specs.Result.{Res, ok, no, bind, pick}
 use Rattle.format.specs.Format.{Entry}
-use Rattle.tour.specs.declared.Task.{Task}
+use Rattle.tally.specs.declared.Task.{Task}
 use Rattle.fields.specs.Questions.{entryAt}
 
 abbrev pub countMet : Res Task → Res ℕ

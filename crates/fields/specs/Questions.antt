@@ -7,7 +7,7 @@ use lib.Dec.{leb, ltb}
 use Rattle.format.specs.declared.Fault.the-variants.{PastEnd}
 use Rattle.format.specs.Result.{Res, ok, no, pick}
 use Rattle.format.specs.Format.{Entry}
-use Rattle.tour.specs.Task.{six}
+use Rattle.tally.specs.Task.{six}
 
 -- the n-th entry, from 0 on
 abbrev pub nth : List Entry → ℕ → Res Entry

@@ -13,10 +13,10 @@ use Rattle.format.specs.Message.{noIndex}
 use Rattle.format.specs.Geography.{Polygon, polygon, readPolygon, polygonFields, fieldsInside}
 use Rattle.format.proofs.Results.{ok-same, no-ok, passed, bound}
 use Rattle.format.proofs.Geography.{inside-tiles}
-use Rattle.tour.specs.declared.Task.{Task}
-use Rattle.tour.specs.declared.Tour.{Tour}
-use Rattle.tour.specs.Task.{State, doing}
-use Rattle.tour.specs.Walks.{Walked}
+use Rattle.tally.specs.declared.Task.{Task}
+use Rattle.tally.specs.declared.Tour.{Tour}
+use Rattle.tally.specs.Task.{State, doing}
+use Rattle.tally.specs.Walks.{Walked}
 use Rattle.tour.proofs.Messages.{tour-met}
 use Rattle.fields.proofs.Calls.{Tiled, After}
 

@@ -13,11 +13,10 @@ use Rattle.format.specs.Geography.{Vertex, vertex, Ring, ring, atLeast, ringed,
 use Rattle.format.proofs.Results.{ok-same, bound}
 use Rattle.format.proofs.Laws.{Lawful, lawful-number, lawful-block, lawful-ruled, lawful-both, lawful-each, all-replicate}
 use Rattle.format.proofs.Geography.{lawful-vertex, lawful-ring, ring-back, polygon-back}
-use Rattle.tour.specs.declared.Tour.{Tour}
-use Rattle.tour.specs.Walks.{Walked}
-use Rattle.tour.proofs.Tours.{walked-ruled, walked-into, walked-both}
-use Rattle.tour.proofs.Values.{ruled-read}
-use Rattle.tour.proofs.Contents.{walked-then}
+use Rattle.tally.specs.declared.Tour.{Tour}
+use Rattle.tally.specs.Walks.{Walked}
+use Rattle.tally.proofs.Tours.{walked-ruled, walked-into, walked-both, walked-then}
+use Rattle.tally.proofs.Values.{ruled-read}
 
 -- how each format here is made
 ruleset laws = (lawful-number, lawful-block, lawful-ruled, lawful-both, lawful-each, lawful-vertex, lawful-ring, all-replicate)

@@ -10,8 +10,8 @@ use lib.Dec.{leb, ltb}
 use borrow.Author.Tests.{ltb-true}
 use Rattle.format.proofs.Results.{and-true-both}
 use Rattle.format.specs.Format.{Index, Entry}
-use Rattle.tour.specs.declared.Task.{Task}
-use Rattle.tour.specs.Task.{doing, wanted, six, acted}
+use Rattle.tally.specs.declared.Task.{Task}
+use Rattle.tally.specs.Task.{doing, wanted, six, acted}
 
 -- six stores in a row
 pub stores : (l : List ℕ) (p a b c d e f : ℕ)

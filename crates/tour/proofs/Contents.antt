@@ -15,11 +15,11 @@ use Rattle.format.specs.Message.{text, list, mostItems, first, param, invocatio
 use Rattle.format.proofs.Results.{ok-same, bound}
 use Rattle.format.proofs.Laws.{Lawful, lawful-number, lawful-block, lawful-nothing, lawful-ruled, lawful-into, lawful-both, lawful-present}
 use Rattle.format.proofs.Formats.{lawful-list, lawful-param, lawful-server}
-use Rattle.tour.specs.declared.Tour.{Tour}
-use Rattle.tour.specs.Walks.{Walked}
+use Rattle.tally.specs.declared.Tour.{Tour}
+use Rattle.tally.specs.Walks.{Walked}
 use Rattle.message.specs.Login.{login}
-use Rattle.tour.proofs.Tours.{walked-ruled, walked-into, walked-both, walked-nothing}
-use Rattle.tour.proofs.Values.{lawful-string, ruled-read}
+use Rattle.tally.proofs.Tours.{walked-ruled, walked-into, walked-both, walked-nothing}
+use Rattle.tally.proofs.Values.{lawful-string, ruled-read}
 
 -- how each format here is made
 ruleset laws = (lawful-number, lawful-block, lawful-nothing, lawful-ruled, lawful-into, lawful-both, lawful-present, lawful-string, lawful-list, lawful-param, lawful-server, lit<, tt)
@@ -49,18 +49,6 @@ abbrev hashed : ℕ → Format (Option ℕ × (Option (List ℕ) × (Option (Lis
 hashed version = both (present (eqb version 1) 0 (edition 3)) (λ h. login (hashSize h))
 
 module _ (s : List ℕ) (by : Bytes s) {ix : Index} {tour : Tour} {out : List ℕ} {after : Tour} {written : List ℕ} where
-  module _ {mid : Tour} {half : List ℕ} where
-    -- one value, and then another that doesn't look at it
-    pub walked-then : {A B : Type 0} {f : Format A} {g : Format B} → Lawful f → Walked f s ix tour out mid half → Walked g s ix mid half after written
-        → Walked (both f (λ a. g)) s ix tour out after written
-    walked-then {g = g} l t u = walked-both by {g = λ a. g} l t (λ a n e. u)
-
-    -- one value, known as t, and then another that it decides
-    pub walked-by : {A B : Type 0} {f : Format A} (g : A → Format B) → Lawful f → {t : A} → ((m : A) (next : ℕ) → f .read s (tour .at) ≡ ok (m, next) → t ≡ m) → Walked f s ix tour out mid half
-        → Walked (g t) s ix mid half after written → Walked (both f g) s ix tour out after written
-    walked-by g l {t} told w u =
-        walked-both by {g = g} l w (λ m next e. let same : t ≡ m = told m next e in rw same at u)
-
   pub walked-invocation : Walked (both (text 20 21) (λ p. both (block 8 22) (λ c. list 2 mostItems 23 first param))) s ix tour out after written → Walked invocation s ix tour out after written
   unfolding invocation
   walked-invocation w = walked-into s _ _ by (search laws depth 8) (λ v g. refl) w

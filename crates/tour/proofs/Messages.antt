@@ -19,13 +19,14 @@ use Rattle.message.specs.declared.Verdict.{Verdict}
 use Rattle.message.specs.Verdict.{toldVerdict, verdictOf, verdictNo}
 use Rattle.message.proofs.Accepted.{verdict-go, verdict-stop}
 use Rattle.message.proofs.Whole.{versioned}
-use Rattle.tour.specs.declared.Task.{Task}
-use Rattle.tour.specs.declared.Tour.{Tour}
-use Rattle.tour.specs.Task.{State, doing}
-use Rattle.tour.specs.Tour.{visited, fieldsOf, taskAfter, outAfter}
-use Rattle.tour.specs.Walks.{stateOf, Walked, Whole}
-use Rattle.tour.proofs.Visits.{visited-both}
-use Rattle.tour.proofs.Tours.{walked-into}
+use Rattle.tally.specs.declared.Task.{Task}
+use Rattle.tally.specs.declared.Tour.{Tour}
+use Rattle.tally.specs.Task.{State, doing, visited}
+use Rattle.tour.specs.Tour.{fieldsOf, taskAfter, outAfter}
+use Rattle.tally.specs.Walks.{stateOf, Walked}
+use Rattle.tour.specs.Whole.{Whole}
+use Rattle.tally.proofs.Visits.{visited-both}
+use Rattle.tally.proofs.Tours.{walked-into}
 
 module _ (s : List ℕ) (by : Bytes s) {ix : Index} {tour : Tour} {out : List ℕ} {after : Tour} {written : List ℕ} (layout version : ℕ) where
   -- the content of each layout

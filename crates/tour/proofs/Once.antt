@@ -1,7 +1,7 @@
 -- No two answers of a tour tell the same, so its contract decides the answer.
 use mathlib.Core.Path.{_≡_, refl, sym, _∙_, ap}
 use Rattle.format.specs.Result.{Res, ok, no}
-use Rattle.tour.specs.declared.Task.{Task}
+use Rattle.tally.specs.declared.Task.{Task}
 use Rattle.tour.specs.declared.Toured.{Toured}
 use Rattle.tour.specs.Told.{toldToured}
 

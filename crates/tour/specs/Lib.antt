@@ -1,7 +1,6 @@
--- What the contracts cite beside the wire's definition: what is done with a field, what a tour over all of them comes to, and what the
--- answer tells; and what the walks and the counts inside are held to.
-pub mod Task
+-- What the contracts cite beside the wire's definition: what a tour over all fields comes to, and what the answer tells; and what the walk over
+-- a message and the ways past unwanted fields are held to.
 pub mod Tour
 pub mod Told
-pub mod Walks
-pub mod Tallies
+pub mod Whole
+pub mod Calms

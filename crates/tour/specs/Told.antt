@@ -2,7 +2,7 @@
 use Rattle.format.specs.declared.Refusal.{Refusal}
 use Rattle.format.specs.Result.{Res, ok, no}
 use Rattle.scan.specs.Shown.{none-given}
-use Rattle.tour.specs.declared.Task.{Task}
+use Rattle.tally.specs.declared.Task.{Task}
 use Rattle.tour.specs.declared.Toured.{Toured}
 
 abbrev pub toldToured : Toured → Res Task

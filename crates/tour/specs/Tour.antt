@@ -1,20 +1,15 @@
 -- A tour over a message's fields, in wire order: what comes of a task that meets them all.
 use Prim.Native.Nat.{ℕ}
-use mathlib.Core.List.{List, [], _∷_}
+use mathlib.Core.List.{List}
 use Rattle.format.specs.Result.{Res, ok, no, bind}
 use Rattle.format.specs.Format.{Entry}
 use Rattle.format.specs.Message.{readMessage, messageFields}
-use Rattle.tour.specs.declared.Task.{Task}
-use Rattle.tour.specs.Task.{State, acted}
+use Rattle.tally.specs.declared.Task.{Task}
+use Rattle.tally.specs.Task.{State, visited}
 
 -- the fields that a message of a layout has
 abbrev pub fieldsOf : ℕ → List ℕ → Res (List Entry)
 fieldsOf layout m = bind (readMessage layout m) (λ r. ok (messageFields layout r))
-
--- some fields more, one by one
-unfoldable pub visited : State → List Entry → State
-visited st [] = st
-visited st (e ∷ es) = visited (acted st e) es
 
 -- the task after the fields of a message, and what it leaves in the lent list
 abbrev pub taskAfter : Res (List Entry) → State → Res Task

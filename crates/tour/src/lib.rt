@@ -1,36 +1,28 @@
 // One descent over an accepted message, which meets its fields in wire order and hands each to a task.
 use format::Fault;
 use format::Refusal;
+use tally::Indices;
+use tally::Tally;
+use tally::Task;
+use tally::Tour;
 ghost use mathlib.Core.Path.{_≡_};
 ghost use mathlib.Core.Bool.{Bool, true, false};
-ghost use mathlib.Core.List.{List, [], map};
+ghost use mathlib.Core.List.{List, map};
 ghost use mathlib.Core.Option.{none};
 ghost use Prim.Native.Nat.{ℕ, _+_, _-_, _*_, _/_, _%_, _^_, _≤_, _<_};
 ghost use lib.ListN.{length, replicate};
 ghost use lib.Seq.{sets};
 ghost use Rattle.format.specs.Format.{number, each, present, Verdict};
-ghost use Rattle.format.specs.Result.{ok, pick};
-ghost use Rattle.format.specs.Number.{null4};
-ghost use lib.Dec.{eqb};
-ghost use Rattle.format.specs.Value.{string, ascii, value, widthOf};
-ghost use Rattle.format.specs.Message.{first, second, third, items, argument, param, invocation, loginRequest, server, loginResponse, columnType, Metadata, metadata, row, table, trip, afterFlags, head, response, contentOf, mostColumns, unlimited};
+ghost use Rattle.format.specs.Value.{string, ascii, value};
+ghost use Rattle.format.specs.Message.{first, second, third, items, argument, param, invocation, loginRequest, server, loginResponse, columnType, metadata, row, table, trip, afterFlags, head, response, contentOf, mostColumns, unlimited};
 ghost use Rattle.message.specs.Login.{login};
-ghost use Rattle.tour.specs.Task.{listTask, doing, acted, wanted, six, Calm};
-ghost use Rattle.tour.specs.Tallies.{RoomEnd, counting, Tallied, tallyOf, resumed, CalmRoom, CalmRows, mostFixed, FixedRow, Standing, CalmRun};
-ghost use Rattle.tour.specs.declared.Indices.{Indices};
+ghost use Rattle.tally.specs.Task.{listTask, doing, acted, wanted, six, Calm};
+ghost use Rattle.tour.specs.Calms.{tallyOf, resumed, CalmRoom, CalmRows, CalmRun};
+ghost use Rattle.tally.specs.Tallies.{mostFixed};
 ghost use Rattle.tour.specs.Tour.{fieldsOf, taskAfter, outAfter};
-ghost use Rattle.tour.specs.Walks.{indexOf, Stepped, Walked, Whole};
+ghost use Rattle.tally.specs.Walks.{indexOf, Stepped, Walked};
+ghost use Rattle.tour.specs.Whole.{Whole};
 ghost use Rattle.tour.specs.Told.{toldToured, touredNo};
-
-// What is to be done with the fields, and what came of it so far. Those from the first-th on that end past an offset are listed, while
-// they fit: how many fields were seen, how many of them were listed, and the number of the last of these. No walk looks inside.
-pub struct Task {
-    pub first: usize,
-    pub offset: usize,
-    pub seen: usize,
-    pub taken: usize,
-    pub last: usize,
-}
 
 // The task after the last field.
 pub enum Toured {
@@ -75,13 +67,6 @@ pub fn list_task(first: usize, offset: usize) -> Task
         taken: 0,
         last: 0,
     }
-}
-
-// The three numbers that follow a field's number.
-pub struct Indices {
-    pub i: usize,
-    pub j: usize,
-    pub k: usize,
 }
 
 // What is done with a field, from at to end: the one place that knows it. Another action is another case here and in `acted`
@@ -140,12 +125,6 @@ fn write_six(out: &mut [u64], taken: usize, at: usize, size: usize, field: u64, 
     out[p + 5] = ix.k as u64;
 }
 
-// Where the descent is, and the task that it hands on from field to field.
-pub struct Tour {
-    pub at: usize,
-    pub task: Task,
-}
-
 // The field from the tour's place to end, if it has a byte.
 fn visit(out: &mut [u64], tour: Tour, end: usize, field: u64, ix: Indices) -> Tour
     ensures { λ r. ⌜ Stepped field ix tour (now (out .entry)) end r (now (out .exit)) ⌝ }
@@ -162,32 +141,6 @@ fn visit(out: &mut [u64], tour: Tour, end: usize, field: u64, ix: Indices) -> To
     }
 }
 
-// The place n bytes on, where so many bytes stand. Elsewhere it may be any: no place is looked at before it is known to stand in the slice.
-fn bytes_on(s: &[u8], at: usize, n: usize) -> usize
-    ensures { λ r. ⌜ (at + n ≤ length (now (s .entry)) → r ≡ at + n) ⌝ }
-{
-    std::num::wrapping_add_usize(at, n)
-}
-
-// The length that stands at a place, where it surely does; else 0.
-fn length_at(s: &[u8], at: usize) -> u64
-    ensures { λ r. ⌜ ((n next : ℕ) → number 4 0 .read (now (s .entry)) at ≡ ok (n, next) → r ≡ n) ⌝ }
-{
-    if !scan::fits(s, at, 4) {
-        return 0;
-    }
-    quick::four(s, at)
-}
-
-// Where the room ends whose length stands at a place.
-fn room_end(s: &[u8], at: usize) -> usize
-    ensures { λ r. ⌜ RoomEnd (now (s .entry)) at r ⌝ }
-{
-    let n = length_at(s, at);
-    let start = bytes_on(s, at, 4);
-    bytes_on(s, start, n as usize)
-}
-
 // A field of so many bytes.
 pub fn walk_fixed(
     s: &[u8],
@@ -199,7 +152,7 @@ pub fn walk_fixed(
 ) -> Tour
     ensures { λ r. ⌜ Walked (number width field) (now (s .entry)) (indexOf ix) tour (now (out .entry)) r (now (out .exit)) ⌝ }
 {
-    let end = bytes_on(s, tour.at, width);
+    let end = tally::bytes_on(s, tour.at, width);
     visit(out, tour, end, field, ix)
 }
 
@@ -213,23 +166,6 @@ fn walk_body(s: &[u8], out: &mut [u64], tour: Tour, prefix: u64, body: u64, ix: 
         return start;
     }
     walk_fixed(s, out, start, n as usize, body, ix)
-}
-
-// How many bytes a value of a fixed size has, as `scan::width_of` says it; here by a shift, for which the compiler makes no table of jumps: it would guess
-// wrong where columns of many types stand side by side. The digits of the number are the sizes of the types 0 to 15, from the last on.
-fn width_of(t: u8) -> usize
-    ensures { λ r. ⌜ r ≡ widthOf t ⌝ }
-{
-    if t < 16 {
-        return ((0x8008_0842_1000u64 >> (t as u64 * 4)) % 16) as usize;
-    }
-    if t == format::DECIMAL {
-        return 16;
-    }
-    if t == format::POINT {
-        return 16;
-    }
-    0
 }
 
 // A value of a wire type.
@@ -253,7 +189,7 @@ fn walk_value(
             body,
             ix,
         ),
-        _ => walk_fixed(s, out, tour, width_of(t), body, ix),
+        _ => walk_fixed(s, out, tour, tally::width_of(t), body, ix),
     }
 }
 
@@ -442,22 +378,8 @@ fn pass_metadata(s: &[u8], out: &mut [u64], tour: Tour, ix: Indices) -> Tour
     if !is_quiet(s, out.len(), tour) {
         return walk_metadata(s, out, tour, ix);
     }
-    let tally = tally_metadata(s, tally_of(tour));
+    let tally = tally::tally_metadata(s, tally_of(tour));
     resume(tour, tally)
-}
-
-// The types of the columns whose metadata stands at a place.
-fn types_of(s: &[u8], at: usize) -> &[u8]
-    ensures { λ r. ⌜ ((m : Metadata) (next : ℕ) → metadata .read (now (s .entry)) at ≡ ok (m, next) → now r ≡ m .types) ⌝ }
-{
-    let count = bytes_on(s, at, 5);
-    let first = bytes_on(s, at, 7);
-    let n = scan::number_at(s, count, 2) as usize;
-    if !scan::fits(s, first, n) {
-        return &s[0..0];
-    }
-    let end = first + n;
-    &s[first..end]
 }
 
 // A row's cells, one for each column's type.
@@ -493,7 +415,7 @@ fn pass_row(s: &[u8], out: &mut [u64], tour: Tour, types: &[u8], ix: Indices) ->
     if !is_quiet(s, out.len(), tour) {
         return walk_row(s, out, tour, types, ix);
     }
-    let tally = tally_row(s, tally_of(tour), types);
+    let tally = tally::tally_row(s, tally_of(tour), types);
     resume(tour, tally)
 }
 
@@ -501,7 +423,7 @@ fn pass_row(s: &[u8], out: &mut [u64], tour: Tour, types: &[u8], ix: Indices) ->
 fn walk_rows(s: &[u8], out: &mut [u64], from: Tour, types: &[u8], n: usize, ix: Indices) -> Tour
     ensures { λ r. ⌜ Walked (each second 0 (replicate n (row (now (types .entry))))) (now (s .entry)) (indexOf ix) from (now (out .entry)) r (now (out .exit)) ⌝ }
 {
-    let size = fixed_row(types);
+    let size = tally::fixed_row(types);
     let columns = types.len();
     let mut tour = from;
     let mut j = 0;
@@ -528,7 +450,7 @@ fn walk_table(s: &[u8], out: &mut [u64], tour: Tour, ix: Indices) -> Tour
     ensures { λ r. ⌜ Walked table (now (s .entry)) (indexOf ix) tour (now (out .entry)) r (now (out .exit)) ⌝ }
 {
     let metadata = walk_fixed(s, out, tour, 4, 41, ix);
-    let types = types_of(s, metadata.at);
+    let types = tally::types_of(s, metadata.at);
     let count = pass_metadata(s, out, metadata, ix);
     let n = scan::number_at(s, count.at, 4) as usize;
     let rows = walk_fixed(s, out, count, 4, 48, ix);
@@ -542,7 +464,7 @@ fn pass_table(s: &[u8], out: &mut [u64], tour: Tour, ix: Indices) -> Tour
     if !is_quiet(s, out.len(), tour) {
         return walk_table(s, out, tour, ix);
     }
-    let tally = tally_table(s, tally_of(tour));
+    let tally = tally::tally_table(s, tally_of(tour));
     resume(tour, tally)
 }
 
@@ -672,230 +594,6 @@ fn walk_message(layout: u8, m: &[u8], out: &mut [u64], task: Task) -> Tour
     walk_content(layout, m, out, content, version, ix)
 }
 
-// How many fields lie before a place, counted without a task.
-pub struct Tally {
-    pub at: usize,
-    pub seen: usize,
-}
-
-// The field from the count's place to end, if it has a byte.
-fn tally_to(tally: Tally, end: usize) -> Tally
-    ensures { λ r. ⌜ ((field : ℕ) (ix : Indices) → Stepped field ix (counting tally) [] end (counting r) []) ⌝ }
-{
-    let at = tally.at;
-    let seen = tally.seen;
-    if end <= at {
-        return Tally { at: end, seen };
-    }
-    Tally {
-        at: end,
-        seen: std::num::wrapping_add_usize(seen, 1),
-    }
-}
-
-// A field of so many bytes.
-fn tally_fixed(s: &[u8], tally: Tally, width: usize) -> Tally
-    ensures { λ r. ⌜ ((field : ℕ) → Tallied (number width field) (now (s .entry)) tally r) ⌝ }
-{
-    let end = bytes_on(s, tally.at, width);
-    tally_to(tally, end)
-}
-
-// How many bytes follow a length: none if it is a null's.
-fn body_size(n: u64) -> usize
-    ensures { λ r. ⌜ r ≡ pick (eqb n null4) 0 n ⌝ }
-{
-    if n == format::NULL_LENGTH {
-        0
-    } else {
-        n as usize
-    }
-}
-
-// A length, and as many bytes as it says.
-fn tally_body(s: &[u8], tally: Tally) -> Tally
-    ensures { λ r. ⌜ ((nullable : Bool) (rule : List ℕ → Verdict) (prefix body : ℕ) → Tallied (string nullable rule prefix body) (now (s .entry)) tally r) ⌝ }
-{
-    let n = length_at(s, tally.at);
-    let start = tally_fixed(s, tally, 4);
-    tally_fixed(s, start, body_size(n))
-}
-
-// A cell of a wire type.
-fn tally_value(s: &[u8], tally: Tally, t: u8) -> Tally
-    ensures { λ r. ⌜ Tallied (value 50 51 t) (now (s .entry)) tally r ⌝ }
-{
-    match t {
-        format::STRING | format::VARBINARY | format::GEOGRAPHY => tally_body(s, tally),
-        _ => tally_fixed(s, tally, width_of(t)),
-    }
-}
-
-// A row's cells.
-fn tally_cells(s: &[u8], from: Tally, types: &[u8]) -> Tally
-    ensures { λ r. ⌜ Tallied (each third 0 (map (value 50 51) (now (types .entry)))) (now (s .entry)) from r ⌝ }
-{
-    let mut tally = from;
-    let mut k = 0;
-    while k < types.len() {
-        tally = tally_value(s, tally, types[k]);
-        k += 1;
-    }
-    tally
-}
-
-// The count of a room's fields, at the room's end. Taken from the room's length, and not from the last of its fields, the next place is
-// known before they are counted, so that the processor needn't wait for them.
-fn ended_at(tally: Tally, end: usize) -> Tally
-    ensures { λ r. ⌜ r ≡ record { at = end; seen = tally .seen } ⌝ }
-{
-    Tally {
-        at: end,
-        seen: tally.seen,
-    }
-}
-
-// A row.
-fn tally_row(s: &[u8], tally: Tally, types: &[u8]) -> Tally
-    ensures { λ r. ⌜ Tallied (row (now (types .entry))) (now (s .entry)) tally r ⌝ }
-{
-    let cells = tally_fixed(s, tally, 4);
-    let last = tally_cells(s, cells, types);
-    ended_at(last, room_end(s, tally.at))
-}
-
-// N rows, one by one.
-fn tally_each_row(s: &[u8], from: Tally, types: &[u8], n: usize) -> Tally
-    ensures { λ r. ⌜ Tallied (each second 0 (replicate n (row (now (types .entry))))) (now (s .entry)) from r ⌝ }
-{
-    let mut tally = from;
-    let mut j = 0;
-    while j < n {
-        tally = tally_row(s, tally, types);
-        j += 1;
-    }
-    tally
-}
-
-// How many bytes a row has whose columns are all of fixed sizes; 0 for any other.
-fn fixed_row(types: &[u8]) -> usize
-    ensures { λ r. ⌜ FixedRow (now (types .entry)) r ⌝ }
-{
-    if format::MOST_COLUMNS < types.len() as u64 {
-        return 0;
-    }
-    let mut size = 4;
-    let mut i = 0;
-    while i < types.len() {
-        let width = width_of(types[i]);
-        if width == 0 {
-            return 0;
-        }
-        size = size + width;
-        i += 1;
-    }
-    size
-}
-
-// Whether n rows, at least one, of so many bytes stand at a place.
-fn rows_stand(s: &[u8], at: usize, size: usize, n: usize) -> bool
-    requires { ⌜ size ≤ mostFixed ⌝ }
-    ensures { λ r. ⌜ (r ≡ true → Standing (now (s .entry)) at size n) ⌝ }
-{
-    if size == 0 {
-        return false;
-    }
-    if n == 0 {
-        return false;
-    }
-    if format::UNLIMITED < n as u64 {
-        return false;
-    }
-    scan::fits(s, at, n * size)
-}
-
-// N rows: those of fixed sizes by products.
-fn tally_rows(s: &[u8], tally: Tally, types: &[u8], n: usize) -> Tally
-    ensures { λ r. ⌜ Tallied (each second 0 (replicate n (row (now (types .entry))))) (now (s .entry)) tally r ⌝ }
-{
-    let at = tally.at;
-    let seen = tally.seen;
-    let size = fixed_row(types);
-    if !rows_stand(s, at, size, n) {
-        return tally_each_row(s, tally, types, n);
-    }
-    Tally {
-        at: at + n * size,
-        seen: std::num::wrapping_add_usize(seen, n * (1 + types.len())),
-    }
-}
-
-// The types of n columns, each a field of one byte.
-fn tally_types(s: &[u8], tally: Tally, n: usize) -> Tally
-    ensures { λ r. ⌜ Tallied (each third 0 (replicate n (columnType 45))) (now (s .entry)) tally r ⌝ }
-{
-    let at = tally.at;
-    let seen = tally.seen;
-    if n == 0 {
-        return tally;
-    }
-    if !scan::fits(s, at, n) {
-        return tally;
-    }
-    Tally {
-        at: at + n,
-        seen: std::num::wrapping_add_usize(seen, n),
-    }
-}
-
-// A column's name, which is never null.
-fn tally_name(s: &[u8], tally: Tally) -> Tally
-    ensures { λ r. ⌜ Tallied (string false ascii 46 47) (now (s .entry)) tally r ⌝ }
-{
-    let n = length_at(s, tally.at);
-    let start = tally_fixed(s, tally, 4);
-    tally_fixed(s, start, n as usize)
-}
-
-// The names of n columns.
-fn tally_names(s: &[u8], from: Tally, n: usize) -> Tally
-    ensures { λ r. ⌜ Tallied (each third 0 (replicate n (string false ascii 46 47))) (now (s .entry)) from r ⌝ }
-{
-    let mut tally = from;
-    let mut k = 0;
-    while k < n {
-        tally = tally_name(s, tally);
-        k += 1;
-    }
-    tally
-}
-
-// A table's metadata.
-fn tally_metadata(s: &[u8], tally: Tally) -> Tally
-    ensures { λ r. ⌜ Tallied metadata (now (s .entry)) tally r ⌝ }
-{
-    let status = tally_fixed(s, tally, 4);
-    let count = tally_fixed(s, status, 1);
-    let n = scan::number_at(s, count.at, 2) as usize;
-    let types = tally_fixed(s, count, 2);
-    let names = tally_types(s, types, n);
-    let last = tally_names(s, names, n);
-    ended_at(last, room_end(s, tally.at))
-}
-
-// A table.
-fn tally_table(s: &[u8], tally: Tally) -> Tally
-    ensures { λ r. ⌜ Tallied table (now (s .entry)) tally r ⌝ }
-{
-    let metadata = tally_fixed(s, tally, 4);
-    let types = types_of(s, metadata.at);
-    let count = tally_metadata(s, metadata);
-    let n = length_at(s, count.at) as usize;
-    let rows = tally_fixed(s, count, 4);
-    let last = tally_rows(s, rows, types, n);
-    ended_at(last, room_end(s, tally.at))
-}
-
 // Whether none of at most n fields that end by a place is wanted.
 fn is_calm(task: Task, room: usize, end: usize, n: usize) -> bool
     ensures { λ r. ⌜ (r ≡ true → Calm task room end n) ⌝ }
@@ -922,7 +620,7 @@ fn is_quiet(s: &[u8], room: usize, tour: Tour) -> bool
     if is_wanted(task, at, room) {
         return false;
     }
-    let end = room_end(s, at);
+    let end = tally::room_end(s, at);
     if end < at {
         return false;
     }
@@ -976,7 +674,7 @@ fn calm_run(s: &[u8], room: usize, tour: Tour, size: usize, columns: usize, n: u
         return 0;
     }
     let k = calm_rows(task, room, at, size, 1 + columns, n);
-    if !rows_stand(s, at, size, k) {
+    if !tally::rows_stand(s, at, size, k) {
         return 0;
     }
     k

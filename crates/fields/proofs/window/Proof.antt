@@ -1,7 +1,7 @@
 -- `fields::window` meets its contract: the entries from the first on, while they fit. Assumes nothing.
 use mathlib.Core.Path.{_∙_}
 use native.Mathlib.Omega.{arith}
-use Rattle.tour.proofs.Tours.{bytes-all}
+use Rattle.tally.proofs.Tours.{bytes-all}
 use Rattle.fields.proofs.Calls.{message-tiled, window-told}
 use borrow.Author.Needs.{needs}
 use Rattle.fields.proofs.window.Statement.{statement}

@@ -1,5 +1,5 @@
 -- `inside::visit_inside` meets its contract: what `areas::rings` says of the body, and the walk over one that is accepted. Assumes nothing.
-use Rattle.tour.specs.Task.{doing}
+use Rattle.tally.specs.Task.{doing}
 use Rattle.inside.proofs.Bodies.{body-refused, body-accepted}
 use borrow.Author.Needs.{needs}
 use Rattle.inside.proofs.visit_inside.Statement.{statement}

@@ -3,8 +3,7 @@ use mathlib.Core.Path.{_∙_}
 use Rattle.format.specs.Geography.{bodyKept}
 use Rattle.format.proofs.Laws.{lawful-number}
 use Rattle.scan.proofs.Answers.{number-stands}
-use Rattle.tour.proofs.Tours.{bytes-all, walked-block}
-use Rattle.tour.proofs.Contents.{walked-then}
+use Rattle.tally.proofs.Tours.{bytes-all, walked-block, walked-then}
 use Rattle.inside.proofs.Walks.{lawful-rings, walked-holed, walked-polygon}
 use borrow.Author.Needs.{needs}
 use Rattle.inside.proofs.walk_polygon.Statement.{statement}

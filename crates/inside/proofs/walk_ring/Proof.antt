@@ -2,8 +2,7 @@
 use Rattle.format.specs.Geography.{ringKept, fewestVertices}
 use Rattle.format.proofs.Laws.{lawful-number}
 use Rattle.scan.proofs.Answers.{number-stands}
-use Rattle.tour.proofs.Tours.{bytes-all, walked-block}
-use Rattle.tour.proofs.Contents.{walked-then, walked-by}
+use Rattle.tally.proofs.Tours.{bytes-all, walked-block, walked-then, walked-by}
 use Rattle.inside.proofs.Walks.{outlined, lawful-vertices, lawful-least, least-told, walked-least, walked-ring}
 use borrow.Author.Needs.{needs}
 use Rattle.inside.proofs.walk_ring.Statement.{statement}

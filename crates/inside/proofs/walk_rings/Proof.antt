@@ -4,9 +4,9 @@ use native.Mathlib.Omega.{arith}
 use Rattle.format.specs.Message.{first}
 use Rattle.format.specs.Geography.{ring}
 use Rattle.format.proofs.Geography.{lawful-ring}
-use Rattle.tour.specs.Walks.{indexOf}
-use Rattle.tour.proofs.Tours.{bytes-all}
-use Rattle.tour.proofs.Rounds.{Round, round-first, round-next, round-last, all-same}
+use Rattle.tally.specs.Walks.{indexOf}
+use Rattle.tally.proofs.Tours.{bytes-all}
+use Rattle.tally.proofs.Rounds.{Round, round-first, round-next, round-last, all-same}
 use borrow.Author.Needs.{needs}
 use Rattle.inside.proofs.walk_rings.Statement.{statement}
 use Rattle.inside.proofs.walk_rings.Tie as tie

@@ -5,9 +5,9 @@ use Rattle.format.specs.Format.{number}
 use Rattle.format.specs.Message.{third}
 use Rattle.format.specs.Geography.{vertex}
 use Rattle.format.proofs.Laws.{lawful-number}
-use Rattle.tour.specs.Walks.{indexOf}
-use Rattle.tour.proofs.Tours.{bytes-all}
-use Rattle.tour.proofs.Rounds.{Round, round-first, round-next, round-last, all-same}
+use Rattle.tally.specs.Walks.{indexOf}
+use Rattle.tally.proofs.Tours.{bytes-all}
+use Rattle.tally.proofs.Rounds.{Round, round-first, round-next, round-last, all-same}
 use borrow.Author.Needs.{needs}
 use Rattle.inside.proofs.walk_vertex.Statement.{statement}
 use Rattle.inside.proofs.walk_vertex.Tie as tie

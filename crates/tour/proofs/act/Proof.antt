@@ -1,7 +1,7 @@
 -- `tour::act` meets its contract: a field that isn't wanted, and one that is listed. Assumes nothing.
 use native.Mathlib.Omega.{arith}
 use borrow.Author.Tests.{not-true, not-false}
-use Rattle.tour.specs.Walks.{indexOf}
+use Rattle.tally.specs.Walks.{indexOf}
 use Rattle.tour.proofs.Acts.{act-room, act-skip, act-take}
 use borrow.Author.Needs.{needs}
 use Rattle.tour.proofs.act.Statement.{statement}

@@ -1,7 +1,7 @@
 -- `tour::calm_rows` meets its contract: a full list, rows that end too early, and rows of too low numbers. Assumes nothing.
 use mathlib.Core.Logic.{inl, inr}
 use native.Mathlib.Omega.{arith}
-use Rattle.tour.proofs.Evens.{wholes-fit}
+use Rattle.tour.proofs.Calms.{wholes-fit}
 use borrow.Author.Needs.{needs}
 use Rattle.tour.proofs.calm_rows.Statement.{statement}
 use Rattle.tour.proofs.calm_rows.Tie as tie

@@ -4,8 +4,8 @@ use mathlib.Core.Path.{_∙_, ap, ap₂}
 use native.Mathlib.Nat.{mul-le-mul}
 use native.Mathlib.Omega.{arith}
 use Rattle.format.specs.Message.{mostColumns}
-use Rattle.tour.specs.declared.Tally.{Tally}
-use Rattle.tour.specs.Tallies.{resumed}
+use Rattle.tally.specs.declared.Tally.{Tally}
+use Rattle.tour.specs.Calms.{resumed}
 use borrow.Author.Needs.{needs}
 use Rattle.tour.proofs.pass_even.Statement.{statement}
 use Rattle.tour.proofs.pass_even.Tie as tie

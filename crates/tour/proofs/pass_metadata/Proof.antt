@@ -1,9 +1,9 @@
 -- `tour::pass_metadata` meets its contract: walked, or counted where it is quiet. Assumes nothing.
 use borrow.Author.Tests.{not-false}
 use Rattle.format.proofs.Formats.{lawful-metadata}
-use Rattle.tour.proofs.Tours.{bytes-all}
-use Rattle.tour.proofs.Tables.{metadata-ended}
-use Rattle.tour.proofs.Counts.{walked-quiet}
+use Rattle.tally.proofs.Tours.{bytes-all}
+use Rattle.tally.proofs.Tables.{metadata-ended}
+use Rattle.tour.proofs.Calms.{walked-quiet}
 use borrow.Author.Needs.{needs}
 use Rattle.tour.proofs.pass_metadata.Statement.{statement}
 use Rattle.tour.proofs.pass_metadata.Tie as tie

@@ -1,9 +1,9 @@
 -- `tour::pass_row` meets its contract: walked, or counted where it is quiet. Assumes nothing.
 use borrow.Author.Tests.{not-false}
 use Rattle.format.proofs.Formats.{lawful-row}
-use Rattle.tour.proofs.Tours.{bytes-all}
-use Rattle.tour.proofs.Tables.{row-ended}
-use Rattle.tour.proofs.Counts.{walked-quiet}
+use Rattle.tally.proofs.Tours.{bytes-all}
+use Rattle.tally.proofs.Tables.{row-ended}
+use Rattle.tour.proofs.Calms.{walked-quiet}
 use borrow.Author.Needs.{needs}
 use Rattle.tour.proofs.pass_row.Statement.{statement}
 use Rattle.tour.proofs.pass_row.Tie as tie

@@ -1,9 +1,9 @@
 -- `tour::pass_table` meets its contract: walked, or counted where it is quiet. Assumes nothing.
 use borrow.Author.Tests.{not-false}
 use Rattle.format.proofs.Formats.{lawful-table}
-use Rattle.tour.proofs.Tours.{bytes-all}
-use Rattle.tour.proofs.Tables.{table-ended}
-use Rattle.tour.proofs.Counts.{walked-quiet}
+use Rattle.tally.proofs.Tours.{bytes-all}
+use Rattle.tally.proofs.Tables.{table-ended}
+use Rattle.tour.proofs.Calms.{walked-quiet}
 use borrow.Author.Needs.{needs}
 use Rattle.tour.proofs.pass_table.Statement.{statement}
 use Rattle.tour.proofs.pass_table.Tie as tie

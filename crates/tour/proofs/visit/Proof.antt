@@ -1,6 +1,6 @@
 -- `tour::visit` meets its contract: no field, or one that is handed to the task. Assumes nothing.
-use Rattle.tour.specs.Walks.{stateOf, indexOf}
-use Rattle.tour.proofs.Visits.{visit-none, visit-one}
+use Rattle.tally.specs.Walks.{stateOf, indexOf}
+use Rattle.tally.proofs.Visits.{visit-none, visit-one}
 use borrow.Author.Needs.{needs}
 use Rattle.tour.proofs.visit.Statement.{statement}
 use Rattle.tour.proofs.visit.Tie as tie

@@ -1,5 +1,5 @@
 -- `tour::visit_all` meets its contract: the verdict on the message, and the walk over one that is accepted. Assumes nothing.
-use Rattle.tour.specs.Task.{doing}
+use Rattle.tally.specs.Task.{doing}
 use Rattle.tour.proofs.Messages.{tour-refused, tour-accepted}
 use borrow.Author.Needs.{needs}
 use Rattle.tour.proofs.visit_all.Statement.{statement}

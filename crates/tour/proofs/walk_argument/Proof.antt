@@ -3,8 +3,8 @@ use Rattle.format.specs.declared.Fault.the-variants.{WireType}
 use Rattle.format.specs.Value.{isColumn}
 use Rattle.format.specs.Message.{items}
 use Rattle.scan.proofs.Answers.{byte-stands}
-use Rattle.tour.proofs.Tours.{bytes-all}
-use Rattle.tour.proofs.Values.{walked-null-argument, walked-array, walked-one, walked-typed}
+use Rattle.tally.proofs.Tours.{bytes-all}
+use Rattle.tally.proofs.Values.{walked-null-argument, walked-array, walked-one, walked-typed}
 use borrow.Author.Needs.{needs}
 use Rattle.tour.proofs.walk_argument.Statement.{statement}
 use Rattle.tour.proofs.walk_argument.Tie as tie

@@ -1,7 +1,7 @@
 -- `tour::walk_body` meets its contract: a length, and its bytes where it isn't null's. Assumes nothing.
 use Rattle.format.specs.Value.{mostBytes}
 use Rattle.scan.proofs.Answers.{number-stands}
-use Rattle.tour.proofs.Tours.{walked-null, walked-some}
+use Rattle.tally.proofs.Tours.{walked-null, walked-some}
 use borrow.Author.Needs.{needs}
 use Rattle.tour.proofs.walk_body.Statement.{statement}
 use Rattle.tour.proofs.walk_body.Tie as tie

@@ -5,9 +5,9 @@ use lib.ListN.{length, getD}
 use Rattle.format.specs.Value.{value}
 use Rattle.format.specs.Message.{third}
 use Rattle.format.proofs.Formats.{lawful-value}
-use Rattle.tour.specs.Walks.{indexOf}
-use Rattle.tour.proofs.Tours.{bytes-all}
-use Rattle.tour.proofs.Rounds.{Round, round-first, round-next, round-last, all-map}
+use Rattle.tally.specs.Walks.{indexOf}
+use Rattle.tally.proofs.Tours.{bytes-all}
+use Rattle.tally.proofs.Rounds.{Round, round-first, round-next, round-last, all-map}
 use borrow.Author.Needs.{needs}
 use Rattle.tour.proofs.walk_cells.Statement.{statement}
 use Rattle.tour.proofs.walk_cells.Tie as tie

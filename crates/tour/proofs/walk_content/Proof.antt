@@ -1,5 +1,5 @@
 -- `tour::walk_content` meets its contract, layout by layout. Assumes nothing.
-use Rattle.tour.proofs.Tours.{bytes-all}
+use Rattle.tally.proofs.Tours.{bytes-all}
 use Rattle.tour.proofs.Messages.{walked-1, walked-2, walked-3, walked-4}
 use borrow.Author.Needs.{needs}
 use Rattle.tour.proofs.walk_content.Statement.{statement}

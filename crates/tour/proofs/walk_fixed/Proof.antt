@@ -1,5 +1,5 @@
 -- `tour::walk_fixed` meets its contract: a field from the tour's place to the place past its bytes. Assumes nothing.
-use Rattle.tour.proofs.Tours.{walked-number}
+use Rattle.tally.proofs.Tours.{walked-number}
 use borrow.Author.Needs.{needs}
 use Rattle.tour.proofs.walk_fixed.Statement.{statement}
 use Rattle.tour.proofs.walk_fixed.Tie as tie

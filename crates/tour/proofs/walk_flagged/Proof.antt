@@ -6,8 +6,8 @@ use Rattle.format.specs.Text.{utf8}
 use Rattle.format.specs.Value.{anything}
 use Rattle.format.specs.Message.{binary, nullText}
 use Rattle.format.proofs.Laws.{lawful-number}
-use Rattle.tour.proofs.Tours.{bytes-all}
-use Rattle.tour.proofs.Contents.{walked-then, lawful-noted, lawful-trip, walked-if}
+use Rattle.tally.proofs.Tours.{bytes-all, walked-then}
+use Rattle.tour.proofs.Contents.{lawful-noted, lawful-trip, walked-if}
 use borrow.Author.Needs.{needs}
 use Rattle.tour.proofs.walk_flagged.Statement.{statement}
 use Rattle.tour.proofs.walk_flagged.Tie as tie

@@ -5,10 +5,9 @@ use Rattle.format.specs.declared.Fault.the-variants.{Flags}
 use Rattle.format.specs.Message.{afterFlags}
 use Rattle.format.proofs.Laws.{lawful-block}
 use Rattle.scan.proofs.Answers.{byte-stands}
-use Rattle.tour.proofs.Tours.{bytes-all, walked-block}
-use Rattle.tour.proofs.Values.{walked-typed}
-use Rattle.tour.proofs.Contents.{walked-then}
-use Rattle.tour.proofs.Tables.{walked-head}
+use Rattle.tally.proofs.Tours.{bytes-all, walked-block, walked-then}
+use Rattle.tally.proofs.Values.{walked-typed}
+use Rattle.tally.proofs.Tables.{walked-head}
 use borrow.Author.Needs.{needs}
 use Rattle.tour.proofs.walk_head.Statement.{statement}
 use Rattle.tour.proofs.walk_head.Tie as tie

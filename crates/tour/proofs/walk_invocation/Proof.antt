@@ -5,9 +5,9 @@ use Rattle.format.specs.Message.{mostItems, first}
 use Rattle.format.proofs.Laws.{lawful-block}
 use Rattle.format.proofs.Formats.{lawful-param}
 use Rattle.scan.proofs.Answers.{number-stands}
-use Rattle.tour.proofs.Tours.{bytes-all, walked-block}
-use Rattle.tour.proofs.Values.{lawful-string, walked-list}
-use Rattle.tour.proofs.Contents.{walked-then, walked-invocation}
+use Rattle.tally.proofs.Tours.{bytes-all, walked-block, walked-then}
+use Rattle.tally.proofs.Values.{lawful-string, walked-list}
+use Rattle.tour.proofs.Contents.{walked-invocation}
 use borrow.Author.Needs.{needs}
 use Rattle.tour.proofs.walk_invocation.Statement.{statement}
 use Rattle.tour.proofs.walk_invocation.Tie as tie

@@ -4,8 +4,8 @@ use Rattle.format.specs.Value.{anything}
 use Rattle.format.specs.Message.{mostItems, second}
 use Rattle.format.proofs.Formats.{lawful-value}
 use Rattle.scan.proofs.Answers.{number-stands}
-use Rattle.tour.proofs.Tours.{bytes-all}
-use Rattle.tour.proofs.Values.{walked-list, walked-bytes, walked-values}
+use Rattle.tally.proofs.Tours.{bytes-all}
+use Rattle.tally.proofs.Values.{walked-list, walked-bytes, walked-values}
 use borrow.Author.Needs.{needs}
 use Rattle.tour.proofs.walk_items.Statement.{statement}
 use Rattle.tour.proofs.walk_items.Tie as tie

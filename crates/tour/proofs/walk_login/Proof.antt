@@ -1,9 +1,8 @@
 -- `tour::walk_login` meets its contract: field after field. Assumes nothing.
 use mathlib.Core.Bool.{false}
 use Rattle.format.specs.Text.{utf8}
-use Rattle.tour.proofs.Tours.{bytes-all, walked-block}
-use Rattle.tour.proofs.Values.{lawful-string}
-use Rattle.tour.proofs.Contents.{walked-then}
+use Rattle.tally.proofs.Tours.{bytes-all, walked-block, walked-then}
+use Rattle.tally.proofs.Values.{lawful-string}
 use borrow.Author.Needs.{needs}
 use Rattle.tour.proofs.walk_login.Statement.{statement}
 use Rattle.tour.proofs.walk_login.Tie as tie

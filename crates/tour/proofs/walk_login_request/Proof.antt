@@ -1,6 +1,6 @@
 -- `tour::walk_login_request` meets its contract: a hash version in version 1 alone, and the rest by it. Assumes nothing.
 use Rattle.scan.proofs.Answers.{byte-stands}
-use Rattle.tour.proofs.Tours.{bytes-all}
+use Rattle.tally.proofs.Tours.{bytes-all}
 use Rattle.tour.proofs.Contents.{walked-old, walked-new, hash-long, hash-short}
 use borrow.Author.Needs.{needs}
 use Rattle.tour.proofs.walk_login_request.Statement.{statement}

@@ -4,8 +4,8 @@ use Rattle.format.specs.Message.{server, noServer}
 use Rattle.format.proofs.Laws.{lawful-number}
 use Rattle.format.proofs.Formats.{lawful-server}
 use Rattle.scan.proofs.Answers.{byte-stands}
-use Rattle.tour.proofs.Tours.{bytes-all}
-use Rattle.tour.proofs.Contents.{served, walked-by, walked-present, walked-absent, walked-response, number-told}
+use Rattle.tally.proofs.Tours.{bytes-all, walked-by}
+use Rattle.tour.proofs.Contents.{served, walked-present, walked-absent, walked-response, number-told}
 use borrow.Author.Needs.{needs}
 use Rattle.tour.proofs.walk_login_response.Statement.{statement}
 use Rattle.tour.proofs.walk_login_response.Tie as tie

@@ -4,8 +4,8 @@ use mathlib.Core.Path.{refl}
 use Rattle.format.specs.declared.Fault.the-variants.{Version}
 use Rattle.format.specs.Message.{contentOf, newest}
 use Rattle.scan.proofs.Answers.{byte-stands}
-use Rattle.tour.proofs.Tours.{bytes-all}
-use Rattle.tour.proofs.Values.{walked-typed}
+use Rattle.tally.proofs.Tours.{bytes-all}
+use Rattle.tally.proofs.Values.{walked-typed}
 use Rattle.tour.proofs.Messages.{walked-whole}
 use borrow.Author.Needs.{needs}
 use Rattle.tour.proofs.walk_message.Statement.{statement}

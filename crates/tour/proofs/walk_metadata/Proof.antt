@@ -3,10 +3,9 @@ use mathlib.Core.Path.{_∙_}
 use Rattle.format.specs.Message.{mostColumns}
 use Rattle.format.proofs.Laws.{lawful-number}
 use Rattle.scan.proofs.Answers.{number-stands}
-use Rattle.tour.proofs.Tours.{bytes-all}
-use Rattle.tour.proofs.Values.{lawful-count, count-told}
-use Rattle.tour.proofs.Contents.{walked-then, walked-by}
-use Rattle.tour.proofs.Tables.{columns, lawful-types, walked-count, walked-metadata}
+use Rattle.tally.proofs.Tours.{bytes-all, walked-then, walked-by}
+use Rattle.tally.proofs.Values.{lawful-count, count-told}
+use Rattle.tally.proofs.Tables.{columns, lawful-types, walked-count, walked-metadata}
 use borrow.Author.Needs.{needs}
 use Rattle.tour.proofs.walk_metadata.Statement.{statement}
 use Rattle.tour.proofs.walk_metadata.Tie as tie

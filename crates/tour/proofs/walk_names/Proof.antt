@@ -4,10 +4,10 @@ use native.Mathlib.Omega.{arith}
 use mathlib.Core.Bool.{false}
 use Rattle.format.specs.Value.{string, ascii}
 use Rattle.format.specs.Message.{third}
-use Rattle.tour.proofs.Values.{lawful-string}
-use Rattle.tour.specs.Walks.{indexOf}
-use Rattle.tour.proofs.Tours.{bytes-all}
-use Rattle.tour.proofs.Rounds.{Round, round-first, round-next, round-last, all-same}
+use Rattle.tally.proofs.Values.{lawful-string}
+use Rattle.tally.specs.Walks.{indexOf}
+use Rattle.tally.proofs.Tours.{bytes-all}
+use Rattle.tally.proofs.Rounds.{Round, round-first, round-next, round-last, all-same}
 use borrow.Author.Needs.{needs}
 use Rattle.tour.proofs.walk_names.Statement.{statement}
 use Rattle.tour.proofs.walk_names.Tie as tie

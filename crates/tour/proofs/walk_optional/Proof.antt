@@ -2,8 +2,8 @@
 use mathlib.Core.Option.{none}
 use borrow.Author.Tests.{not-true, not-false}
 use Rattle.format.specs.Value.{string}
-use Rattle.tour.proofs.Tours.{bytes-all}
-use Rattle.tour.proofs.Values.{lawful-string}
+use Rattle.tally.proofs.Tours.{bytes-all}
+use Rattle.tally.proofs.Values.{lawful-string}
 use Rattle.tour.proofs.Contents.{walked-present, walked-absent}
 use borrow.Author.Needs.{needs}
 use Rattle.tour.proofs.walk_optional.Statement.{statement}

@@ -2,8 +2,8 @@
 use Rattle.format.specs.declared.Fault.the-variants.{WireType}
 use Rattle.format.specs.Message.{argument}
 use Rattle.scan.proofs.Answers.{byte-stands}
-use Rattle.tour.proofs.Tours.{bytes-all}
-use Rattle.tour.proofs.Values.{isParam, walked-param, walked-typed}
+use Rattle.tally.proofs.Tours.{bytes-all}
+use Rattle.tally.proofs.Values.{isParam, walked-param, walked-typed}
 use borrow.Author.Needs.{needs}
 use Rattle.tour.proofs.walk_param.Statement.{statement}
 use Rattle.tour.proofs.walk_param.Tie as tie

@@ -2,10 +2,9 @@
 use Rattle.format.specs.Message.{mostItems, first}
 use Rattle.format.proofs.Formats.{lawful-head, lawful-table}
 use Rattle.scan.proofs.Answers.{number-stands}
-use Rattle.tour.proofs.Tours.{bytes-all}
-use Rattle.tour.proofs.Values.{walked-list}
-use Rattle.tour.proofs.Contents.{walked-then}
-use Rattle.tour.proofs.Tables.{walked-reply}
+use Rattle.tally.proofs.Tours.{bytes-all, walked-then}
+use Rattle.tally.proofs.Values.{walked-list}
+use Rattle.tally.proofs.Tables.{walked-reply}
 use borrow.Author.Needs.{needs}
 use Rattle.tour.proofs.walk_response.Statement.{statement}
 use Rattle.tour.proofs.walk_response.Tie as tie

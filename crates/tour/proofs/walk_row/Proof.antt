@@ -1,6 +1,6 @@
 -- `tour::walk_row` meets its contract: a room, and the cells in it. Assumes nothing.
-use Rattle.tour.proofs.Tours.{bytes-all}
-use Rattle.tour.proofs.Tables.{walked-row}
+use Rattle.tally.proofs.Tours.{bytes-all}
+use Rattle.tally.proofs.Tables.{walked-row}
 use borrow.Author.Needs.{needs}
 use Rattle.tour.proofs.walk_row.Statement.{statement}
 use Rattle.tour.proofs.walk_row.Tie as tie

@@ -4,10 +4,10 @@ use mathlib.Core.Path.{refl}
 use native.Mathlib.Omega.{arith}
 use Rattle.format.specs.Message.{second, row}
 use Rattle.format.proofs.Formats.{lawful-row}
-use Rattle.tour.specs.Walks.{indexOf}
-use Rattle.tour.proofs.Tours.{bytes-all}
-use Rattle.tour.proofs.Rounds.{Round, round-first, round-next, round-last, all-same}
-use Rattle.tour.proofs.Evens.{rounds-rows}
+use Rattle.tally.specs.Walks.{indexOf}
+use Rattle.tally.proofs.Tours.{bytes-all}
+use Rattle.tally.proofs.Rounds.{Round, round-first, round-next, round-last, all-same}
+use Rattle.tally.proofs.Evens.{rounds-rows}
 use borrow.Author.Needs.{needs}
 use Rattle.tour.proofs.walk_rows.Statement.{statement}
 use Rattle.tour.proofs.walk_rows.Tie as tie

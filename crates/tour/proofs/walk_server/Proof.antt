@@ -3,8 +3,8 @@ use mathlib.Core.Path.{_∙_}
 use mathlib.Core.Bool.{false}
 use Rattle.format.specs.Text.{utf8}
 use Rattle.format.proofs.Laws.{lawful-number}
-use Rattle.tour.proofs.Tours.{bytes-all}
-use Rattle.tour.proofs.Contents.{walked-then, walked-server}
+use Rattle.tally.proofs.Tours.{bytes-all, walked-then}
+use Rattle.tour.proofs.Contents.{walked-server}
 use borrow.Author.Needs.{needs}
 use Rattle.tour.proofs.walk_server.Statement.{statement}
 use Rattle.tour.proofs.walk_server.Tie as tie

@@ -3,9 +3,9 @@ use mathlib.Core.Path.{_∙_}
 use Rattle.format.specs.Message.{second, unlimited}
 use Rattle.format.proofs.Formats.{lawful-metadata, lawful-row}
 use Rattle.scan.proofs.Answers.{number-stands}
-use Rattle.tour.proofs.Tours.{bytes-all, walked-both}
-use Rattle.tour.proofs.Values.{walked-list}
-use Rattle.tour.proofs.Tables.{rows, walked-table}
+use Rattle.tally.proofs.Tours.{bytes-all, walked-both}
+use Rattle.tally.proofs.Values.{walked-list}
+use Rattle.tally.proofs.Tables.{rows, walked-table}
 use borrow.Author.Needs.{needs}
 use Rattle.tour.proofs.walk_table.Statement.{statement}
 use Rattle.tour.proofs.walk_table.Tie as tie

@@ -2,7 +2,7 @@
 use borrow.Author.Tests.{not-true, not-false}
 use Rattle.format.specs.Format.{number}
 use Rattle.format.proofs.Laws.{lawful-number}
-use Rattle.tour.proofs.Tours.{bytes-all}
+use Rattle.tally.proofs.Tours.{bytes-all}
 use Rattle.tour.proofs.Contents.{walked-present, walked-absent}
 use borrow.Author.Needs.{needs}
 use Rattle.tour.proofs.walk_trip.Statement.{statement}

@@ -5,10 +5,9 @@ use Rattle.format.specs.declared.Fault.the-variants.{WireType}
 use Rattle.format.specs.Value.{isColumn}
 use Rattle.format.specs.Message.{third, columnType}
 use Rattle.format.proofs.Laws.{lawful-number, lawful-ruled}
-use Rattle.tour.proofs.Tours.{walked-ruled}
-use Rattle.tour.specs.Walks.{indexOf}
-use Rattle.tour.proofs.Tours.{bytes-all}
-use Rattle.tour.proofs.Rounds.{Round, round-first, round-next, round-last, all-same}
+use Rattle.tally.proofs.Tours.{walked-ruled, bytes-all}
+use Rattle.tally.specs.Walks.{indexOf}
+use Rattle.tally.proofs.Rounds.{Round, round-first, round-next, round-last, all-same}
 use borrow.Author.Needs.{needs}
 use Rattle.tour.proofs.walk_types.Statement.{statement}
 use Rattle.tour.proofs.walk_types.Tie as tie

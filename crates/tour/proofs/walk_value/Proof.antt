@@ -1,6 +1,6 @@
 -- `tour::walk_value` meets its contract: a body's types, and the others. Assumes nothing.
-use Rattle.tour.proofs.Tours.{bytes-all}
-use Rattle.tour.proofs.Values.{counted-type, fixed-type, walked-body, walked-plain}
+use Rattle.tally.proofs.Tours.{bytes-all}
+use Rattle.tally.proofs.Values.{counted-type, fixed-type, walked-body, walked-plain}
 use borrow.Author.Needs.{needs}
 use Rattle.tour.proofs.walk_value.Statement.{statement}
 use Rattle.tour.proofs.walk_value.Tie as tie

@@ -4,9 +4,9 @@ use native.Mathlib.Omega.{arith}
 use Rattle.format.specs.Value.{value}
 use Rattle.format.specs.Message.{second}
 use Rattle.format.proofs.Formats.{lawful-value}
-use Rattle.tour.specs.Walks.{indexOf}
-use Rattle.tour.proofs.Tours.{bytes-all}
-use Rattle.tour.proofs.Rounds.{Round, round-first, round-next, round-last, all-same}
+use Rattle.tally.specs.Walks.{indexOf}
+use Rattle.tally.proofs.Tours.{bytes-all}
+use Rattle.tally.proofs.Rounds.{Round, round-first, round-next, round-last, all-same}
 use borrow.Author.Needs.{needs}
 use Rattle.tour.proofs.walk_values.Statement.{statement}
 use Rattle.tour.proofs.walk_values.Tie as tie
