@@ -1,8 +1,8 @@
 -- The walks over rooms, tables and responses, each made from the walks over its parts; and where the types of a table's columns stand.
-use Prim.Native.Nat.{ℕ, zero, suc, _+_, _≤_, _<_}
+use Prim.Native.Nat.{ℕ, zero, suc, _+_, _≤_}
 use mathlib.Core.Path.{_≡_, refl, sym, _∙_, ap, ap₂}
 use mathlib.Core.Bool.{Bool, false}
-use mathlib.Core.List.{List, [], _∷_, map}
+use mathlib.Core.List.{List, _∷_, map}
 use mathlib.Core.Option.{Option}
 use lib.ListN.{length, take, drop, getD, replicate, length-replicate, take-append-drop}
 use lib.Seq.{length-take-le, drop-cons}

@@ -4,32 +4,32 @@ use native.Mathlib.Omega.{arith}
 use native.Mathlib.Nat.{add-zero}
 use mathlib.Core.Path.{_≡_, refl, sym, ap, _∙_, subst}
 use mathlib.Core.Bool.{Bool, true, false, _&&_}
-use mathlib.Core.List.{List, [], _∷_}
+use mathlib.Core.List.{List, _∷_}
 use mathlib.Core.Option.{Option, some, none}
 use lib.ListN.{length, take, getD, length-take}
 use lib.Seq.{getD-take, length-take-le}
 use lib.Dec.{leb, ltb, eqb}
-use borrow.Author.Tests.{leb-true, le-leb, lt-ltb, lt-leb, eq-eqb}
+use borrow.Author.Tests.{leb-true, le-leb, lt-ltb, eq-eqb}
 use Rattle.format.specs.declared.Fault.{Fault}
-use Rattle.format.specs.Result.{Res, ok, no, bind, pick}
+use Rattle.format.specs.Result.{Res, ok, no, bind}
 use Rattle.format.specs.Format.{fine}
-use Rattle.format.specs.Value.{Value, value, isColumn}
+use Rattle.format.specs.Value.{Value, value}
 use Rattle.format.specs.Message.{mostColumns, mostItems, mostRow, unlimited}
 use Rattle.format.proofs.Numbers.{length-numBytes}
-use Rattle.format.proofs.Results.{and-true-both, no-ok, ok-same}
+use Rattle.format.proofs.Results.{and-true-both, no-ok}
 use Rattle.steps.specs.declared.Stage.the-variants.{Table, Row}
 use Rattle.steps.specs.State.{State, sound, messageSound, outerSound, stageNumber, allColumns, atStage}
 use Rattle.steps.specs.Next.{tableAt}
-use Rattle.steps.specs.Plans.{Plan, answerOf}
+use Rattle.steps.specs.Plans.{answerOf}
 use Rattle.steps.specs.Arguments.{valueFault}
 use Rattle.steps.specs.Steps.{Step, openRow, cell, closeRow, plan, messageEnd}
-use Rattle.steps.proofs.Plans.{Fine, Accepted, answer-ok}
+use Rattle.steps.proofs.Plans.{answer-ok}
 use Rattle.steps.proofs.Sound.{Around, around, at-stage}
 use Rattle.write.specs.declared.State.{State as Code}
 use Rattle.write.specs.Shown.{seen, typesIn}
 use Rattle.write.specs.Shared.{tabled, countIn}
 use Rattle.rows.proofs.Cells.{cell-counts}
-use Rattle.whole.specs.Rows.{valueIn, cellStep, stepsFrom, cellSteps}
+use Rattle.whole.specs.Rows.{valueIn, cellStep, stepsFrom}
 use Rattle.whole.specs.Asked.{asked, typeNow, answers, inRow, rowAnswer, restAnswer, answersFrom, opens, Opened, EndOf, PastAll, Sure}
 
 -- what is known of a row that was opened

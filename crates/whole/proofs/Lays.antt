@@ -27,7 +27,7 @@ use Rattle.steps.specs.State.{State, atStage}
 use Rattle.steps.specs.Next.{tableAt}
 use Rattle.steps.specs.Plans.{Out, answerOf, outOf, carry}
 use Rattle.steps.specs.Steps.{Step, openRow, cell, closeRow, plan, step}
-use Rattle.steps.proofs.Plans.{Accepted, answer-ok}
+use Rattle.steps.proofs.Plans.{answer-ok}
 use Rattle.steps.proofs.Frame.{step-keeps}
 use Rattle.write.specs.declared.State.{State as Code}
 use Rattle.write.specs.declared.Outcome.{Outcome}

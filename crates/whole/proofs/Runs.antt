@@ -1,6 +1,6 @@
 -- A whole row is the run of the steps that it stands for, at once: so what is proved of runs holds of it.
 use Prim.Native.Nat.{ℕ}
-use mathlib.Core.Path.{_≡_, refl, sym, ap, _∙_}
+use mathlib.Core.Path.{_≡_, refl, ap, _∙_}
 use mathlib.Core.List.{List, [], _∷_, map}
 use mathlib.Core.Option.{Option, some, none}
 use Rattle.format.specs.Result.{Res, ok, no}

@@ -1,15 +1,14 @@
 -- What the cells of a row write, one behind the other.
-use Prim.Native.Nat.{ℕ, zero, suc, _+_, _*_, _^_, _≤_, _<_}
+use Prim.Native.Nat.{ℕ, zero, suc, _+_, _*_, _^_, _≤_}
 use mathlib.Core.Path.{_≡_}
-use mathlib.Core.Bool.{Bool, true, false}
+use mathlib.Core.Bool.{true, false}
 use mathlib.Core.List.{List}
-use mathlib.Core.Option.{Option, some, none}
+use mathlib.Core.Option.{some, none}
 use lib.ListN.{length, take, drop, getD}
 use lib.Dec.{eqb}
 use Rattle.format.specs.Result.{pick}
 use Rattle.format.specs.Number.{numBytes}
 use Rattle.format.specs.Value.{isCounted, widthOf}
-use Rattle.format.specs.Message.{mostColumns}
 use Rattle.put.specs.Put.{put, sized}
 use Rattle.whole.specs.Rows.{nullSize}
 

@@ -1,7 +1,7 @@
 -- `whole::ask_body` meets its contract: a null, bytes that stand among those that are lent, or none. Assumes nothing.
 use Prim.Native.Nat.{_+_, _≤_}
 use native.Mathlib.Omega.{arith}
-use mathlib.Core.Path.{_≡_, sym, ap, _∙_}
+use mathlib.Core.Path.{sym, ap, _∙_}
 use mathlib.Core.Option.{Option}
 use lib.ListN.{length}
 use borrow.Author.Tests.{leb-true, not-true, not-false}

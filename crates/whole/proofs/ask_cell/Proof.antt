@@ -1,5 +1,5 @@
 -- `whole::ask_cell` meets its contract: by its column's type, a cell is a body or a number. Assumes nothing.
-use mathlib.Core.Path.{_≡_, sym, ap, _∙_, subst}
+use mathlib.Core.Path.{_≡_, sym, _∙_, subst}
 use Prim.Native.Nat.{ℕ}
 use Rattle.write.specs.Shown.{seen, shownAnswer}
 use Rattle.whole.specs.Rows.{valueIn, cellStep}

@@ -1,10 +1,9 @@
 -- `whole::ask_cells` meets its contract: what the cells that are left are answered is what all are. Assumes nothing.
-use Prim.Native.Nat.{ℕ, _+_, _-_, _*_, _/_, _<_, _≤_}
+use Prim.Native.Nat.{ℕ, _+_, _-_, _/_, _≤_}
 use native.Mathlib.Omega.{arith}
 use mathlib.Core.Path.{_≡_, refl, sym, ap, _∙_, subst}
-use lib.ListN.{length, getD}
+use lib.ListN.{length}
 use borrow.Author.Needs.{needs}
-use Rattle.format.specs.Result.{Res}
 use Rattle.format.specs.Message.{mostColumns, unlimited}
 use Rattle.steps.specs.State.{State}
 use Rattle.write.specs.declared.State.{State as Code}

@@ -1,5 +1,5 @@
 -- `whole::ask_each` meets its contract: a row that can't be opened is refused so; else its cells are asked. Assumes nothing.
-use mathlib.Core.Path.{_≡_, sym, ap, _∙_}
+use mathlib.Core.Path.{sym, ap, _∙_}
 use borrow.Author.Needs.{needs}
 use Rattle.write.specs.Shown.{seen, shownAnswer}
 use Rattle.write.proofs.Taken.{shown-ok, shown-no}

@@ -1,7 +1,6 @@
 -- `whole::ask_row` meets its contract: what is sure is so, and else each step is asked. Assumes nothing.
 use native.Mathlib.Omega.{arith}
-use Prim.Native.Nat.{_<_}
-use mathlib.Core.Path.{_≡_, sym, ap}
+use mathlib.Core.Path.{sym, ap}
 use Rattle.write.specs.Shown.{shownAnswer}
 use borrow.Author.Needs.{needs}
 use Rattle.whole.proofs.ask_row.Statement.{statement}

@@ -1,6 +1,5 @@
 -- `whole::opens` meets its contract: test by test. Assumes nothing.
-use Prim.Native.Nat.{_+_}
-use mathlib.Core.Path.{_≡_, _∙_, ap, ap₂}
+use mathlib.Core.Path.{_∙_, ap, ap₂}
 use mathlib.Core.Bool.{Bool, _&&_}
 use lib.Dec.{leb}
 use Rattle.format.specs.Message.{mostItems, mostColumns}

@@ -1,12 +1,11 @@
 -- `whole::past_cells` meets its contract: what the cells that are left are answered is what all are. Assumes nothing.
-use Prim.Native.Nat.{ℕ, _+_, _-_, _*_, _/_, _<_, _≤_}
+use Prim.Native.Nat.{_+_, _-_, _/_, _≤_}
 use native.Mathlib.Omega.{arith}
-use mathlib.Core.Path.{_≡_, refl, sym, ap, _∙_, subst}
-use mathlib.Core.Bool.{true, _&&_}
-use lib.ListN.{length, take, getD}
+use mathlib.Core.Path.{_≡_, refl, sym, _∙_}
+use mathlib.Core.Bool.{true}
+use lib.ListN.{length, take}
 use borrow.Author.Needs.{needs}
-use Rattle.format.specs.Value.{isColumn}
-use Rattle.steps.specs.State.{State, allColumns}
+use Rattle.steps.specs.State.{allColumns}
 use Rattle.write.proofs.Tested.{all-next}
 use Rattle.whole.proofs.Answers.{Passed, past-turn, past-end}
 use Rattle.whole.proofs.Sures.{sure-column}

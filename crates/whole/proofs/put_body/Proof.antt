@@ -4,7 +4,7 @@ use Rattle.whole.specs.Rows.{nullSize}
 use Rattle.whole.proofs.Values.{bytes-null, bytes-there}
 use Prim.Native.Nat.{ℕ, _+_, _≤_}
 use native.Mathlib.Omega.{arith}
-use mathlib.Core.Path.{_≡_, sym, ap, _∙_, subst}
+use mathlib.Core.Path.{sym, ap, _∙_, subst}
 use mathlib.Core.List.{List}
 use lib.ListN.{length}
 use Rattle.put.specs.Put.{put}

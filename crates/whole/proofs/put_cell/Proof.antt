@@ -1,6 +1,6 @@
 -- `whole::put_cell` meets its contract: by its type, a body or a number is written. Assumes nothing.
 use Prim.Native.Nat.{ℕ, _+_, _≤_}
-use mathlib.Core.Path.{_≡_, sym, ap, _∙_, subst}
+use mathlib.Core.Path.{sym, ap, _∙_, subst}
 use mathlib.Core.List.{List}
 use lib.ListN.{length}
 use Rattle.format.proofs.Numbers.{length-numBytes}

@@ -1,9 +1,8 @@
 -- `whole::put_cells` meets its contract: what was written, with the cells that are left, is what all come to. Assumes nothing.
-use Prim.Native.Nat.{ℕ, _+_, _-_, _*_, _/_, _<_, _≤_}
+use Prim.Native.Nat.{_-_, _/_, _≤_}
 use native.Mathlib.Omega.{arith}
-use mathlib.Core.Path.{_≡_, refl, sym, ap, _∙_, subst}
-use mathlib.Core.List.{List}
-use lib.ListN.{length, getD}
+use mathlib.Core.Path.{_≡_, refl, _∙_}
+use lib.ListN.{length}
 use borrow.Author.Needs.{needs}
 use Rattle.whole.specs.Laid.{laid, FitAll}
 use Rattle.whole.proofs.Lays.{fit-next, lay-turn, lay-end}

@@ -1,6 +1,6 @@
 -- `whole::put_lower` meets its contract: type by type. Assumes nothing.
 use Prim.Native.Nat.{ℕ, _+_, _≤_}
-use mathlib.Core.Path.{_≡_, ap, subst}
+use mathlib.Core.Path.{ap, subst}
 use lib.ListN.{length}
 use Rattle.whole.specs.Laid.{lowerOf}
 use Rattle.whole.proofs.Lays.{arm-put, none-put}

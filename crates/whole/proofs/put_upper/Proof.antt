@@ -1,9 +1,8 @@
 -- `whole::put_upper` meets its contract: type by type. Assumes nothing.
 use Prim.Native.Nat.{ℕ, _+_, _≤_}
-use mathlib.Core.Path.{_≡_, ap, subst}
+use mathlib.Core.Path.{ap, subst}
 use mathlib.Core.Logic.{⊎-elim, inl, inr}
 use lib.ListN.{length}
-use borrow.Author.Tests.{ne-eqb}
 use Rattle.whole.specs.Laid.{upperOf}
 use Rattle.whole.proofs.Lays.{arm-put, none-put}
 use Rattle.whole.proofs.Halves.{narrow-type}

@@ -1,8 +1,5 @@
 -- `whole::row_end` meets its contract: the least of three is at most each. Assumes nothing.
-use Prim.Native.Nat.{_≤_, _+_}
 use native.Mathlib.Omega.{arith}
-use Rattle.format.specs.Message.{mostRow}
-use Rattle.steps.specs.Steps.{messageEnd}
 use borrow.Author.Needs.{needs}
 use Rattle.whole.proofs.row_end.Statement.{statement}
 use Rattle.whole.proofs.row_end.Tie as tie

@@ -1,11 +1,9 @@
 -- `whole::sure_end` meets its contract: the state is asked, then each cell. Assumes nothing.
-use Prim.Native.Nat.{_+_, _/_, _<_, _≤_}
+use Prim.Native.Nat.{_/_}
 use native.Mathlib.Omega.{arith}
-use mathlib.Core.Path.{_≡_, sym, ap, _∙_}
+use mathlib.Core.Path.{_≡_, sym, _∙_}
 use lib.ListN.{length}
 use borrow.Author.Tests.{not-false}
-use Rattle.format.specs.Message.{mostColumns}
-use Rattle.steps.specs.Steps.{messageEnd}
 use Rattle.whole.proofs.Answers.{opens-room, end-sure}
 use borrow.Author.Needs.{needs}
 use Rattle.whole.proofs.sure_end.Statement.{statement}

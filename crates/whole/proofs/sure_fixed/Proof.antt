@@ -1,7 +1,7 @@
 -- `whole::sure_fixed` meets its contract: type by type. Assumes nothing.
-use Prim.Native.Nat.{ℕ, _+_, _*_, _^_, _<_}
+use Prim.Native.Nat.{ℕ, _+_, _*_, _^_}
 use native.Mathlib.Omega.{arith}
-use mathlib.Core.Path.{_≡_, refl, sym, ap, _∙_}
+use mathlib.Core.Path.{refl, sym, ap, _∙_}
 use Rattle.format.specs.Value.{widthOf, fixedFine}
 use Rattle.whole.proofs.Sures.{eight-bytes, number-so}
 use borrow.Author.Needs.{needs}

@@ -1,11 +1,9 @@
 -- `whole::whole_row` meets its contract: a refusal hands back what came in; else the row's length, its cells and its length again are written. Assumes nothing.
-use Prim.Native.Nat.{ℕ, _+_, _-_, _/_, _≤_}
+use Prim.Native.Nat.{ℕ, _+_, _/_}
 use native.Mathlib.Omega.{arith}
-use mathlib.Core.Path.{_≡_, sym, ap, _∙_, subst}
-use mathlib.Core.List.{List}
+use mathlib.Core.Path.{_≡_, sym, subst}
 use lib.ListN.{length}
-use Rattle.format.specs.Message.{mostColumns, unlimited}
-use Rattle.format.specs.Number.{numBytes}
+use Rattle.format.specs.Message.{mostColumns}
 use Rattle.whole.specs.Laid.{FitAll}
 use Rattle.whole.proofs.Lays.{refused, accepts, wrote}
 use borrow.Author.Needs.{needs}
