@@ -1,16 +1,16 @@
 // The C interface for areas, the body of a geography: numbers and slices of numbers only. include/chaloenpik.h declares it.
 // Each function answers one number, as those for messages do (numbers/specs/Packed.antt).
 ghost use Rattle.std.specs.Prelude.{◌≡◌, length};
-ghost use Rattle.format.specs.Result.{ok, bind, toldAnswer};
-ghost use Rattle.format.specs.Geography.{fieldsInside, turnedBody};
-ghost use Rattle.fields.specs.Questions.{ownerOf, windowCount, windowOut};
-ghost use Rattle.areas.specs.Answers.{askRings, askRing, askVertex, askRingKept, askKept, toldRing, toldBits};
-ghost use Rattle.outline.specs.State.{closed, stageNumber};
-ghost use Rattle.outline.specs.Steps.{beginArea, openRing, addVertex, closeRing, finishArea};
+ghost use Rattle.format.specs.Result.{ok, bind, told_answer};
+ghost use Rattle.format.specs.Geography.{fields_inside, turned_body};
+ghost use Rattle.fields.specs.Questions.{owner_of, window_count, window_out};
+ghost use Rattle.areas.specs.Answers.{ask_rings, ask_ring, ask_vertex, ask_ring_kept, ask_kept, told_ring, told_bits};
+ghost use Rattle.outline.specs.State.{closed, stage_number};
+ghost use Rattle.outline.specs.Steps.{begin_area, open_ring, add_vertex, close_ring, finish_area};
 ghost use Rattle.numbers.specs.Packed.{packed, nothing, itself, number_in};
-ghost use Rattle.numbers.specs.Listed.{lent, partNumbers};
-ghost use Rattle.areaexports.specs.Listed.{ringNumbers, axes};
-ghost use Rattle.areaexports.specs.Stored.{stageOf, state_of, numbersOf, kept, WroteFrom, Wrote};
+ghost use Rattle.numbers.specs.Listed.{lent, part_numbers};
+ghost use Rattle.areaexports.specs.Listed.{ring_numbers, axes};
+ghost use Rattle.areaexports.specs.Stored.{stage_of, state_of, numbers_of, kept, Wrote_from, Wrote};
 
 use areas::{Bits, RingAnswer, RingLayout};
 use format::Answer;
@@ -21,7 +21,7 @@ use outline::{Outcome, Outline, State};
 // Whether a body is an area, and how many rings it has.
 #[unsafe(no_mangle)]
 pub extern "C" fn chaloenpik_area_rings(b: &[u8]) -> u64
-    ensures { result ≡ packed itself (askRings b.now) }
+    ensures { result ≡ packed itself (ask_rings b.now) }
 {
     numbers::pack_answer(areas::rings(b))
 }
@@ -29,7 +29,7 @@ pub extern "C" fn chaloenpik_area_rings(b: &[u8]) -> u64
 // Ring n, as three numbers (specs/Listed.antt).
 #[unsafe(no_mangle)]
 pub extern "C" fn chaloenpik_area_ring(b: &[u8], n: usize, list: &mut [u64; 3]) -> u64
-    ensures { (result ≡ packed nothing (askRing b.now n)) × (list.new ≡ lent ringNumbers (askRing b.now n) list.old) }
+    ensures { (result ≡ packed nothing (ask_ring b.now n)) × (list.new ≡ lent ring_numbers (ask_ring b.now n) list.old) }
 {
     lend_ring(list, areas::ring(b, n))
 }
@@ -37,7 +37,7 @@ pub extern "C" fn chaloenpik_area_ring(b: &[u8], n: usize, list: &mut [u64; 3]) 
 // Vertex v of ring n, as the bits of its three floats.
 #[unsafe(no_mangle)]
 pub extern "C" fn chaloenpik_area_vertex(b: &[u8], n: usize, v: usize, list: &mut [u64; 3]) -> u64
-    ensures { (result ≡ packed nothing (askVertex b.now n v)) × (list.new ≡ lent axes (askVertex b.now n v) list.old) }
+    ensures { (result ≡ packed nothing (ask_vertex b.now n v)) × (list.new ≡ lent axes (ask_vertex b.now n v) list.old) }
 {
     lend_bits(list, areas::vertex_bits(b, n, v))
 }
@@ -45,7 +45,7 @@ pub extern "C" fn chaloenpik_area_vertex(b: &[u8], n: usize, v: usize, list: &mu
 // The bytes that ring n keeps: a part of the body, as two numbers (numbers/specs/Listed.antt).
 #[unsafe(no_mangle)]
 pub extern "C" fn chaloenpik_area_ring_kept(b: &[u8], n: usize, list: &mut [u64; 2]) -> u64
-    ensures { (result ≡ packed nothing (askRingKept b.now n)) × (list.new ≡ lent partNumbers (askRingKept b.now n) list.old) }
+    ensures { (result ≡ packed nothing (ask_ring_kept b.now n)) × (list.new ≡ lent part_numbers (ask_ring_kept b.now n) list.old) }
 {
     numbers::lend_part(list, areas::ring_kept(b, n))
 }
@@ -53,7 +53,7 @@ pub extern "C" fn chaloenpik_area_ring_kept(b: &[u8], n: usize, list: &mut [u64;
 // The bytes that the area keeps, likewise.
 #[unsafe(no_mangle)]
 pub extern "C" fn chaloenpik_area_kept(b: &[u8], list: &mut [u64; 2]) -> u64
-    ensures { (result ≡ packed nothing (askKept b.now)) × (list.new ≡ lent partNumbers (askKept b.now) list.old) }
+    ensures { (result ≡ packed nothing (ask_kept b.now)) × (list.new ≡ lent part_numbers (ask_kept b.now) list.old) }
 {
     numbers::lend_part(list, areas::kept(b))
 }
@@ -61,7 +61,7 @@ pub extern "C" fn chaloenpik_area_kept(b: &[u8], list: &mut [u64; 2]) -> u64
 // How many fields a body has.
 #[unsafe(no_mangle)]
 pub extern "C" fn chaloenpik_area_field_count(b: &[u8]) -> u64
-    ensures { result ≡ packed itself (bind (fieldsInside b.now) (λ es. ok (length es))) }
+    ensures { result ≡ packed itself (bind (fields_inside b.now) (λ es. ok (length es))) }
 {
     numbers::pack_answer(inside::count(b))
 }
@@ -69,7 +69,7 @@ pub extern "C" fn chaloenpik_area_field_count(b: &[u8]) -> u64
 // The entries of the field list from number `first` on, six numbers for each, as many as fit a lent list.
 #[unsafe(no_mangle)]
 pub extern "C" fn chaloenpik_area_fields(b: &[u8], first: usize, out: &mut [u64]) -> u64
-    ensures { (result ≡ packed itself (bind (fieldsInside b.now) (λ es. windowCount es first (length out.old)))) × (out.new ≡ windowOut (fieldsInside b.now) first out.old) }
+    ensures { (result ≡ packed itself (bind (fields_inside b.now) (λ es. window_count es first (length out.old)))) × (out.new ≡ window_out (fields_inside b.now) first out.old) }
 {
     numbers::pack_answer(inside::window(b, first, out))
 }
@@ -77,7 +77,7 @@ pub extern "C" fn chaloenpik_area_fields(b: &[u8], first: usize, out: &mut [u64]
 // The number in the field list of the entry that owns a byte.
 #[unsafe(no_mangle)]
 pub extern "C" fn chaloenpik_area_owner(b: &[u8], offset: usize) -> u64
-    ensures { result ≡ packed number_in (bind (fieldsInside b.now) (λ es. ownerOf es offset)) }
+    ensures { result ≡ packed number_in (bind (fields_inside b.now) (λ es. owner_of es offset)) }
 {
     numbers::pack_owned(inside::owner(b, offset))
 }
@@ -85,7 +85,7 @@ pub extern "C" fn chaloenpik_area_owner(b: &[u8], offset: usize) -> u64
 // Gives each ring after the first the other sense, in the body itself; a body that isn't accepted stays as it is.
 #[unsafe(no_mangle)]
 pub extern "C" fn chaloenpik_area_turn_holes(b: &mut [u8]) -> u64
-    ensures { (result ≡ packed itself (askRings b.old)) × (b.new ≡ turnedBody b.old) }
+    ensures { (result ≡ packed itself (ask_rings b.old)) × (b.new ≡ turned_body b.old) }
 {
     numbers::pack_answer(turn::turn_holes(b))
 }
@@ -100,7 +100,7 @@ pub extern "C" fn chaloenpik_area_begin(
     edition: u8,
     internal: u8,
 ) -> u64
-    ensures { WroteFrom (beginArea edition internal) (closed 0) state.old out.old result state.new out.new }
+    ensures { Wrote_from (begin_area edition internal) (closed 0) state.old out.old result state.new out.new }
 {
     let step = outline::begin(out, edition, internal);
     keep(state, step)
@@ -109,7 +109,7 @@ pub extern "C" fn chaloenpik_area_begin(
 // Opens a ring by its mark.
 #[unsafe(no_mangle)]
 pub extern "C" fn chaloenpik_area_open_ring(out: &mut [u8], state: &mut [u64; 5], mark: u8) -> u64
-    ensures { Wrote (openRing mark) state.old out.old result state.new out.new }
+    ensures { Wrote (open_ring mark) state.old out.old result state.new out.new }
 {
     let st = load(state);
     let step = outline::open_ring(out, st, mark);
@@ -125,7 +125,7 @@ pub extern "C" fn chaloenpik_area_add_vertex(
     y: u64,
     z: u64,
 ) -> u64
-    ensures { Wrote (addVertex x y z) state.old out.old result state.new out.new }
+    ensures { Wrote (add_vertex x y z) state.old out.old result state.new out.new }
 {
     let st = load(state);
     let step = outline::add_vertex(out, st, x, y, z);
@@ -139,7 +139,7 @@ pub extern "C" fn chaloenpik_area_close_ring(
     state: &mut [u64; 5],
     kept: &[u8; format::RING_KEPT],
 ) -> u64
-    ensures { Wrote (closeRing kept.now) state.old out.old result state.new out.new }
+    ensures { Wrote (close_ring kept.now) state.old out.old result state.new out.new }
 {
     let st = load(state);
     let step = outline::close_ring(out, st, kept);
@@ -153,7 +153,7 @@ pub extern "C" fn chaloenpik_area_finish(
     state: &mut [u64; 5],
     kept: &[u8; format::AREA_KEPT],
 ) -> u64
-    ensures { Wrote (finishArea kept.now) state.old out.old result state.new out.new }
+    ensures { Wrote (finish_area kept.now) state.old out.old result state.new out.new }
 {
     let st = load(state);
     let step = outline::finish(out, st, kept);
@@ -163,7 +163,7 @@ pub extern "C" fn chaloenpik_area_finish(
 // ---- Answers in a lent list; a refusal leaves it as it was.
 
 fn lend_ring(list: &mut [u64; 3], answer: RingAnswer) -> u64
-    ensures { (result ≡ packed nothing (toldRing answer)) × (list.new ≡ lent ringNumbers (toldRing answer) list.old) }
+    ensures { (result ≡ packed nothing (told_ring answer)) × (list.new ≡ lent ring_numbers (told_ring answer) list.old) }
 {
     match answer {
         RingAnswer::Is(ring) => {
@@ -176,13 +176,13 @@ fn lend_ring(list: &mut [u64; 3], answer: RingAnswer) -> u64
 }
 
 fn list_ring(ring: RingLayout) -> [u64; 3]
-    ensures { result ≡ ringNumbers ring }
+    ensures { result ≡ ring_numbers ring }
 {
     [ring.at as u64, ring.mark as u64, ring.vertices as u64]
 }
 
 fn lend_bits(list: &mut [u64; 3], answer: Bits) -> u64
-    ensures { (result ≡ packed nothing (toldBits answer)) × (list.new ≡ lent axes (toldBits answer) list.old) }
+    ensures { (result ≡ packed nothing (told_bits answer)) × (list.new ≡ lent axes (told_bits answer) list.old) }
 {
     match answer {
         Bits::Are(x, y, z) => {
@@ -196,7 +196,7 @@ fn lend_bits(list: &mut [u64; 3], answer: Bits) -> u64
 // ---- The state in numbers.
 
 fn stage_of(n: u64) -> Outline
-    ensures { result ≡ stageOf n }
+    ensures { result ≡ stage_of n }
 {
     match n {
         1 => Outline::Area,
@@ -206,7 +206,7 @@ fn stage_of(n: u64) -> Outline
 }
 
 fn stage_number(stage: Outline) -> u64
-    ensures { result ≡ stageNumber stage }
+    ensures { result ≡ stage_number stage }
 {
     match stage {
         Outline::Closed => 0,
@@ -230,7 +230,7 @@ fn load(numbers: &[u64; 5]) -> State
 
 // The numbers of a state.
 fn save(numbers: &mut [u64; 5], st: State)
-    ensures { numbers.new ≡ numbersOf st }
+    ensures { numbers.new ≡ numbers_of st }
 {
     let stage = st.stage;
     *numbers = [
@@ -244,7 +244,7 @@ fn save(numbers: &mut [u64; 5], st: State)
 
 // Packs a step's answer, and keeps the state that it leaves; a refusal leaves the numbers as they were.
 fn keep(numbers: &mut [u64; 5], step: Outcome) -> u64
-    ensures { (result ≡ packed itself (toldAnswer step.answer)) × (numbers.new ≡ kept numbers.old (toldAnswer step.answer) step.state) }
+    ensures { (result ≡ packed itself (told_answer step.answer)) × (numbers.new ≡ kept numbers.old (told_answer step.answer) step.state) }
 {
     let answer = step.answer;
     let state = step.state;

@@ -6,14 +6,14 @@ use Rattle.show.specs.declared.Cell.{Cell}
 use Rattle.areas.specs.declared.RingAnswer.{RingAnswer}
 use Rattle.areas.specs.declared.Bits.{Bits}
 use Rattle.areas.specs.declared.VertexAnswer.{VertexAnswer}
-use Rattle.areas.specs.Answers.{toldRing, toldBits, toldVertex}
+use Rattle.areas.specs.Answers.{told_ring, told_bits, told_vertex}
 
-pub ring-once : (a b : RingAnswer) → toldRing a ≡ toldRing b → a ≡ b
-ring-once = once toldRing (answer RingAnswer.Is RingAnswer.No) (elim [ RingAnswer.Is r ↦ refl | RingAnswer.No r ↦ refl ])
+pub ring_once : (a b : RingAnswer) → told_ring a ≡ told_ring b → a ≡ b
+ring_once = once told_ring (answer RingAnswer.Is RingAnswer.No) (elim [ RingAnswer.Is r ↦ refl | RingAnswer.No r ↦ refl ])
 
-pub bits-once : (a b : Bits) → toldBits a ≡ toldBits b → a ≡ b
-bits-once = once toldBits (answer (λ (v : Vertex). Bits.Are (get_or v 0 0) (get_or v 1 0) (get_or v 2 0)) Bits.No) (elim [ Bits.Are x y z ↦ refl | Bits.No r ↦ refl ])
+pub bits_once : (a b : Bits) → told_bits a ≡ told_bits b → a ≡ b
+bits_once = once told_bits (answer (λ (v : Vertex). Bits.Are (get_or v 0 0) (get_or v 1 0) (get_or v 2 0)) Bits.No) (elim [ Bits.Are x y z ↦ refl | Bits.No r ↦ refl ])
 
-pub vertex-once : (a b : VertexAnswer) → toldVertex a ≡ toldVertex b → a ≡ b
-vertex-once = once toldVertex (answer (λ (v : List Cell). VertexAnswer.Is (get_or v 0 Cell.NullText) (get_or v 1 Cell.NullText) (get_or v 2 Cell.NullText)) VertexAnswer.No)
+pub vertex_once : (a b : VertexAnswer) → told_vertex a ≡ told_vertex b → a ≡ b
+vertex_once = once told_vertex (answer (λ (v : List Cell). VertexAnswer.Is (get_or v 0 Cell.NullText) (get_or v 1 Cell.NullText) (get_or v 2 Cell.NullText)) VertexAnswer.No)
     (elim [ VertexAnswer.Is x y z ↦ refl | VertexAnswer.No r ↦ refl ])

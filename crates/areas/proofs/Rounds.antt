@@ -8,33 +8,33 @@ use Rattle.format.specs.Result.{Res, ok, no as refused, bind, pick}
 use Rattle.format.specs.Number.{num_at, Bytes}
 use Rattle.format.specs.Format.{Format, number, block, nothing, both, each}
 use Rattle.format.specs.Message.{first, second}
-use Rattle.format.specs.Geography.{Vertex, Ring, vertex, ring, at_least, fewestVertices, ringKept}
-use Rattle.format.proofs.Geography.{lawful-ring}
+use Rattle.format.specs.Geography.{Vertex, Ring, vertex, ring, at_least, fewest_vertices, ring_kept}
+use Rattle.format.proofs.Geography.{lawful_ring}
 use Rattle.scan.specs.declared.Next.{Next}
-use Rattle.scan.specs.Shown.{shownNext, nextNo, refusal}
-use Rattle.scan.proofs.Answers.{next-go, next-stop}
-use Rattle.scan.proofs.Steps.{into-ends, both_ends, both-stop}
+use Rattle.scan.specs.Shown.{shown_next, next_no, refusal}
+use Rattle.scan.proofs.Answers.{next_go, next_stop}
+use Rattle.scan.proofs.Steps.{into_ends, both_ends, both_stop}
 use Rattle.places.proofs.Lists.{total, length-total}
 use Rattle.areas.specs.declared.Passed.{Passed}
-use Rattle.areas.specs.Passes.{shownRings, ringsSize}
+use Rattle.areas.specs.Passes.{shown_rings, rings_size}
 
 -- a ring's vertices and what it keeps, and before them its vertex count
-abbrev pub afterCount : ℕ → Format (List Vertex × List ℕ)
-afterCount n = both (each second 0 (replicate n vertex)) (λ vs. block ringKept 67)
+abbrev pub after_count : ℕ → Format (List Vertex × List ℕ)
+after_count n = both (each second 0 (replicate n vertex)) (λ vs. block ring_kept 67)
 
-abbrev pub afterMark : Format (ℕ × (List Vertex × List ℕ))
-afterMark = both (at_least fewestVertices 65) afterCount
+abbrev pub after_mark : Format (ℕ × (List Vertex × List ℕ))
+after_mark = both (at_least fewest_vertices 65) after_count
 
 module _ (s : List ℕ) (at : ℕ) where
-  pub ring-short : leb (at + 1) (length s) ≡ false → shownNext (ring.read s at) ≡ Next.No (refusal Short at)
+  pub ring_short : leb (at + 1) (length s) ≡ false → shown_next (ring.read s at) ≡ Next.No (refusal Short at)
   unfolding ring number
-  ring-short e = into-ends _ _ (both (number 1 64) (λ m. afterMark)) s at ∙ ap shownNext (both-stop (number 1 64) (λ m. afterMark) s at (rw e))
+  ring_short e = into_ends _ _ (both (number 1 64) (λ m. after_mark)) s at ∙ ap shown_next (both_stop (number 1 64) (λ m. after_mark) s at (rw e))
 
-  pub ring-marked : leb (at + 1) (length s) ≡ true → shownNext (ring.read s at) ≡ shownNext (afterMark.read s (at + 1))
+  pub ring_marked : leb (at + 1) (length s) ≡ true → shown_next (ring.read s at) ≡ shown_next (after_mark.read s (at + 1))
   unfolding ring number
-  ring-marked e =
+  ring_marked e =
       let one : (number 1 64).read s at ≡ ok (num_at 1 s at, at + 1) = rw e in
-      into-ends _ _ (both (number 1 64) (λ m. afterMark)) s at ∙ both_ends (number 1 64) (λ m. afterMark) s at one
+      into_ends _ _ (both (number 1 64) (λ m. after_mark)) s at ∙ both_ends (number 1 64) (λ m. after_mark) s at one
 
 -- the rings from i to n: where they end, and where the ring that is sought stands, if found is where it stands so far
 module _ (s : List ℕ) (sought : ℕ) where
@@ -45,33 +45,33 @@ module _ (s : List ℕ) (sought : ℕ) where
   abbrev pub Rest : ℕ → ℕ → ℕ → ℕ → Passed
   Rest n i at found = ended i found ((each first i (replicate (n - i) ring)).read s at)
 
-  pub rings-start : (n from : ℕ) → Rest n 0 from from ≡ shownRings from sought ((each first 0 (replicate n ring)).read s from)
-  rings-start n from = let all : n - 0 ≡ n = omega arith in rw all (same ((each first 0 (replicate n ring)).read s from))
+  pub rings_start : (n from : ℕ) → Rest n 0 from from ≡ shown_rings from sought ((each first 0 (replicate n ring)).read s from)
+  rings_start n from = let all : n - 0 ≡ n = omega arith in rw all (same ((each first 0 (replicate n ring)).read s from))
     where
-      same : (r : Res (List Ring × ℕ)) → ended 0 from r ≡ shownRings from sought r
+      same : (r : Res (List Ring × ℕ)) → ended 0 from r ≡ shown_rings from sought r
       same (ok q) =
           let l = take sought q.0 in
           let none : sought - 0 ≡ sought = omega arith in
           rw (none, length-total first 0 (length l) ring l (omega arith))
       same (refused f p) = refl
 
-  pub rings-done : (n i at found : ℕ) → n ≤ i → Rest n i at found ≡ Passed.End at found
+  pub rings_done : (n i at found : ℕ) → n ≤ i → Rest n i at found ≡ Passed.End at found
   unfolding each nothing total
-  rings-done n i at found h =
+  rings_done n i at found h =
       let none : n - i ≡ 0 = omega arith in
       let nothing_left : (k : ℕ) → found + total ring (take k []) ≡ found = elim [ zero ↦ omega arith | suc k ↦ omega arith ] in
       rw (none, nothing_left (sought - i))
 
-  module _ (by : Bytes s) (n i at found : ℕ) (h : i < n) {a : Next} (e : a ≡ shownNext (ring.read s at)) where
+  module _ (by : Bytes s) (n i at found : ℕ) (h : i < n) {a : Next} (e : a ≡ shown_next (ring.read s at)) where
     left : n - i ≡ suc (n - (i + 1))
     left = omega arith
 
     -- one ring more: the sought one stands after it, or where it was found before
-    pub rings-turn : {next : ℕ} → a ≡ Next.At next → (i ≤ sought → found ≡ at) → Rest n (i + 1) next (pick (ltb i sought) next found) ≡ Rest n i at found
+    pub rings_turn : {next : ℕ} → a ≡ Next.At next → (i ≤ sought → found ≡ at) → Rest n (i + 1) next (pick (ltb i sought) next found) ≡ Rest n i at found
     unfolding each total
-    rings-turn {next} told here =
-        let go = next-go (ring.read s at) e told in
-        let far = (lawful-ring.sound s by at go.0 next go.1).1.far in
+    rings_turn {next} told here =
+        let go = next_go (ring.read s at) e told in
+        let far = (lawful_ring.sound s by at go.0 next go.1).1.far in
         rw (left, go.1) (same go.0 far (dec_lt i sought) ((each first (i + 1) (replicate (n - (i + 1)) ring)).read s next))
       where
         place : (r : Ring) (rs : List Ring) → next ≡ at + length (ring.bytes r) → Dec (i < sought)
@@ -90,6 +90,6 @@ module _ (s : List ℕ) (sought : ℕ) where
         same r far d (ok w) = ap (λ (x : ℕ). Passed.End w.1 x) (place r w.0 far d)
         same r far d (refused f p) = refl
 
-    pub rings-stop : {x given : Refusal} → a ≡ Next.No given → x ≡ nextNo a → Rest n i at found ≡ Passed.No x
+    pub rings_stop : {x given : Refusal} → a ≡ Next.No given → x ≡ next_no a → Rest n i at found ≡ Passed.No x
     unfolding each
-    rings-stop {x} told out = rw (left, next-stop (ring.read s at) e told out)
+    rings_stop {x} told out = rw (left, next_stop (ring.read s at) e told out)

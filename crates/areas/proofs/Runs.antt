@@ -16,9 +16,9 @@ pub record Runs {A : Type 0} (w : ℕ) (f : Format A) : Type 0 where
   pub fits : (s : List ℕ) (at : ℕ) → at + w ≤ length s → (a : A) × (f.read s at ≡ ok (a, at + w))
   pub short : (s : List ℕ) (at : ℕ) → at ≤ length s → length s < at + w → f.read s at ≡ refused Short (at + (length s - at) / 8 * 8)
 
-float-runs : (field : ℕ) → Runs 8 (number 8 field)
+float_runs : (field : ℕ) → Runs 8 (number 8 field)
 unfolding number
-float-runs field = record {
+float_runs field = record {
   floats = 1;
   size = refl;
   fits = λ s at h. (num_at 8 s at, rw (le-leb (at + 8) (length s) h));
@@ -39,27 +39,27 @@ module _ {A : Type 0} (at-index : ℕ → Index → Index) {w : ℕ} {f : Format
       let end : at + w + w * n ≡ at + w * suc n = omega arith in
       (one.0 ∷ rest.0, rw (one.1, rest.1, end))
 
-  each-short : (n k : ℕ) (s : List ℕ) (at : ℕ) → at ≤ length s → length s < at + w * n → (each at-index k (replicate n f)).read s at ≡ refused Short (at + (length s - at) / 8 * 8)
+  each_short : (n k : ℕ) (s : List ℕ) (at : ℕ) → at ≤ length s → length s < at + w * n → (each at-index k (replicate n f)).read s at ≡ refused Short (at + (length s - at) / 8 * 8)
   unfolding each nothing
-  each-short zero k s at low over = let none : at + w * 0 ≡ at = omega arith in absurd (omega arith)
-  each-short (suc n) k s at low over = by-room (λ h more. each-short n (k + 1) s (at + w) h more) (dec_le (at + w) (length s))
+  each_short zero k s at low over = let none : at + w * 0 ≡ at = omega arith in absurd (omega arith)
+  each_short (suc n) k s at low over = by_room (λ h more. each_short n (k + 1) s (at + w) h more) (dec_le (at + w) (length s))
     where
-      by-room : (at + w ≤ length s → length s < at + w + w * n → (each at-index (k + 1) (replicate n f)).read s (at + w) ≡ refused Short (at + w + (length s - (at + w)) / 8 * 8))
+      by_room : (at + w ≤ length s → length s < at + w + w * n → (each at-index (k + 1) (replicate n f)).read s (at + w) ≡ refused Short (at + w + (length s - (at + w)) / 8 * 8))
           → Dec (at + w ≤ length s) → (each at-index k (replicate (suc n) f)).read s at ≡ refused Short (at + (length s - at) / 8 * 8)
-      by-room rest (yes h) =
+      by_room rest (yes h) =
           let step = more n in
           let units = r.size in
           let one = r.fits s at h in
           let place : at + w + (length s - (at + w)) / 8 * 8 ≡ at + (length s - at) / 8 * 8 = omega arith in
           rw (one.1, rest h (omega arith), place)
-      by-room rest (no h) = rw (r.short s at low (omega arith))
+      by_room rest (no h) = rw (r.short s at low (omega arith))
 
-  pub each-runs : (n k : ℕ) → Runs (w * n) (each at-index k (replicate n f))
-  each-runs n k = record { floats = r.floats * n; size = rw r.size (omega arith); fits = each_fits n k; short = each-short n k }
+  pub each_runs : (n k : ℕ) → Runs (w * n) (each at-index k (replicate n f))
+  each_runs n k = record { floats = r.floats * n; size = rw r.size (omega arith); fits = each_fits n k; short = each_short n k }
 
-pub vertex-runs : Runs 24 vertex
+pub vertex_runs : Runs 24 vertex
 unfolding vertex
-vertex-runs = each-runs third (float-runs 66) 3 0
+vertex_runs = each_runs third (float_runs 66) 3 0
 
-pub vertices-run : (n : ℕ) → Runs (24 * n) (each second 0 (replicate n vertex))
-vertices-run n = each-runs second vertex-runs n 0
+pub vertices_run : (n : ℕ) → Runs (24 * n) (each second 0 (replicate n vertex))
+vertices_run n = each_runs second vertex_runs n 0

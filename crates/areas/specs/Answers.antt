@@ -4,8 +4,8 @@ use Rattle.std.proofs.Math.Option.{Option, some}
 use Rattle.format.specs.declared.Refusal.{Refusal}
 use Rattle.format.specs.Result.{Res, ok, no, bind}
 use Rattle.format.specs.Number.{num_at}
-use Rattle.format.specs.Geography.{Vertex, Ring, Polygon, ring, polygon, ringKept, bodyKept, readPolygon}
-use Rattle.scan.specs.Shown.{none-given}
+use Rattle.format.specs.Geography.{Vertex, Ring, Polygon, ring, polygon, ring_kept, body_kept, read_polygon}
+use Rattle.scan.specs.Shown.{none_given}
 use Rattle.show.specs.declared.Cell.{Cell}
 use Rattle.places.specs.Entries.{entry}
 use Rattle.areas.specs.declared.RingLayout.{RingLayout}
@@ -14,63 +14,63 @@ use Rattle.areas.specs.declared.Bits.{Bits}
 use Rattle.areas.specs.declared.VertexAnswer.{VertexAnswer}
 
 -- ring n: after the three leading bytes, the ring count and the rings before it. A part stands where the body would end if it were cut there
-unfoldable pub ringAt : Polygon → ℕ → ℕ
-ringAt p n = length (polygon.bytes (record { edition = p.edition; internal = p.internal; holes = p.holes; rings = take n p.rings; kept = [] }))
+unfoldable pub ring_state : Polygon → ℕ → ℕ
+ring_state p n = length (polygon.bytes (record { edition = p.edition; internal = p.internal; holes = p.holes; rings = take n p.rings; kept = [] }))
 
 -- vertex v of a ring at a place: after the ring's byte, the vertex count and the vertices before it; after the last one, what the ring keeps
-unfoldable pub vertexAt : ℕ → Ring → ℕ → ℕ
-vertexAt at r v = at + length (ring.bytes (record { mark = r.mark; vertices = take v r.vertices; kept = [] }))
+unfoldable pub vertex_at : ℕ → Ring → ℕ → ℕ
+vertex_at at r v = at + length (ring.bytes (record { mark = r.mark; vertices = take v r.vertices; kept = [] }))
 
-abbrev pub askRings : List ℕ → Res ℕ
-askRings b = bind (readPolygon b) (λ p. ok (length p.rings))
+abbrev pub ask_rings : List ℕ → Res ℕ
+ask_rings b = bind (read_polygon b) (λ p. ok (length p.rings))
 
 module _ {A : Type 0} where
   -- what is asked of ring n, by its place and what it is
-  abbrev pub ofRing : List ℕ → ℕ → (ℕ → Ring → Res A) → Res A
-  ofRing b n ask = bind (readPolygon b) (λ p. bind (entry p.rings n) (λ r. ask (ringAt p n) r))
+  abbrev pub of_ring : List ℕ → ℕ → (ℕ → Ring → Res A) → Res A
+  of_ring b n ask = bind (read_polygon b) (λ p. bind (entry p.rings n) (λ r. ask (ring_state p n) r))
 
-abbrev pub layoutAt : ℕ → Ring → RingLayout
-layoutAt at r = record { at = at; mark = r.mark; vertices = length r.vertices }
+abbrev pub layout_at : ℕ → Ring → RingLayout
+layout_at at r = record { at = at; mark = r.mark; vertices = length r.vertices }
 
-abbrev pub askRing : List ℕ → ℕ → Res RingLayout
-askRing b n = ofRing b n (λ at r. ok (layoutAt at r))
+abbrev pub ask_ring : List ℕ → ℕ → Res RingLayout
+ask_ring b n = of_ring b n (λ at r. ok (layout_at at r))
 
-abbrev pub askVertex : List ℕ → ℕ → ℕ → Res Vertex
-askVertex b n v = ofRing b n (λ at r. entry r.vertices v)
+abbrev pub ask_vertex : List ℕ → ℕ → ℕ → Res Vertex
+ask_vertex b n v = of_ring b n (λ at r. entry r.vertices v)
 
 -- where the kept bytes start, and how many they are
-abbrev pub askRingKept : List ℕ → ℕ → Res (Option (ℕ × ℕ))
-askRingKept b n = ofRing b n (λ at r. ok (some (vertexAt at r (length r.vertices), ringKept)))
+abbrev pub ask_ring_kept : List ℕ → ℕ → Res (Option (ℕ × ℕ))
+ask_ring_kept b n = of_ring b n (λ at r. ok (some (vertex_at at r (length r.vertices), ring_kept)))
 
-abbrev pub askKept : List ℕ → Res (Option (ℕ × ℕ))
-askKept b = bind (readPolygon b) (λ p. ok (some (ringAt p (length p.rings), bodyKept)))
+abbrev pub ask_kept : List ℕ → Res (Option (ℕ × ℕ))
+ask_kept b = bind (read_polygon b) (λ p. ok (some (ring_state p (length p.rings), body_kept)))
 
 -- what the answers tell
-abbrev pub toldRing : RingAnswer → Res RingLayout
-toldRing (RingAnswer.Is r) = ok r
-toldRing (RingAnswer.No r) = no r.fault r.place
+abbrev pub told_ring : RingAnswer → Res RingLayout
+told_ring (RingAnswer.Is r) = ok r
+told_ring (RingAnswer.No r) = no r.fault r.place
 
-abbrev pub toldBits : Bits → Res Vertex
-toldBits (Bits.Are x y z) = ok (x ∷ y ∷ z ∷ [])
-toldBits (Bits.No r) = no r.fault r.place
+abbrev pub told_bits : Bits → Res Vertex
+told_bits (Bits.Are x y z) = ok (x ∷ y ∷ z ∷ [])
+told_bits (Bits.No r) = no r.fault r.place
 
-abbrev pub toldVertex : VertexAnswer → Res (List Cell)
-toldVertex (VertexAnswer.Is x y z) = ok (x ∷ y ∷ z ∷ [])
-toldVertex (VertexAnswer.No r) = no r.fault r.place
+abbrev pub told_vertex : VertexAnswer → Res (List Cell)
+told_vertex (VertexAnswer.Is x y z) = ok (x ∷ y ∷ z ∷ [])
+told_vertex (VertexAnswer.No r) = no r.fault r.place
 
 -- what the bytes at a place say of a ring there
-abbrev pub ringIn : List ℕ → ℕ → RingLayout
-ringIn s at = record { at = at; mark = num_at 1 s at; vertices = num_at 4 s (at + 1) }
+abbrev pub ring_in : List ℕ → ℕ → RingLayout
+ring_in s at = record { at = at; mark = num_at 1 s at; vertices = num_at 4 s (at + 1) }
 
 -- and of a vertex
-abbrev pub bitsIn : List ℕ → ℕ → Bits
-bitsIn s at = Bits.Are (num_at 8 s at) (num_at 8 s (at + 8)) (num_at 8 s (at + 16))
+abbrev pub bits_in : List ℕ → ℕ → Bits
+bits_in s at = Bits.Are (num_at 8 s at) (num_at 8 s (at + 8)) (num_at 8 s (at + 16))
 
 -- the refusal that an answer holds; one that holds none is never asked
-abbrev pub ringNo : RingAnswer → Refusal
-ringNo (RingAnswer.Is r) = none-given
-ringNo (RingAnswer.No r) = r
+abbrev pub ring_no : RingAnswer → Refusal
+ring_no (RingAnswer.Is r) = none_given
+ring_no (RingAnswer.No r) = r
 
-abbrev pub bitsNo : Bits → Refusal
-bitsNo (Bits.Are x y z) = none-given
-bitsNo (Bits.No r) = r
+abbrev pub bits_no : Bits → Refusal
+bits_no (Bits.Are x y z) = none_given
+bits_no (Bits.No r) = r

@@ -1,15 +1,15 @@
 // Areas: the body of a geography, read. Every call takes any slice as a body, passes over it once, and gives what it was asked for or the first refusal.
 ghost use Rattle.std.specs.Prelude.{◌≡◌, ◌+◌, ◌^◌, ◌<◌, ◌≤◌, Bool, map, length, replicate, ◌==◌};
 ghost use Rattle.format.specs.declared.Fault.TheVariants.{PastEnd};
-ghost use Rattle.format.specs.Result.{ok, bind, pick, toldAnswer};
+ghost use Rattle.format.specs.Result.{ok, bind, pick, told_answer};
 ghost use Rattle.format.specs.Format.{each};
 ghost use Rattle.format.specs.Message.{first, second};
-ghost use Rattle.format.specs.Geography.{at_least, vertex, ring, holesOf, readPolygon};
-ghost use Rattle.scan.specs.Shown.{shownNumber, shownNext};
-ghost use Rattle.show.specs.Cells.{floatCell};
-ghost use Rattle.query.specs.Answers.{toldPart};
-ghost use Rattle.areas.specs.Answers.{askRings, askRing, askVertex, askRingKept, askKept, toldRing, toldBits, toldVertex, ringIn, bitsIn, ringNo, bitsNo};
-ghost use Rattle.areas.specs.Passes.{head, shownHead, shownRings, shownSurvey, passedNo, surveyNo};
+ghost use Rattle.format.specs.Geography.{at_least, vertex, ring, holes_of, read_polygon};
+ghost use Rattle.scan.specs.Shown.{shown_number, shown_next};
+ghost use Rattle.show.specs.Cells.{float_cell};
+ghost use Rattle.query.specs.Answers.{told_part};
+ghost use Rattle.areas.specs.Answers.{ask_rings, ask_ring, ask_vertex, ask_ring_kept, ask_kept, told_ring, told_bits, told_vertex, ring_in, bits_in, ring_no, bits_no};
+ghost use Rattle.areas.specs.Passes.{head, shown_head, shown_rings, shown_survey, passed_no, survey_no};
 
 use format::{Answer, Fault, Refusal};
 use query::Part;
@@ -73,7 +73,7 @@ const NEGATIVE: u64 = 0x8000_0000;
 // the compiler would then read the four bytes one by one.
 fn read_count(b: &[u8], at: usize, fewest: u64) -> Number
     requires { fewest < 2 ^ 31 }
-    ensures { result ≡ shownNumber ((at_least fewest 0).read b.now at) }
+    ensures { result ≡ shown_number ((at_least fewest 0).read b.now at) }
 {
     if !scan::fits(b, at, 4) {
         return Number::No(Refusal {
@@ -100,7 +100,7 @@ fn read_count(b: &[u8], at: usize, fewest: u64) -> Number
 // Past n vertices, which have no rule but that they fit. The first float that doesn't fit is found by how many do.
 fn pass_vertices(b: &[u8], at: usize, n: u64) -> Next
     requires { (at ≤ length b.now) × (n < 2 ^ 31) }
-    ensures { result ≡ shownNext ((each second 0 (replicate n vertex)).read b.now at) }
+    ensures { result ≡ shown_next ((each second 0 (replicate n vertex)).read b.now at) }
 {
     let room = b.len() - at;
     let size = n as usize * format::VERTEX;
@@ -115,7 +115,7 @@ fn pass_vertices(b: &[u8], at: usize, n: u64) -> Next
 
 // Past a ring.
 fn pass_ring(b: &[u8], at: usize) -> Next
-    ensures { result ≡ shownNext (ring.read b.now at) }
+    ensures { result ≡ shown_next (ring.read b.now at) }
 {
     if !scan::fits(b, at, 1) {
         return Next::No(Refusal {
@@ -143,7 +143,7 @@ fn either(first: bool, a: usize, b: usize) -> usize
 
 // Past n rings, and where the one that is sought stands: after those before it.
 fn pass_rings(b: &[u8], from: usize, n: usize, sought: usize) -> Passed
-    ensures { result ≡ shownRings from sought ((each first 0 (replicate n ring)).read b.now from) }
+    ensures { result ≡ shown_rings from sought ((each first 0 (replicate n ring)).read b.now from) }
 {
     let mut at = from;
     let mut found = from;
@@ -161,7 +161,7 @@ fn pass_rings(b: &[u8], from: usize, n: usize, sought: usize) -> Passed
 }
 
 fn passed_refusal(a: Passed) -> Refusal
-    ensures { result ≡ passedNo a }
+    ensures { result ≡ passed_no a }
 {
     match a {
         Passed::End(_, _) => Refusal {
@@ -174,14 +174,14 @@ fn passed_refusal(a: Passed) -> Refusal
 
 // Whether the third byte is what so many rings want.
 fn says_holes(holes: u8, rings: u64) -> bool
-    ensures { result ≡ (holes == holesOf rings) }
+    ensures { result ≡ (holes == holes_of rings) }
 {
     if rings < 2 { holes == 0 } else { holes == 1 }
 }
 
 // The three leading bytes and the ring count: how many rings there are, and where the first one stands.
 fn read_head(b: &[u8]) -> Number
-    ensures { result ≡ shownHead (head.read b.now 0) }
+    ensures { result ≡ shown_head (head.read b.now 0) }
 {
     if b.len() < 3 {
         return Number::No(Refusal {
@@ -211,7 +211,7 @@ fn read_head(b: &[u8]) -> Number
 
 // One pass over a body: where the ring that is sought stands, if there are so many, and what else is found on the way.
 pub fn survey(b: &[u8], sought: usize) -> Surveyed
-    ensures { result ≡ shownSurvey sought (readPolygon b.now) }
+    ensures { result ≡ shown_survey sought (read_polygon b.now) }
 {
     let head = read_head(b);
     let Number::Is(n, first) = head else {
@@ -237,7 +237,7 @@ pub fn survey(b: &[u8], sought: usize) -> Surveyed
 
 // The refusal of an answer that is one.
 pub fn survey_refusal(a: Surveyed) -> Refusal
-    ensures { result ≡ surveyNo a }
+    ensures { result ≡ survey_no a }
 {
     match a {
         Surveyed::Is(_) => Refusal {
@@ -250,7 +250,7 @@ pub fn survey_refusal(a: Surveyed) -> Refusal
 
 // Whether a body is an area, and how many rings it has.
 pub fn rings(b: &[u8]) -> Answer
-    ensures { toldAnswer result ≡ askRings b.now }
+    ensures { told_answer result ≡ ask_rings b.now }
 {
     let surveyed = survey(b, 0);
     let Surveyed::Is(s) = surveyed else {
@@ -261,7 +261,7 @@ pub fn rings(b: &[u8]) -> Answer
 
 // Ring n.
 pub fn ring(b: &[u8], n: usize) -> RingAnswer
-    ensures { toldRing result ≡ askRing b.now n }
+    ensures { told_ring result ≡ ask_ring b.now n }
 {
     let surveyed = survey(b, n);
     let Surveyed::Is(s) = surveyed else {
@@ -285,7 +285,7 @@ fn past_end() -> Refusal
 // The ring at a place.
 fn ring_at(b: &[u8], at: usize) -> RingLayout
     requires { at + 5 ≤ length b.now }
-    ensures { result ≡ ringIn b.now at }
+    ensures { result ≡ ring_in b.now at }
 {
     RingLayout {
         at,
@@ -296,7 +296,7 @@ fn ring_at(b: &[u8], at: usize) -> RingLayout
 
 // The refusal of an answer that is one.
 pub fn ring_refusal(a: RingAnswer) -> Refusal
-    ensures { result ≡ ringNo a }
+    ensures { result ≡ ring_no a }
 {
     match a {
         RingAnswer::Is(_) => Refusal {
@@ -312,7 +312,7 @@ const FIRST_VERTEX: usize = 5;
 
 // The bits of vertex v of ring n.
 pub fn vertex_bits(b: &[u8], n: usize, v: usize) -> Bits
-    ensures { toldBits result ≡ askVertex b.now n v }
+    ensures { told_bits result ≡ ask_vertex b.now n v }
 {
     let found = ring(b, n);
     let RingAnswer::Is(r) = found else {
@@ -327,7 +327,7 @@ pub fn vertex_bits(b: &[u8], n: usize, v: usize) -> Bits
 // The bits of the vertex at a place.
 fn bits_at(b: &[u8], at: usize) -> Bits
     requires { at + 24 ≤ length b.now }
-    ensures { result ≡ bitsIn b.now at }
+    ensures { result ≡ bits_in b.now at }
 {
     let x = quick::eight(b, at);
     let y = quick::eight(b, at + 8);
@@ -336,7 +336,7 @@ fn bits_at(b: &[u8], at: usize) -> Bits
 }
 
 fn bits_refusal(a: Bits) -> Refusal
-    ensures { result ≡ bitsNo a }
+    ensures { result ≡ bits_no a }
 {
     match a {
         Bits::Are(_, _, _) => Refusal {
@@ -349,7 +349,7 @@ fn bits_refusal(a: Bits) -> Refusal
 
 // Vertex v of ring n, as three floats.
 pub fn vertex(b: &[u8], n: usize, v: usize) -> VertexAnswer
-    ensures { toldVertex result ≡ bind (askVertex b.now n v) (λ axes. ok (map floatCell axes)) }
+    ensures { told_vertex result ≡ bind (ask_vertex b.now n v) (λ axes. ok (map float_cell axes)) }
 {
     let bits = vertex_bits(b, n, v);
     let Bits::Are(x, y, z) = bits else {
@@ -364,7 +364,7 @@ pub fn vertex(b: &[u8], n: usize, v: usize) -> VertexAnswer
 
 // The bytes that ring n keeps, as a part of the body.
 pub fn ring_kept(b: &[u8], n: usize) -> Part
-    ensures { toldPart result ≡ askRingKept b.now n }
+    ensures { told_part result ≡ ask_ring_kept b.now n }
 {
     let found = ring(b, n);
     let RingAnswer::Is(r) = found else {
@@ -378,7 +378,7 @@ pub fn ring_kept(b: &[u8], n: usize) -> Part
 
 // The bytes that the area keeps after its last ring, as a part of the body.
 pub fn kept(b: &[u8]) -> Part
-    ensures { toldPart result ≡ askKept b.now }
+    ensures { told_part result ≡ ask_kept b.now }
 {
     let surveyed = survey(b, 0);
     let Surveyed::Is(s) = surveyed else {

@@ -5,8 +5,8 @@ ghost use Rattle.format.specs.Value.{fixed, body};
 ghost use Rattle.put.specs.Put.{put, optional, sized};
 ghost use Rattle.steps.specs.State.{closed};
 ghost use Rattle.steps.specs.Plans.{answer_of};
-ghost use Rattle.steps.specs.Steps.{plan, beginCall, nullParam, oneParam, bytesParam, openArray, element, closeArray, finishCall};
-ghost use Rattle.write.specs.Shown.{zero, shownAnswer, Stepped};
+ghost use Rattle.steps.specs.Steps.{plan, begin_call, null_param, one_param, bytes_param, open_array, element, close_array, finish_call};
+ghost use Rattle.write.specs.Shown.{zero, shown_answer, Stepped};
 
 use format::{Answer, Fault};
 use steps::Stage;
@@ -21,14 +21,14 @@ const ARRAY: u64 = format::ARRAY as u64;
 
 // Begins an invocation; its length and its count hold zeros until it is finished.
 pub fn begin_call(out: &mut [u8], version: u8, procedure: &[u8], client: &[u8; 8]) -> Outcome
-    ensures { Stepped (beginCall version procedure.now client.now) zero [] out.old result out.new }
+    ensures { Stepped (begin_call version procedure.now client.now) zero [] out.old result out.new }
 {
     begin(out, version, procedure, client)
 }
 
 // Writes a null parameter.
 pub fn null_param(out: &mut [u8], st: State) -> Outcome
-    ensures { Stepped nullParam st [] out.old result out.new }
+    ensures { Stepped null_param st [] out.old result out.new }
 {
     let at = st.position;
     let size = out.len();
@@ -51,7 +51,7 @@ pub fn null_param(out: &mut [u8], st: State) -> Outcome
 
 // Opens an array of elements of a type; its count holds zeros until it is closed.
 pub fn open_array(out: &mut [u8], st: State, t: u8) -> Outcome
-    ensures { Stepped (openArray t) st [] out.old result out.new }
+    ensures { Stepped (open_array t) st [] out.old result out.new }
 {
     let at = st.position;
     let size = out.len();
@@ -77,7 +77,7 @@ pub fn open_array(out: &mut [u8], st: State, t: u8) -> Outcome
 
 // Closes the open array, and fills its count.
 pub fn close_array(out: &mut [u8], st: State) -> Outcome
-    ensures { Stepped closeArray st [] out.old result out.new }
+    ensures { Stepped close_array st [] out.old result out.new }
 {
     let at = st.position;
     let size = out.len();
@@ -99,7 +99,7 @@ pub fn close_array(out: &mut [u8], st: State) -> Outcome
 
 // Finishes the invocation: its length and its parameter count are filled.
 pub fn finish_call(out: &mut [u8], st: State) -> Outcome
-    ensures { Stepped finishCall st [] out.old result out.new }
+    ensures { Stepped finish_call st [] out.old result out.new }
 {
     let at = st.position;
     let size = out.len();
@@ -122,7 +122,7 @@ pub fn finish_call(out: &mut [u8], st: State) -> Outcome
 
 // Writes a parameter of a fixed size: its type, and its value by its upper and lower 64 bits.
 pub fn fixed_param(out: &mut [u8], st: State, t: u8, upper: u64, lower: u64) -> Outcome
-    ensures { Stepped (oneParam t (fixed (upper * 2 ^ 64 + lower))) st [] out.old result out.new }
+    ensures { Stepped (one_param t (fixed (upper * 2 ^ 64 + lower))) st [] out.old result out.new }
 {
     let at = st.position;
     let size = out.len();
@@ -148,7 +148,7 @@ pub fn fixed_param(out: &mut [u8], st: State, t: u8, upper: u64, lower: u64) -> 
 
 // Writes a text or binary parameter: its type, and its bytes or null.
 pub fn body_param(out: &mut [u8], st: State, t: u8, null: bool, s: &[u8]) -> Outcome
-    ensures { Stepped (oneParam t (body (optional null s.now))) st [] out.old result out.new }
+    ensures { Stepped (one_param t (body (optional null s.now))) st [] out.old result out.new }
 {
     let at = st.position;
     let size = out.len();
@@ -174,7 +174,7 @@ pub fn body_param(out: &mut [u8], st: State, t: u8, null: bool, s: &[u8]) -> Out
 
 // Writes an array of bytes, in one step.
 pub fn bytes_param(out: &mut [u8], st: State, s: &[u8]) -> Outcome
-    ensures { Stepped (bytesParam s.now) st [] out.old result out.new }
+    ensures { Stepped (bytes_param s.now) st [] out.old result out.new }
 {
     let at = st.position;
     let size = out.len();
@@ -269,7 +269,7 @@ pub fn body_element(out: &mut [u8], st: State, t: u8, null: bool, s: &[u8]) -> O
 // Begins an invocation whose client data is a slice.
 fn begin(out: &mut [u8], version: u8, procedure: &[u8], client: &[u8]) -> Outcome
     requires { length client.now ≡ 8 }
-    ensures { Stepped (beginCall version procedure.now client.now) zero [] out.old result out.new }
+    ensures { Stepped (begin_call version procedure.now client.now) zero [] out.old result out.new }
 {
     let a = ask_begin(version, procedure, client, out.len());
     let Answer::Is(n) = a else {
@@ -288,7 +288,7 @@ fn begin(out: &mut [u8], version: u8, procedure: &[u8], client: &[u8]) -> Outcom
 // What a begin is answered, in a buffer of so many bytes.
 fn ask_begin(version: u8, procedure: &[u8], client: &[u8], size: usize) -> Answer
     requires { length client.now ≡ 8 }
-    ensures { result ≡ shownAnswer (answer_of (plan (beginCall version procedure.now client.now) (closed 0) size) size) }
+    ensures { result ≡ shown_answer (answer_of (plan (begin_call version procedure.now client.now) (closed 0) size) size) }
 {
     let edition = write::test(version <= 1, Fault::Version, 0);
     let fault = write::also(edition, write::text_fault(0, procedure));
@@ -299,7 +299,7 @@ fn ask_begin(version: u8, procedure: &[u8], client: &[u8], size: usize) -> Answe
 // Writes what stands before the parameters, where there is room for it.
 fn put_head(out: &mut [u8], version: u8, procedure: &[u8], client: &[u8])
     requires { (length client.now ≡ 8) × (15 + length (sized (some procedure.now)) ≤ length out.old) }
-    ensures { out.new ≡ put out.old 0 (plan (beginCall version procedure.now client.now) (closed 0) 0).bytes }
+    ensures { out.new ≡ put out.old 0 (plan (begin_call version procedure.now client.now) (closed 0) 0).bytes }
 {
     let edition = put::number_at(out, 0, 0, 4);
     let name = put::number_at(out, edition, version as u64, 1);

@@ -3,8 +3,8 @@ use Rattle.std.specs.Prelude.{ℕ, ◌+◌, ◌-◌, ◌≤◌, min, ◌≡◌, 
 use Rattle.std.proofs.Math.Option.{Option, some, none}
 use Rattle.format.specs.declared.Fault.TheVariants.{CardForm}
 use Rattle.format.specs.Result.{Res, ok, no, pick}
-use Rattle.format.specs.Number.{num_at, numBytes}
-use Rattle.format.specs.Value.{isColumn}
+use Rattle.format.specs.Number.{num_at, num_bytes}
+use Rattle.format.specs.Value.{is_column}
 use Rattle.cards.specs.declared.Kind.{Kind}
 
 -- a column, by its position, and what it was when the card was made
@@ -13,8 +13,8 @@ pub record Card : Type 0 where
   pub type : ℕ
   pub name : List ℕ
 
-abbrev pub aCard : ℕ → ℕ → List ℕ → Card
-aCard i t bs = record { position = i; type = t; name = bs }
+abbrev pub a_card : ℕ → ℕ → List ℕ → Card
+a_card i t bs = record { position = i; type = t; name = bs }
 
 -- the kinds of cards: the first byte of each, how many bytes its position has, and the first and the last position that it holds
 abbrev pub near : Kind
@@ -33,95 +33,95 @@ holds k position = leb k.low position && leb position k.high
 abbrev pub kind_of : ℕ → Kind
 kind_of position = pick (leb position near.high) near far
 
-abbrev pub mostName : ℕ
-mostName = 32
+abbrev pub most_name : ℕ
+most_name = 32
 
-abbrev pub mostByte : ℕ
-mostByte = 127
+abbrev pub most_byte : ℕ
+most_byte = 127
 
 -- where the parts stand: after the kind the position, then the type, the name's length and the name
-abbrev pub positionPlace : ℕ
-positionPlace = 1
+abbrev pub position_place : ℕ
+position_place = 1
 
-abbrev pub typePlace : Kind → ℕ
-typePlace k = positionPlace + k.width
+abbrev pub type_place : Kind → ℕ
+type_place k = position_place + k.width
 
-abbrev pub namePlace : Kind → ℕ
-namePlace k = typePlace k + 2
+abbrev pub name_place : Kind → ℕ
+name_place k = type_place k + 2
 
 -- how many bytes it has from the type on, and in all; and the most that a card has
-abbrev pub restSize : ℕ
-restSize = 2 + mostName
+abbrev pub rest_size : ℕ
+rest_size = 2 + most_name
 
-abbrev pub cardSize : Kind → ℕ
-cardSize k = typePlace k + restSize
+abbrev pub card_size : Kind → ℕ
+card_size k = type_place k + rest_size
 
-abbrev pub mostSize : ℕ
-mostSize = cardSize far
+abbrev pub most_size : ℕ
+most_size = card_size far
 
 -- whether byte k from the name's start is right: low in the name, and 0 after it
-abbrev pub nameByte : ℕ → ℕ → ℕ → Bool
-nameByte size k b = pick (ltb k size) (leb b mostByte) (eqb b 0)
+abbrev pub name_byte : ℕ → ℕ → ℕ → Bool
+name_byte size k b = pick (ltb k size) (leb b most_byte) (eqb b 0)
 
 -- the first of these bytes that is wrong; the first given is byte k
-unfoldable pub wrongFrom : ℕ → ℕ → List ℕ → Option ℕ
-wrongFrom size k [] = none
-wrongFrom size k (b ∷ bs) = pick (nameByte size k b) (wrongFrom size (k + 1) bs) (some k)
+unfoldable pub wrong_from : ℕ → ℕ → List ℕ → Option ℕ
+wrong_from size k [] = none
+wrong_from size k (b ∷ bs) = pick (name_byte size k b) (wrong_from size (k + 1) bs) (some k)
 
 abbrev pub unless : Option ℕ → ℕ → Card → Res Card
 unless none at c = ok c
 unless (some k) at c = no CardForm (at + k)
 
 -- what the bytes from the type on say, each in turn, of a card with a position; the type stands at a place
-unfoldable pub cardRest : ℕ → ℕ → List ℕ → Res Card
-cardRest at position bs =
+unfoldable pub card_rest : ℕ → ℕ → List ℕ → Res Card
+card_rest at position bs =
     let size = get_or bs 1 0 in
-    pick (isColumn (get_or bs 0 0))
-    (pick (leb size mostName)
-    (unless (wrongFrom size 0 (drop 2 bs)) (at + 2) (aCard position (get_or bs 0 0) (take size (drop 2 bs))))
+    pick (is_column (get_or bs 0 0))
+    (pick (leb size most_name)
+    (unless (wrong_from size 0 (drop 2 bs)) (at + 2) (a_card position (get_or bs 0 0) (take size (drop 2 bs))))
     (no CardForm (at + 1)))
     (no CardForm at)
 
 -- what the bytes of a card of a kind say, its position first
-abbrev pub positionIn : Kind → List ℕ → ℕ
-positionIn k bs = num_at k.width bs positionPlace
+abbrev pub position_in : Kind → List ℕ → ℕ
+position_in k bs = num_at k.width bs position_place
 
-unfoldable pub cardBody : Kind → List ℕ → Res Card
-cardBody k bs = pick (holds k (positionIn k bs)) (cardRest (typePlace k) (positionIn k bs) (drop (typePlace k) bs)) (no CardForm positionPlace)
+unfoldable pub card_body : Kind → List ℕ → Res Card
+card_body k bs = pick (holds k (position_in k bs)) (card_rest (type_place k) (position_in k bs) (drop (type_place k) bs)) (no CardForm position_place)
 
 -- its size, and then the rest
 abbrev pub sized : Kind → List ℕ → Res Card
-sized k bs = pick (eqb (length bs) (cardSize k)) (cardBody k bs) (no CardForm (min (length bs) (cardSize k)))
+sized k bs = pick (eqb (length bs) (card_size k)) (card_body k bs) (no CardForm (min (length bs) (card_size k)))
 
 -- what the bytes of a card of one of these kinds say: the kind first
-abbrev pub formBy : List Kind → List ℕ → Res Card
-formBy [] bs = no CardForm 0
-formBy (k ∷ ks) bs = pick (eqb (get_or bs 0 0) k.number) (sized k bs) (formBy ks bs)
+abbrev pub form_by : List Kind → List ℕ → Res Card
+form_by [] bs = no CardForm 0
+form_by (k ∷ ks) bs = pick (eqb (get_or bs 0 0) k.number) (sized k bs) (form_by ks bs)
 
-unfoldable pub cardForm : List ℕ → Res Card
-cardForm bs = formBy kinds bs
+unfoldable pub card_form : List ℕ → Res Card
+card_form bs = form_by kinds bs
 
 -- the bytes of a card: from its type on, before that in a kind, and all of them in a kind and in that of its position
-abbrev pub restBytes : Card → List ℕ
-restBytes c = c.type ∷ length c.name ∷ (c.name ++ replicate (mostName - length c.name) 0)
+abbrev pub rest_bytes : Card → List ℕ
+rest_bytes c = c.type ∷ length c.name ∷ (c.name ++ replicate (most_name - length c.name) 0)
 
-abbrev pub frontBytes : Kind → ℕ → List ℕ
-frontBytes k position = k.number ∷ numBytes k.width position
+abbrev pub front_bytes : Kind → ℕ → List ℕ
+front_bytes k position = k.number ∷ num_bytes k.width position
 
-abbrev pub bytesIn : Kind → Card → List ℕ
-bytesIn k c = frontBytes k c.position ++ restBytes c
+abbrev pub bytes_in : Kind → Card → List ℕ
+bytes_in k c = front_bytes k c.position ++ rest_bytes c
 
-abbrev pub cardBytes : Card → List ℕ
-cardBytes c = bytesIn (kind_of c.position) c
+abbrev pub card_bytes : Card → List ℕ
+card_bytes c = bytes_in (kind_of c.position) c
 
 -- the bytes of names
 abbrev pub Low : List ℕ → Type 0
 Low [] = Unit
-Low (b ∷ bs) = (b ≤ mostByte) × Low bs
+Low (b ∷ bs) = (b ≤ most_byte) × Low bs
 
 -- a card that can be made: the kind of its position holds it, and so on
 pub record GoodCard (c : Card) : Type 0 where
   pub held : holds (kind_of c.position) c.position ≡ true
-  pub column : isColumn c.type ≡ true
-  pub short : length c.name ≤ mostName
+  pub column : is_column c.type ≡ true
+  pub short : length c.name ≤ most_name
   pub low : Low c.name

@@ -12,19 +12,19 @@ use Rattle.query.specs.Answers.{layout_of}
 use Rattle.cards.specs.declared.Form.{Form}
 use Rattle.cards.specs.Card.{Card}
 
-abbrev pub shownWrong : Option ℕ → Found
-shownWrong none = Found.Nothing
-shownWrong (some k) = Found.At k
+abbrev pub shown_wrong : Option ℕ → Found
+shown_wrong none = Found.Nothing
+shown_wrong (some k) = Found.At k
 
 -- a card by its position, its type and its name's length; the name stands in the card
-abbrev pub shownForm : Res Card → Form
-shownForm (ok c) = Form.Is c.position c.type (length c.name)
-shownForm (no f p) = Form.No (refusal f p)
+abbrev pub shown_form : Res Card → Form
+shown_form (ok c) = Form.Is c.position c.type (length c.name)
+shown_form (no f p) = Form.No (refusal f p)
 
 -- the refusal of a message comes before another one
-abbrev pub ownBefore : Res Message → Refusal → Refusal
-ownBefore (ok p) x = x
-ownBefore (no f p) x = refusal f p
+abbrev pub own_before : Res Message → Refusal → Refusal
+own_before (ok p) x = x
+own_before (no f p) x = refusal f p
 
 -- a layout is that of a table, which stands in the message
 pub record Laid (m : List ℕ) (l : TableLayout) : Type 0 where

@@ -4,14 +4,14 @@
 ghost use Rattle.std.specs.Prelude.{◌≡◌, ◌&&◌, ◌++◌, ◌+◌, ◌≤◌, min, length, get_or, take, drop, eqb};
 ghost use Rattle.std.proofs.Math.Option.{some};
 ghost use Rattle.format.specs.declared.Fault.TheVariants.{CardForm};
-ghost use Rattle.format.specs.Result.{ok, bind, toldAnswer};
-ghost use Rattle.format.specs.Message.{readMessage, responseLayout};
+ghost use Rattle.format.specs.Result.{ok, bind, told_answer};
+ghost use Rattle.format.specs.Message.{read_message, response_layout};
 ghost use Rattle.scan.specs.Shown.{refusal};
-ghost use Rattle.query.specs.Answers.{ofTable, same};
-ghost use Rattle.cards.specs.Card.{aCard, holds, kind_of, nameByte, wrongFrom, cardRest, sized, cardForm, restBytes, frontBytes, bytesIn, cardSize, mostSize, positionPlace, typePlace, namePlace, restSize, mostName};
-ghost use Rattle.cards.specs.Answers.{opened, askOpen, shortNamed, room_for, askMade, Made};
-ghost use Rattle.cards.specs.Reasons.{standsAt, fitOf, askFit, toldPlace, toldFit};
-ghost use Rattle.cards.specs.Shown.{shownWrong, shownForm, ownBefore, Laid};
+ghost use Rattle.query.specs.Answers.{of_table, same};
+ghost use Rattle.cards.specs.Card.{a_card, holds, kind_of, name_byte, wrong_from, card_rest, sized, card_form, rest_bytes, front_bytes, bytes_in, card_size, most_size, position_place, type_place, name_place, rest_size, most_name};
+ghost use Rattle.cards.specs.Answers.{opened, ask_open, short_named, room_for, ask_made, Made};
+ghost use Rattle.cards.specs.Reasons.{stands_at, fit_of, ask_fit, told_place, told_fit};
+ghost use Rattle.cards.specs.Shown.{shown_wrong, shown_form, own_before, Laid};
 
 use format::{Answer, Fault, Refusal};
 use message::Verdict;
@@ -68,21 +68,21 @@ fn kind_of(position: usize) -> Kind
 // How many bytes a card of a kind has.
 fn size_of(kind: Kind) -> usize
     requires { kind.width ≤ 8 }
-    ensures { result ≡ cardSize kind }
+    ensures { result ≡ card_size kind }
 {
     POSITION + kind.width + REST
 }
 
 // How many bytes the card of a column at a position has.
 pub fn size_at(position: usize) -> usize
-    ensures { (result ≡ cardSize (kind_of position)) × (result ≤ mostSize) }
+    ensures { (result ≡ card_size (kind_of position)) × (result ≤ most_size) }
 {
     size_of(kind_of(position))
 }
 
 // Where the name stands in the card of a column at a position.
 fn name_at(position: usize) -> usize
-    ensures { result ≡ namePlace (kind_of position) }
+    ensures { result ≡ name_place (kind_of position) }
 {
     size_at(position) - MOST_NAME
 }
@@ -124,7 +124,7 @@ fn is_held(kind: Kind, position: usize) -> bool
 
 // Whether byte k from the name's start is right: low in the name, 0 after it.
 fn name_byte(size: usize, k: usize, b: u8) -> bool
-    ensures { result ≡ nameByte size k b }
+    ensures { result ≡ name_byte size k b }
 {
     if k < size {
         b <= format::HIGHEST_IN_NAME
@@ -135,7 +135,7 @@ fn name_byte(size: usize, k: usize, b: u8) -> bool
 
 // The first byte of a name and the zeros after it that is wrong.
 fn wrong_byte(name: &[u8], size: usize) -> Found
-    ensures { result ≡ shownWrong (wrongFrom size 0 name.now) }
+    ensures { result ≡ shown_wrong (wrong_from size 0 name.now) }
 {
     let mut k = 0;
     while k < name.len() {
@@ -156,8 +156,8 @@ fn padded(s: &[u8], k: usize) -> u8
 
 // What the bytes from the type on say, which stands at a place, of a card that has its size and its position.
 fn read_rest(rest: &[u8], at: usize, position: usize) -> Form
-    requires { (length rest.now ≡ restSize) × (at ≤ positionPlace + 8) }
-    ensures { result ≡ shownForm (cardRest at position rest.now) }
+    requires { (length rest.now ≡ rest_size) × (at ≤ position_place + 8) }
+    ensures { result ≡ shown_form (card_rest at position rest.now) }
 {
     let wire_type = rest[TYPE];
     if !scan::is_column(wire_type) {
@@ -176,7 +176,7 @@ fn read_rest(rest: &[u8], at: usize, position: usize) -> Form
 // What a card of a kind says: its size decides, then its position, then the rest.
 fn read_sized(card: &[u8], kind: Kind) -> Form
     requires { kind.width ≤ 8 }
-    ensures { result ≡ shownForm (sized kind card.now) }
+    ensures { result ≡ shown_form (sized kind card.now) }
 {
     let size = size_of(kind);
     if card.len() != size {
@@ -192,7 +192,7 @@ fn read_sized(card: &[u8], kind: Kind) -> Form
 
 // What a card says, or the first byte that breaks its form.
 fn read_card(card: &[u8]) -> Form
-    ensures { result ≡ shownForm (cardForm card.now) }
+    ensures { result ≡ shown_form (card_form card.now) }
 {
     let first = padded(card, 0);
     if first == NEAR.number {
@@ -244,7 +244,7 @@ fn is_alike(m: &[u8], column: ColumnLayout, wire_type: u8, name: &[u8]) -> bool
 
 // Opens a card that says this, in a response with its round trip or without.
 fn open_at(m: &[u8], timed: bool, t: usize, position: usize, wire_type: u8, name: &[u8]) -> Answer
-    ensures { toldAnswer result ≡ ofTable timed m.now t (λ at b. opened b (aCard position wire_type name.now)) }
+    ensures { told_answer result ≡ of_table timed m.now t (λ at b. opened b (a_card position wire_type name.now)) }
 {
     let placed = query::find_placed(m, timed, t, position);
     match placed {
@@ -262,7 +262,7 @@ fn open_at(m: &[u8], timed: bool, t: usize, position: usize, wire_type: u8, name
 
 // A refusal, or the message's own, which comes before it.
 fn after_message(m: &[u8], timed: bool, r: Refusal) -> Refusal
-    ensures { result ≡ ownBefore (readMessage (responseLayout timed) m.now) r }
+    ensures { result ≡ own_before (read_message (response_layout timed) m.now) r }
 {
     let verdict = message::accept_layout(format::response_layout(timed), m);
     match verdict {
@@ -273,7 +273,7 @@ fn after_message(m: &[u8], timed: bool, r: Refusal) -> Refusal
 
 // The column of table t that a card stands for, by its position, if it still has the card's type and name.
 pub fn open_card(m: &[u8], t: usize, card: &[u8]) -> Answer
-    ensures { toldAnswer result ≡ askOpen m.now t card.now }
+    ensures { told_answer result ≡ ask_open m.now t card.now }
 {
     let form = read_card(card);
     match form {
@@ -307,7 +307,7 @@ pub enum Fit {
 // The first column of a table that has this type and name.
 fn first_alike(m: &[u8], layout: TableLayout, wire_type: u8, name: &[u8]) -> Found
     requires { Laid m.now layout }
-    ensures { (w : Laid m.now layout) → toldPlace result ≡ standsAt w.tab wire_type name.now }
+    ensures { (w : Laid m.now layout) → told_place result ≡ stands_at w.tab wire_type name.now }
 {
     let mut at = layout.names;
     let mut i = 0;
@@ -328,7 +328,7 @@ fn first_alike(m: &[u8], layout: TableLayout, wire_type: u8, name: &[u8]) -> Fou
 // That a card doesn't fit for a reason, with where its type and name stand.
 fn stale(m: &[u8], layout: TableLayout, reason: Reason, wire_type: u8, name: &[u8]) -> Fit
     requires { Laid m.now layout }
-    ensures { (w : Laid m.now layout) → toldFit result ≡ ok (some (reason, standsAt w.tab wire_type name.now)) }
+    ensures { (w : Laid m.now layout) → told_fit result ≡ ok (some (reason, stands_at w.tab wire_type name.now)) }
 {
     Fit::Stale(reason, first_alike(m, layout, wire_type, name))
 }
@@ -336,7 +336,7 @@ fn stale(m: &[u8], layout: TableLayout, reason: Reason, wire_type: u8, name: &[u
 // How a card that says this fits a table.
 fn fit_in(m: &[u8], layout: TableLayout, position: usize, wire_type: u8, name: &[u8]) -> Fit
     requires { Laid m.now layout }
-    ensures { (w : Laid m.now layout) → toldFit result ≡ ok (fitOf w.tab (aCard position wire_type name.now)) }
+    ensures { (w : Laid m.now layout) → told_fit result ≡ ok (fit_of w.tab (a_card position wire_type name.now)) }
 {
     if layout.columns <= position {
         return stale(m, layout, Reason::Past, wire_type, name);
@@ -353,7 +353,7 @@ fn fit_in(m: &[u8], layout: TableLayout, position: usize, wire_type: u8, name: &
 
 // How it fits table t of a response with its round trip or without.
 fn fit_at(m: &[u8], timed: bool, t: usize, position: usize, wire_type: u8, name: &[u8]) -> Fit
-    ensures { toldFit result ≡ ofTable timed m.now t (λ at b. ok (fitOf b (aCard position wire_type name.now))) }
+    ensures { told_fit result ≡ of_table timed m.now t (λ at b. ok (fit_of b (a_card position wire_type name.now))) }
 {
     let answer = query::find_table(m, timed, t);
     match answer {
@@ -364,7 +364,7 @@ fn fit_at(m: &[u8], timed: bool, t: usize, position: usize, wire_type: u8, name:
 
 // Whether a card fits table t, exactly if opening it there would open a column; and if not why, and where a column of its type and name stands now.
 pub fn card_fit(m: &[u8], t: usize, card: &[u8]) -> Fit
-    ensures { toldFit result ≡ askFit m.now t card.now }
+    ensures { told_fit result ≡ ask_fit m.now t card.now }
 {
     let form = read_card(card);
     match form {
@@ -384,8 +384,8 @@ const LENGTH_SIZE: usize = 4;
 
 // Byte k of a card from its type on.
 fn rest_byte(wire_type: u8, name: &[u8], k: usize) -> u8
-    requires { length name.now ≤ mostName }
-    ensures { result ≡ get_or (restBytes (aCard 0 wire_type name.now)) k 0 }
+    requires { length name.now ≤ most_name }
+    ensures { result ≡ get_or (rest_bytes (a_card 0 wire_type name.now)) k 0 }
 {
     match k {
         TYPE => wire_type,
@@ -396,8 +396,8 @@ fn rest_byte(wire_type: u8, name: &[u8], k: usize) -> u8
 
 // Writes a card from its type on, to the start of a buffer that has room for it.
 fn write_rest(out: &mut [u8], wire_type: u8, name: &[u8])
-    requires { (restSize ≤ length out.old) × (length name.now ≤ mostName) }
-    ensures { out.new ≡ restBytes (aCard 0 wire_type name.now) ++ drop restSize out.old }
+    requires { (rest_size ≤ length out.old) × (length name.now ≤ most_name) }
+    ensures { out.new ≡ rest_bytes (a_card 0 wire_type name.now) ++ drop rest_size out.old }
 {
     let mut k = 0;
     while k < REST {
@@ -408,8 +408,8 @@ fn write_rest(out: &mut [u8], wire_type: u8, name: &[u8])
 
 // Writes the kind of a card and its position, to the start of a buffer that has room for them.
 fn write_front(out: &mut [u8], kind: Kind, position: usize)
-    requires { typePlace kind ≤ length out.old }
-    ensures { out.new ≡ frontBytes kind position ++ drop (typePlace kind) out.old }
+    requires { type_place kind ≤ length out.old }
+    ensures { out.new ≡ front_bytes kind position ++ drop (type_place kind) out.old }
 {
     put::number_at(out, POSITION, position as u64, kind.width);
     out[0] = kind.number;
@@ -417,8 +417,8 @@ fn write_front(out: &mut [u8], kind: Kind, position: usize)
 
 // Writes a card of a kind to the start of a buffer that has room for it.
 fn write_card(out: &mut [u8], kind: Kind, position: usize, wire_type: u8, name: &[u8])
-    requires { (kind.width ≤ 8) × (cardSize kind ≤ length out.old) × (length name.now ≤ mostName) }
-    ensures { out.new ≡ bytesIn kind (aCard position wire_type name.now) ++ drop (cardSize kind) out.old }
+    requires { (kind.width ≤ 8) × (card_size kind ≤ length out.old) × (length name.now ≤ most_name) }
+    ensures { out.new ≡ bytes_in kind (a_card position wire_type name.now) ++ drop (card_size kind) out.old }
 {
     write_front(out, kind, position);
     write_rest(&mut out[POSITION + kind.width..], wire_type, name);
@@ -426,7 +426,7 @@ fn write_card(out: &mut [u8], kind: Kind, position: usize, wire_type: u8, name: 
 
 // Makes the card of a column whose name's length stands at a place, if the name is short enough and there is room.
 fn put_card(out: &mut [u8], place: usize, position: usize, wire_type: u8, name: &[u8]) -> Answer
-    ensures { Made (bind (shortNamed place (aCard position wire_type name.now)) (room_for (length out.old))) result out.old out.new }
+    ensures { Made (bind (short_named place (a_card position wire_type name.now)) (room_for (length out.old))) result out.old out.new }
 {
     if MOST_NAME < name.len() {
         return Answer::No(Refusal {
@@ -448,7 +448,7 @@ fn put_card(out: &mut [u8], place: usize, position: usize, wire_type: u8, name: 
 
 // Makes the card of the first column of a name in table t, at the start of the buffer, and says the column's position.
 pub fn make_card(m: &[u8], t: usize, name: &[u8], out: &mut [u8]) -> Answer
-    ensures { Made (askMade m.now t name.now (length out.old)) result out.old out.new }
+    ensures { Made (ask_made m.now t name.now (length out.old)) result out.old out.new }
 {
     let named = query::named_column(m, t, name);
     match named {

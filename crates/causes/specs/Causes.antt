@@ -4,9 +4,9 @@ use Rattle.format.specs.declared.Fault.{Fault}
 use Rattle.format.specs.declared.Fault.TheVariants.{Short, Negative, Limit, Extra, Version, WireType, Decimal, Point, Flags, Name, Geography, Text}
 use Rattle.format.specs.Result.{Res, no, pick, number_of}
 use Rattle.format.specs.Number.{num_at}
-use Rattle.format.specs.Value.{decimalFine, pointFine, nameByteFine}
-use Rattle.format.specs.Message.{flagsFine}
-use Rattle.format.specs.Geography.{holesOf, fewestVertices}
+use Rattle.format.specs.Value.{decimal_fine, point_fine, name_byte_fine}
+use Rattle.format.specs.Message.{flags_fine}
+use Rattle.format.specs.Geography.{holes_of, fewest_vertices}
 
 pub data Claim : Type 0 where
   breaks : ℕ → (ℕ → Bool) → Claim  -- so many bytes at the place don't pass a test
@@ -33,29 +33,29 @@ pub record Rightly (P : Fault → ℕ → Type 0) {A : Type 0} (r : Res A) : Typ
   pub holds : (f : Fault) (p : ℕ) → r ≡ no f p → P f p
 
 -- what a table claims of a fault; one that isn't there isn't given
-abbrev claimIn : List (Fault × Claim) → Fault → Claim
-claimIn [] f = never
-claimIn (c ∷ cs) f = pick (eqb (number_of c.0) (number_of f)) c.1 (claimIn cs f)
+abbrev claim_in : List (Fault × Claim) → Fault → Claim
+claim_in [] f = never
+claim_in (c ∷ cs) f = pick (eqb (number_of c.0) (number_of f)) c.1 (claim_in cs f)
 
 -- a message: a decimal or a point of 16 bytes, the flag byte, a byte of a name, the length of a geography
-abbrev pub ofMessage : Fault → Claim
-ofMessage = claimIn (
+abbrev pub of_message : Fault → Claim
+of_message = claim_in (
     (Short, other) ∷ (Negative, other) ∷ (Limit, other) ∷ (Extra, other) ∷ (Version, other) ∷ (WireType, other) ∷ (Text, other)
-    ∷ (Decimal, breaks 16 decimalFine)
-    ∷ (Point, breaks 16 pointFine)
-    ∷ (Flags, breaks 1 flagsFine)
-    ∷ (Name, breaks 1 nameByteFine)
+    ∷ (Decimal, breaks 16 decimal_fine)
+    ∷ (Point, breaks 16 point_fine)
+    ∷ (Flags, breaks 1 flags_fine)
+    ∷ (Name, breaks 1 name_byte_fine)
     ∷ (Geography, breaks 4 (λ n. leb 1 n))
     ∷ [])
 
 -- a body: its third byte by itself, and against the ring count behind it; no ring; too few vertices in a ring
-abbrev pub ofBody : Fault → Claim
-ofBody = claimIn (
+abbrev pub of_body : Fault → Claim
+of_body = claim_in (
     (Short, other) ∷ (Negative, other) ∷ (Extra, other)
     ∷ (
       Geography,
-      either (only 2 (either (breaks 1 (λ h. leb h 1)) (differ 1 4 (λ h n. eqb h (holesOf n)))))
+      either (only 2 (either (breaks 1 (λ h. leb h 1)) (differ 1 4 (λ h n. eqb h (holes_of n)))))
           (either (only 3 (breaks 4 (λ n. leb 1 n)))
-          (breaks 4 (λ n. leb fewestVertices n))),
+          (breaks 4 (λ n. leb fewest_vertices n))),
     )
     ∷ [])

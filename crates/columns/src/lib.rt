@@ -2,14 +2,14 @@
 // then what stands around them is written, and then they are, one by one again: so a table costs what its columns cost, wherever they are lent.
 ghost use Rattle.std.specs.Prelude.{◌≡◌, ◌+◌, ◌*◌, ◌<◌, ◌≤◌, length, leb};
 ghost use Rattle.format.specs.Value.{ascii};
-ghost use Rattle.format.specs.Message.{mostColumns, mostItems};
+ghost use Rattle.format.specs.Message.{most_columns, most_items};
 ghost use Rattle.put.specs.Put.{put};
 ghost use Rattle.steps.specs.Plans.{placed};
-ghost use Rattle.steps.specs.Arguments.{nameFault};
-ghost use Rattle.write.specs.Shown.{shownAnswer};
-ghost use Rattle.write.specs.Shared.{verdictOf};
-ghost use Rattle.columns.specs.Entries.{name_of, nameBytes};
-ghost use Rattle.columns.specs.Walks.{noneAt, nextFault, added, Bounded, surveyFault, headAnswer, headBytes, openedAt, head_of, headOut, Fits, moved, columnOut, columnTypes};
+ghost use Rattle.steps.specs.Arguments.{name_fault};
+ghost use Rattle.write.specs.Shown.{shown_answer};
+ghost use Rattle.write.specs.Shared.{verdict_of};
+ghost use Rattle.columns.specs.Entries.{name_of, name_bytes};
+ghost use Rattle.columns.specs.Walks.{none_at, next_fault, added, Bounded, survey_fault, head_answer, head_bytes, opened_at, head_of, head_out, Fits, moved, column_out, column_types};
 
 use format::{Answer, Fault, Refusal};
 use steps::Stage;
@@ -54,7 +54,7 @@ pub struct Head {
 
 // No column yet, for a table that a state's next step opens.
 pub fn no_columns(st: State) -> Survey
-    ensures { result ≡ noneAt st.position }
+    ensures { result ≡ none_at st.position }
 {
     Survey {
         at: st.position,
@@ -102,7 +102,7 @@ pub fn surveyed(s: Survey, c: Column, names: &[u8]) -> Survey
 
 // The first fault of the names so far, and of one more.
 fn next_fault(at: usize, before: Check, c: Column, names: &[u8]) -> Check
-    ensures { result ≡ nextFault at names.now before c }
+    ensures { result ≡ next_fault at names.now before c }
 {
     let Check::Fine = before else {
         return before;
@@ -114,7 +114,7 @@ fn next_fault(at: usize, before: Check, c: Column, names: &[u8]) -> Check
 // hold zeros until it is closed.
 pub fn open_head(out: &mut [u8], st: State, status: u8, s: Survey) -> Head
     requires { Bounded s }
-    ensures { (result ≡ head_of st s (headAnswer st s (length out.old))) × (out.new ≡ headOut st status s (headAnswer st s (length out.old)) out.old) }
+    ensures { (result ≡ head_of st s (head_answer st s (length out.old))) × (out.new ≡ head_out st status s (head_answer st s (length out.old)) out.old) }
 {
     let a = ask_open_table(st, s, out.len());
     let Answer::Is(n) = a else {
@@ -154,7 +154,7 @@ pub fn put_column(
     names: &[u8],
 ) -> Walk
     requires { Fits names.now (length out.old) w c }
-    ensures { (result ≡ moved names.now w c) × (out.new ≡ columnOut names.now w c out.old) × (types.new ≡ columnTypes w c types.old) }
+    ensures { (result ≡ moved names.now w c) × (out.new ≡ column_out names.now w c out.old) × (types.new ≡ column_types w c types.old) }
 {
     if w.left == 0 {
         return w;
@@ -187,7 +187,7 @@ pub fn walk_in(h: Head) -> Walk
 // What the step is answered, in a buffer of so many bytes.
 fn ask_open_table(st: State, s: Survey, size: usize) -> Answer
     requires { Bounded s }
-    ensures { result ≡ shownAnswer (headAnswer st s size) }
+    ensures { result ≡ shown_answer (head_answer st s size) }
 {
     let permitted = write::at_reply(st, size);
     let fault = survey_fault(s);
@@ -205,7 +205,7 @@ fn ask_open_table(st: State, s: Survey, size: usize) -> Answer
 
 // What is wrong with the columns: their number, their types, their names.
 fn survey_fault(s: Survey) -> Check
-    ensures { verdictOf result ≡ surveyFault s }
+    ensures { verdict_of result ≡ survey_fault s }
 {
     let few = write::test(s.n <= COLUMNS, Fault::Limit, s.at);
     let kinds = write::test(s.kinds, Fault::WireType, s.at);
@@ -215,7 +215,7 @@ fn survey_fault(s: Survey) -> Check
 
 // What is wrong with a name: that it ends past its buffer, its length, a byte above 127.
 fn name_fault(at: usize, c: Column, names: &[u8]) -> Check
-    ensures { verdictOf result ≡ nameFault at (name_of names.now c) }
+    ensures { verdict_of result ≡ name_fault at (name_of names.now c) }
 {
     let start = c.start;
     let size = c.size;
@@ -241,7 +241,7 @@ fn stands(start: usize, size: usize, length: usize) -> bool
 
 // A byte above 127 is none of a name.
 fn ascii_fault(at: usize, name: &[u8]) -> Check
-    ensures { verdictOf result ≡ placed at (ascii name.now) }
+    ensures { verdict_of result ≡ placed at (ascii name.now) }
 {
     let Found::Nothing = text::high_byte(name) else {
         return Check::Bad(Refusal {
@@ -255,8 +255,8 @@ fn ascii_fault(at: usize, name: &[u8]) -> Check
 // Writes what stands before the columns' types at a place: the table's length, which holds zeros, the metadata's, the status and how many
 // columns there are. It says where these end.
 fn head_at(out: &mut [u8], at: usize, status: u8, s: Survey) -> usize
-    requires { Bounded s × (s.n ≤ mostColumns) × (at + 11 ≤ length out.old) }
-    ensures { (result ≡ at + 11) × (out.new ≡ put out.old at (headBytes status s)) }
+    requires { Bounded s × (s.n ≤ most_columns) × (at + 11 ≤ length out.old) }
+    ensures { (result ≡ at + 11) × (out.new ≡ put out.old at (head_bytes status s)) }
 {
     let second = put::number_at(out, at, 0, 4);
     let third = put::number_at(out, second, (3 + (s.n + s.size)) as u64, 4);
@@ -266,8 +266,8 @@ fn head_at(out: &mut [u8], at: usize, status: u8, s: Survey) -> usize
 
 // Writes a name at a place, with its length, and says where it ends.
 fn name_at(out: &mut [u8], at: usize, c: Column, names: &[u8]) -> usize
-    requires { (c.start + c.size ≤ length names.now) × (at + length (nameBytes names.now c) ≤ length out.old) }
-    ensures { (result ≡ at + length (nameBytes names.now c)) × (out.new ≡ put out.old at (nameBytes names.now c)) }
+    requires { (c.start + c.size ≤ length names.now) × (at + length (name_bytes names.now c) ≤ length out.old) }
+    ensures { (result ≡ at + length (name_bytes names.now c)) × (out.new ≡ put out.old at (name_bytes names.now c)) }
 {
     let start = c.start;
     let end = start + c.size;
@@ -276,8 +276,8 @@ fn name_at(out: &mut [u8], at: usize, c: Column, names: &[u8]) -> usize
 
 // The state after a table with so many columns was opened.
 fn opened(st: State, position: usize, n: usize) -> State
-    requires { (4 ≤ position) × (st.count < mostItems) }
-    ensures { result ≡ openedAt st position n }
+    requires { (4 ≤ position) × (st.count < most_items) }
+    ensures { result ≡ opened_at st position n }
 {
     State {
         stage: Stage::Table,

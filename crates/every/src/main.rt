@@ -1,8 +1,8 @@
 // One message of each kind, with every wire type, is written step by step, read back, compared and listed.
 // What must be printed is made by the second encoder and the second reader alone: tests/second/every.py.
 ghost use Rattle.std.specs.Prelude.{◌<◌};
-ghost use Rattle.columns.specs.Entries.{columnsOf};
-ghost use Rattle.steps.specs.Steps.{openTable};
+ghost use Rattle.columns.specs.Entries.{columns_of};
+ghost use Rattle.steps.specs.Steps.{open_table};
 ghost use Rattle.write.specs.Shown.{Opened};
 
 use columns::Column;
@@ -436,7 +436,7 @@ fn open_lent(
     cols: [Column; COLUMNS],
     names: &[u8],
 ) -> Outcome
-    ensures { Opened (openTable status (columnsOf cols names.now)) st types.old out.old result types.new out.new }
+    ensures { Opened (open_table status (columns_of cols names.now)) st types.old out.old result types.new out.new }
 {
     held::open_table(out, st, types, status, &cols, names)
 }

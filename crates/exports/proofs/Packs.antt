@@ -4,15 +4,15 @@ use mathlib.Core.Path.{◌≡◌, refl, sym, ◌∙◌, ap}
 use mathlib.Core.List.{List}
 use Rattle.format.specs.declared.Refusal.{Refusal}
 use Rattle.format.specs.Result.{Res, ok, no}
-use Rattle.format.specs.Message.{Message, readMessage}
+use Rattle.format.specs.Message.{Message, read_message}
 use Rattle.message.specs.declared.Verdict.{Verdict}
-use Rattle.message.specs.Verdict.{toldVerdict, verdictOf, verdictNo}
-use Rattle.message.proofs.Accepted.{verdict-go, verdict-stop}
-use Rattle.numbers.specs.Packed.{packed, packedNo, nothing}
+use Rattle.message.specs.Verdict.{told_verdict, verdict_of, verdict_no}
+use Rattle.message.proofs.Accepted.{verdict_go, verdict_stop}
+use Rattle.numbers.specs.Packed.{packed, packed_no, nothing}
 
-module _ (kind : ℕ) (m : List ℕ) {a : Verdict} (e : toldVerdict a ≡ verdictOf (readMessage kind m)) where
-  pub packs-fine : a ≡ Verdict.Fine → ◌≡◌ {A = ℕ} 0 (packed nothing (readMessage kind m))
-  packs-fine told = ap (packed nothing) (sym (verdict-go (readMessage kind m) e told).1)
+module _ (kind : ℕ) (m : List ℕ) {a : Verdict} (e : told_verdict a ≡ verdict_of (read_message kind m)) where
+  pub packs_fine : a ≡ Verdict.Fine → ◌≡◌ {A = ℕ} 0 (packed nothing (read_message kind m))
+  packs_fine told = ap (packed nothing) (sym (verdict_go (read_message kind m) e told).1)
 
-  pub packs-refusal : {given : Refusal} → a ≡ Verdict.No given → packedNo given.fault given.place ≡ packed nothing (readMessage kind m)
-  packs-refusal told = ap (packed nothing) (sym (verdict-stop (readMessage kind m) e told (sym (ap verdictNo told))))
+  pub packs_refusal : {given : Refusal} → a ≡ Verdict.No given → packed_no given.fault given.place ≡ packed nothing (read_message kind m)
+  packs_refusal told = ap (packed nothing) (sym (verdict_stop (read_message kind m) e told (sym (ap verdict_no told))))

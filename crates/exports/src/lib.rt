@@ -3,25 +3,25 @@
 // Each function answers one number: what was found, or the refusal's number and place (numbers/specs/Packed.antt).
 ghost use Rattle.std.specs.Prelude.{true, ◌≡◌, length};
 ghost use Rattle.format.specs.Result.{ok, bind};
-ghost use Rattle.format.specs.Message.{readMessage, kindLayout};
+ghost use Rattle.format.specs.Message.{read_message, kind_layout};
 ghost use Rattle.tour.specs.Tour.{fields_of};
-ghost use Rattle.fields.specs.Questions.{ownerOf, windowCount, windowOut};
-ghost use Rattle.query.specs.Answers.{ofTable, layout_of, columnOf, firstNamed};
+ghost use Rattle.fields.specs.Questions.{owner_of, window_count, window_out};
+ghost use Rattle.query.specs.Answers.{of_table, layout_of, column_of, first_named};
 ghost use Rattle.places.specs.Places.{tables_of};
-ghost use Rattle.cards.specs.Answers.{askMade, askOpen, written};
-ghost use Rattle.cards.specs.Reasons.{askFit};
-ghost use Rattle.query.specs.Answers.{askColumnName, askCell, askCellPlace, askParameter, askElement};
-ghost use Rattle.numbers.specs.Listed.{lent, cellNumbers, givenNumbers, partNumbers, fitNumbers};
-ghost use Rattle.numbers.specs.Records.{loginRequestNumbers, loginResponseNumbers, invocationNumbers, responseNumbers};
-ghost use Rattle.record.specs.Records.{shownLoginRequest, shownLoginResponse, shownInvocation, shownResponse};
-ghost use Rattle.numbers.specs.Packed.{packed, nothing, itself, number_in, rows_of, columnsOf, type_of};
+ghost use Rattle.cards.specs.Answers.{ask_made, ask_open, written};
+ghost use Rattle.cards.specs.Reasons.{ask_fit};
+ghost use Rattle.query.specs.Answers.{ask_column_name, ask_cell, ask_cell_place, ask_parameter, ask_element};
+ghost use Rattle.numbers.specs.Listed.{lent, cell_numbers, given_numbers, part_numbers, fit_numbers};
+ghost use Rattle.numbers.specs.Records.{login_request_numbers, login_response_numbers, invocation_numbers, response_numbers};
+ghost use Rattle.record.specs.Records.{shown_login_request, shown_login_response, shown_invocation, shown_response};
+ghost use Rattle.numbers.specs.Packed.{packed, nothing, itself, number_in, rows_of, columns_of, type_of};
 
 use message::Verdict;
 
 // Whether a message of a kind is accepted.
 #[unsafe(no_mangle)]
 pub extern "C" fn chaloenpik_accept(kind: u8, m: &[u8]) -> u64
-    ensures { result ≡ packed nothing (readMessage (kindLayout kind) m.now) }
+    ensures { result ≡ packed nothing (read_message (kind_layout kind) m.now) }
 {
     let verdict = message::accept(kind, m);
     let Verdict::No(refusal) = verdict else {
@@ -33,7 +33,7 @@ pub extern "C" fn chaloenpik_accept(kind: u8, m: &[u8]) -> u64
 // How many fields a message of a kind has.
 #[unsafe(no_mangle)]
 pub extern "C" fn chaloenpik_field_count(kind: u8, m: &[u8]) -> u64
-    ensures { result ≡ packed itself (bind (fields_of (kindLayout kind) m.now) (λ es. ok (length es))) }
+    ensures { result ≡ packed itself (bind (fields_of (kind_layout kind) m.now) (λ es. ok (length es))) }
 {
     numbers::pack_answer(fields::count(kind, m))
 }
@@ -41,7 +41,7 @@ pub extern "C" fn chaloenpik_field_count(kind: u8, m: &[u8]) -> u64
 // The entries of the field list from number `first` on, six numbers for each, as many as fit a lent list.
 #[unsafe(no_mangle)]
 pub extern "C" fn chaloenpik_fields(kind: u8, m: &[u8], first: usize, out: &mut [u64]) -> u64
-    ensures { (result ≡ packed itself (bind (fields_of (kindLayout kind) m.now) (λ es. windowCount es first (length out.old)))) × (out.new ≡ windowOut (fields_of (kindLayout kind) m.now) first out.old) }
+    ensures { (result ≡ packed itself (bind (fields_of (kind_layout kind) m.now) (λ es. window_count es first (length out.old)))) × (out.new ≡ window_out (fields_of (kind_layout kind) m.now) first out.old) }
 {
     numbers::pack_answer(fields::window(kind, m, first, out))
 }
@@ -49,7 +49,7 @@ pub extern "C" fn chaloenpik_fields(kind: u8, m: &[u8], first: usize, out: &mut 
 // The number in the field list of the entry that owns a byte.
 #[unsafe(no_mangle)]
 pub extern "C" fn chaloenpik_owner(kind: u8, m: &[u8], offset: usize) -> u64
-    ensures { result ≡ packed number_in (bind (fields_of (kindLayout kind) m.now) (λ es. ownerOf es offset)) }
+    ensures { result ≡ packed number_in (bind (fields_of (kind_layout kind) m.now) (λ es. owner_of es offset)) }
 {
     numbers::pack_owned(fields::owner(kind, m, offset))
 }
@@ -57,7 +57,7 @@ pub extern "C" fn chaloenpik_owner(kind: u8, m: &[u8], offset: usize) -> u64
 // How many tables a response has.
 #[unsafe(no_mangle)]
 pub extern "C" fn chaloenpik_tables(m: &[u8]) -> u64
-    ensures { result ≡ packed itself (bind (readMessage 4 m.now) (λ p. ok (length (tables_of p)))) }
+    ensures { result ≡ packed itself (bind (read_message 4 m.now) (λ p. ok (length (tables_of p)))) }
 {
     numbers::pack_answer(query::tables(m))
 }
@@ -65,7 +65,7 @@ pub extern "C" fn chaloenpik_tables(m: &[u8]) -> u64
 // How many rows table t of a response has.
 #[unsafe(no_mangle)]
 pub extern "C" fn chaloenpik_rows(m: &[u8], t: usize) -> u64
-    ensures { result ≡ packed rows_of (ofTable true m.now t (λ at b. ok (layout_of at b))) }
+    ensures { result ≡ packed rows_of (of_table true m.now t (λ at b. ok (layout_of at b))) }
 {
     numbers::pack_rows(query::table(m, t))
 }
@@ -73,7 +73,7 @@ pub extern "C" fn chaloenpik_rows(m: &[u8], t: usize) -> u64
 // How many columns table t of a response has.
 #[unsafe(no_mangle)]
 pub extern "C" fn chaloenpik_columns(m: &[u8], t: usize) -> u64
-    ensures { result ≡ packed columnsOf (ofTable true m.now t (λ at b. ok (layout_of at b))) }
+    ensures { result ≡ packed columns_of (of_table true m.now t (λ at b. ok (layout_of at b))) }
 {
     numbers::pack_columns(query::table(m, t))
 }
@@ -81,7 +81,7 @@ pub extern "C" fn chaloenpik_columns(m: &[u8], t: usize) -> u64
 // The wire type of column c of table t of a response.
 #[unsafe(no_mangle)]
 pub extern "C" fn chaloenpik_column_type(m: &[u8], t: usize, c: usize) -> u64
-    ensures { result ≡ packed type_of (ofTable true m.now t (λ at b. columnOf at b c)) }
+    ensures { result ≡ packed type_of (of_table true m.now t (λ at b. column_of at b c)) }
 {
     numbers::pack_type(query::column(m, t, c))
 }
@@ -89,7 +89,7 @@ pub extern "C" fn chaloenpik_column_type(m: &[u8], t: usize, c: usize) -> u64
 // The name of column c of table t of a response: a part of the message, as two numbers (numbers/specs/Listed.antt).
 #[unsafe(no_mangle)]
 pub extern "C" fn chaloenpik_column_name(m: &[u8], t: usize, c: usize, list: &mut [u64; 2]) -> u64
-    ensures { (result ≡ packed nothing (askColumnName m.now t c)) × (list.new ≡ lent partNumbers (askColumnName m.now t c) list.old) }
+    ensures { (result ≡ packed nothing (ask_column_name m.now t c)) × (list.new ≡ lent part_numbers (ask_column_name m.now t c) list.old) }
 {
     numbers::lend_part(list, query::column_name(m, t, c))
 }
@@ -97,7 +97,7 @@ pub extern "C" fn chaloenpik_column_name(m: &[u8], t: usize, c: usize, list: &mu
 // The position of the first column of table t of a response whose name is equal.
 #[unsafe(no_mangle)]
 pub extern "C" fn chaloenpik_find_column(m: &[u8], t: usize, name: &[u8]) -> u64
-    ensures { result ≡ packed itself (ofTable true m.now t (λ at b. firstNamed name.now b.metadata.names 0)) }
+    ensures { result ≡ packed itself (of_table true m.now t (λ at b. first_named name.now b.metadata.names 0)) }
 {
     numbers::pack_answer(query::find_column(m, t, name))
 }
@@ -105,7 +105,7 @@ pub extern "C" fn chaloenpik_find_column(m: &[u8], t: usize, name: &[u8]) -> u64
 // Makes the shortcut card of the first column of a name in table t of a response, at the start of the buffer, and answers the column's position.
 #[unsafe(no_mangle)]
 pub extern "C" fn chaloenpik_make_card(m: &[u8], t: usize, name: &[u8], out: &mut [u8]) -> u64
-    ensures { (result ≡ packed itself (bind (askMade m.now t name.now (length out.old)) (λ c. ok c.position))) × (out.new ≡ written (askMade m.now t name.now (length out.old)) out.old) }
+    ensures { (result ≡ packed itself (bind (ask_made m.now t name.now (length out.old)) (λ c. ok c.position))) × (out.new ≡ written (ask_made m.now t name.now (length out.old)) out.old) }
 {
     numbers::pack_answer(cards::make_card(m, t, name, out))
 }
@@ -113,7 +113,7 @@ pub extern "C" fn chaloenpik_make_card(m: &[u8], t: usize, name: &[u8], out: &mu
 // The position of the column of table t of a response that a card stands for.
 #[unsafe(no_mangle)]
 pub extern "C" fn chaloenpik_open_card(m: &[u8], t: usize, card: &[u8]) -> u64
-    ensures { result ≡ packed itself (askOpen m.now t card.now) }
+    ensures { result ≡ packed itself (ask_open m.now t card.now) }
 {
     numbers::pack_answer(cards::open_card(m, t, card))
 }
@@ -121,7 +121,7 @@ pub extern "C" fn chaloenpik_open_card(m: &[u8], t: usize, card: &[u8]) -> u64
 // Whether a card fits table t of a response, and if not why, and where a column of its type and name stands: three numbers (numbers/specs/Listed.antt).
 #[unsafe(no_mangle)]
 pub extern "C" fn chaloenpik_card_fit(m: &[u8], t: usize, card: &[u8], list: &mut [u64; 3]) -> u64
-    ensures { (result ≡ packed nothing (askFit m.now t card.now)) × (list.new ≡ lent fitNumbers (askFit m.now t card.now) list.old) }
+    ensures { (result ≡ packed nothing (ask_fit m.now t card.now)) × (list.new ≡ lent fit_numbers (ask_fit m.now t card.now) list.old) }
 {
     numbers::lend_fit(list, cards::card_fit(m, t, card))
 }
@@ -135,7 +135,7 @@ pub extern "C" fn chaloenpik_cell(
     c: usize,
     list: &mut [u64; 4],
 ) -> u64
-    ensures { (result ≡ packed nothing (askCell m.now t row c)) × (list.new ≡ lent cellNumbers (askCell m.now t row c) list.old) }
+    ensures { (result ≡ packed nothing (ask_cell m.now t row c)) × (list.new ≡ lent cell_numbers (ask_cell m.now t row c) list.old) }
 {
     numbers::lend_cell(list, query::cell(m, t, row, c))
 }
@@ -149,7 +149,7 @@ pub extern "C" fn chaloenpik_cell_place(
     c: usize,
     list: &mut [u64; 2],
 ) -> u64
-    ensures { (result ≡ packed nothing (askCellPlace m.now t row c)) × (list.new ≡ lent partNumbers (askCellPlace m.now t row c) list.old) }
+    ensures { (result ≡ packed nothing (ask_cell_place m.now t row c)) × (list.new ≡ lent part_numbers (ask_cell_place m.now t row c) list.old) }
 {
     numbers::lend_part(list, query::cell_place(m, t, row, c))
 }
@@ -157,7 +157,7 @@ pub extern "C" fn chaloenpik_cell_place(
 // Parameter p of an invocation, as four numbers.
 #[unsafe(no_mangle)]
 pub extern "C" fn chaloenpik_parameter(m: &[u8], p: usize, list: &mut [u64; 4]) -> u64
-    ensures { (result ≡ packed nothing (askParameter m.now p)) × (list.new ≡ lent givenNumbers (askParameter m.now p) list.old) }
+    ensures { (result ≡ packed nothing (ask_parameter m.now p)) × (list.new ≡ lent given_numbers (ask_parameter m.now p) list.old) }
 {
     numbers::lend_argument(list, query::parameter(m, p))
 }
@@ -165,7 +165,7 @@ pub extern "C" fn chaloenpik_parameter(m: &[u8], p: usize, list: &mut [u64; 4]) 
 // Element e of the array that parameter p of an invocation is, likewise.
 #[unsafe(no_mangle)]
 pub extern "C" fn chaloenpik_element(m: &[u8], p: usize, e: usize, list: &mut [u64; 4]) -> u64
-    ensures { (result ≡ packed nothing (askElement m.now p e)) × (list.new ≡ lent cellNumbers (askElement m.now p e) list.old) }
+    ensures { (result ≡ packed nothing (ask_element m.now p e)) × (list.new ≡ lent cell_numbers (ask_element m.now p e) list.old) }
 {
     numbers::lend_cell(list, query::element(m, p, e))
 }
@@ -173,7 +173,7 @@ pub extern "C" fn chaloenpik_element(m: &[u8], p: usize, e: usize, list: &mut [u
 // The record of a login request, as nine numbers (numbers/specs/Records.antt).
 #[unsafe(no_mangle)]
 pub extern "C" fn chaloenpik_login_request(m: &[u8], list: &mut [u64; 9]) -> u64
-    ensures { (result ≡ packed nothing (readMessage 1 m.now)) × (list.new ≡ lent (λ p. loginRequestNumbers (shownLoginRequest (ok p))) (readMessage 1 m.now) list.old) }
+    ensures { (result ≡ packed nothing (read_message 1 m.now)) × (list.new ≡ lent (λ p. login_request_numbers (shown_login_request (ok p))) (read_message 1 m.now) list.old) }
 {
     numbers::lend_login_request(list, record::login_request(m))
 }
@@ -181,7 +181,7 @@ pub extern "C" fn chaloenpik_login_request(m: &[u8], list: &mut [u64; 9]) -> u64
 // The record of a login response, as nine numbers.
 #[unsafe(no_mangle)]
 pub extern "C" fn chaloenpik_login_response(m: &[u8], list: &mut [u64; 9]) -> u64
-    ensures { (result ≡ packed nothing (readMessage 2 m.now)) × (list.new ≡ lent (λ p. loginResponseNumbers (shownLoginResponse (ok p))) (readMessage 2 m.now) list.old) }
+    ensures { (result ≡ packed nothing (read_message 2 m.now)) × (list.new ≡ lent (λ p. login_response_numbers (shown_login_response (ok p))) (read_message 2 m.now) list.old) }
 {
     numbers::lend_login_response(list, record::login_response(m))
 }
@@ -189,7 +189,7 @@ pub extern "C" fn chaloenpik_login_response(m: &[u8], list: &mut [u64; 9]) -> u6
 // The record of an invocation, as six numbers.
 #[unsafe(no_mangle)]
 pub extern "C" fn chaloenpik_invocation(m: &[u8], list: &mut [u64; 6]) -> u64
-    ensures { (result ≡ packed nothing (readMessage 3 m.now)) × (list.new ≡ lent (λ p. invocationNumbers (shownInvocation (ok p))) (readMessage 3 m.now) list.old) }
+    ensures { (result ≡ packed nothing (read_message 3 m.now)) × (list.new ≡ lent (λ p. invocation_numbers (shown_invocation (ok p))) (read_message 3 m.now) list.old) }
 {
     numbers::lend_invocation(list, record::invocation(m))
 }
@@ -197,7 +197,7 @@ pub extern "C" fn chaloenpik_invocation(m: &[u8], list: &mut [u64; 6]) -> u64
 // The record of a response, as seventeen numbers.
 #[unsafe(no_mangle)]
 pub extern "C" fn chaloenpik_response(m: &[u8], list: &mut [u64; 17]) -> u64
-    ensures { (result ≡ packed nothing (readMessage 4 m.now)) × (list.new ≡ lent (λ p. responseNumbers (shownResponse (ok p))) (readMessage 4 m.now) list.old) }
+    ensures { (result ≡ packed nothing (read_message 4 m.now)) × (list.new ≡ lent (λ p. response_numbers (shown_response (ok p))) (read_message 4 m.now) list.old) }
 {
     numbers::lend_response(list, record::response(m))
 }

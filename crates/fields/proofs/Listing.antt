@@ -55,41 +55,41 @@ unfolding Each
 full st top h [] = tt
 full st top h (e ∷ es) = ((λ n low. rw (le-ltb st.task.taken (length st.out / 6) h) (simp (and-false))), full st top h es)
 
-pub each-drop : (P : Entry → Type 0) (n : ℕ) (es : List Entry) → Each P es → Each P (drop n es)
+pub each_drop : (P : Entry → Type 0) (n : ℕ) (es : List Entry) → Each P es → Each P (drop n es)
 unfolding Each
-each-drop P zero es w = w
-each-drop P (suc n) [] w = tt
-each-drop P (suc n) (e ∷ es) w = each-drop P n es w.1
+each_drop P zero es w = w
+each_drop P (suc n) [] w = tt
+each_drop P (suc n) (e ∷ es) w = each_drop P n es w.1
 
 -- a run of stores, and then another
-sets-both : (l : List ℕ) (p : ℕ) (bs cs : List ℕ) → sets l p (bs ++ cs) ≡ sets (sets l p bs) (p + length bs) cs
-sets-both l p [] cs = let same : p + 0 ≡ p = omega arith in rw same
-sets-both l p (b ∷ bs) cs = let same : p + suc (length bs) ≡ suc p + length bs = omega arith in rw same (sets-both _ (suc p) bs cs)
+sets_both : (l : List ℕ) (p : ℕ) (bs cs : List ℕ) → sets l p (bs ++ cs) ≡ sets (sets l p bs) (p + length bs) cs
+sets_both l p [] cs = let same : p + 0 ≡ p = omega arith in rw same
+sets_both l p (b ∷ bs) cs = let same : p + suc (length bs) ≡ suc p + length bs = omega arith in rw same (sets_both _ (suc p) bs cs)
 
 pub length-sixes : (es : List Entry) → length (sixes es) ≡ 6 * length es
 unfolding sixes
 length-sixes [] = refl
 length-sixes (e ∷ es) = let more = length-sixes es in omega arith
 
-visited-cons : (st : State) (e : Entry) (es : List Entry) → visited st (e ∷ es) ≡ visited (acted st e) es
+visited_cons : (st : State) (e : Entry) (es : List Entry) → visited st (e ∷ es) ≡ visited (acted st e) es
 unfolding visited
-visited-cons st e es = refl
+visited_cons st e es = refl
 
-sixes-cons : (e : Entry) (es : List Entry) → sixes (e ∷ es) ≡ six e ++ sixes es
+sixes_cons : (e : Entry) (es : List Entry) → sixes (e ∷ es) ≡ six e ++ sixes es
 unfolding sixes
-sixes-cons e es = refl
+sixes_cons e es = refl
 
 -- the same, with an entry more that is written
-abbrev pub taken-one : State → Entry → State
-taken-one st e =
+abbrev pub taken_one : State → Entry → State
+taken_one st e =
     let t = st.task in
     doing (record { first = t.first; offset = t.offset; seen = t.seen + 1; taken = t.taken + 1; last = t.seen }) (sets st.out (6 * t.taken) (six e))
 
 -- an entry that is written
-pub step-take : (st : State) (e : Entry) → st.task.seen + 1 < 2 ^ 64 → wanted st.task (e.at + e.size) (length st.out) ≡ true
-    → acted st e ≡ taken-one st e
+pub step_take : (st : State) (e : Entry) → st.task.seen + 1 < 2 ^ 64 → wanted st.task (e.at + e.size) (length st.out) ≡ true
+    → acted st e ≡ taken_one st e
 unfolding acted
-step-take st e h is = rw (is, one_more st.task.seen h)
+step_take st e h is = rw (is, one_more st.task.seen h)
 
 -- entries that are written while they fit
 pub record Filled (st : State) (es : List Entry) (after : State) : Type 0 where
@@ -102,14 +102,14 @@ Asked st e = st.task.offset < e.at + e.size
 
 module _ (st : State) (e : Entry) (es : List Entry) (reached : st.task.first ≤ st.task.seen) (small : st.task.seen + suc (length es) < 2 ^ 64) where
   abbrev next : State
-  next = taken-one st e
+  next = taken_one st e
 
   fill_one : st.task.offset < e.at + e.size → st.task.taken < length st.out / 6 → Filled next es (visited next es) → Filled st (e ∷ es) (visited st (e ∷ es))
   fill_one asked room w =
       let is : wanted st.task (e.at + e.size) (length st.out) ≡ true =
       simp (le-leb _ _ reached, lt-ltb _ _ asked, lt-ltb _ _ room) in
-      let same : acted st e ≡ next = step-take st e (omega arith) is in
-      let whole : visited st (e ∷ es) ≡ visited next es = visited-cons st e es ∙ ap (λ (x : State). visited x es) same in
+      let same : acted st e ≡ next = step_take st e (omega arith) is in
+      let whole : visited st (e ∷ es) ≡ visited next es = visited_cons st e es ∙ ap (λ (x : State). visited x es) same in
       let size : length next.out ≡ length st.out = length-sets st.out (6 * st.task.taken) (six e) in
       let left : length st.out / 6 - st.task.taken ≡ suc (length st.out / 6 - (st.task.taken + 1)) = omega arith in
       let place : 6 * (st.task.taken + 1) ≡ 6 * st.task.taken + 6 = omega arith in
@@ -119,7 +119,7 @@ module _ (st : State) (e : Entry) (es : List Entry) (reached : st.task.first ≤
       record {
         seen = rw whole (w₁ ∙ omega arith);
         taken = rw (whole, left) (w₂ ∙ omega arith);
-        out = rw (whole, left, sixes-cons) (w₃ ∙ sym (sets-both st.out (6 * st.task.taken) (six e) (sixes (take (length st.out / 6 - (st.task.taken + 1)) es))));
+        out = rw (whole, left, sixes_cons) (w₃ ∙ sym (sets_both st.out (6 * st.task.taken) (six e) (sixes (take (length st.out / 6 - (st.task.taken + 1)) es))));
       }
 
   fill_none : length st.out / 6 ≤ st.task.taken → Filled st (e ∷ es) (visited st (e ∷ es))
@@ -132,9 +132,9 @@ module _ (st : State) (e : Entry) (es : List Entry) (reached : st.task.first ≤
 pub fills : (es : List Entry) (st : State) → st.task.first ≤ st.task.seen → Each (Asked st) es → st.task.seen + length es < 2 ^ 64 → Filled st es (visited st es)
 unfolding visited Each Asked sixes
 fills [] st reached asked small = record { seen = omega arith; taken = simp take-nil (omega arith); out = simp take-nil }
-fills (e ∷ es) st reached asked small = by-room (λ size. fills es (next st e es reached small) (omega arith) asked.1 (omega arith)) (dec_lt st.task.taken (length st.out / 6))
+fills (e ∷ es) st reached asked small = by_room (λ size. fills es (next st e es reached small) (omega arith) asked.1 (omega arith)) (dec_lt st.task.taken (length st.out / 6))
   where
-    by-room : (length (sets st.out (6 * st.task.taken) (six e)) ≡ length st.out → Filled (next st e es reached small) es (visited (next st e es reached small) es))
+    by_room : (length (sets st.out (6 * st.task.taken) (six e)) ≡ length st.out → Filled (next st e es reached small) es (visited (next st e es reached small) es))
         → Dec (st.task.taken < length st.out / 6) → Filled st (e ∷ es) (visited st (e ∷ es))
-    by-room more (yes room) = fill_one st e es reached small asked.0 room (more (length-sets st.out (6 * st.task.taken) (six e)))
-    by-room more (no room) = fill_none st e es reached small (omega arith)
+    by_room more (yes room) = fill_one st e es reached small asked.0 room (more (length-sets st.out (6 * st.task.taken) (six e)))
+    by_room more (no room) = fill_none st e es reached small (omega arith)

@@ -6,14 +6,14 @@ use Rattle.format.specs.Format.{Entry}
 use Rattle.tally.specs.declared.Task.{Task}
 use Rattle.fields.specs.Questions.{entry_at}
 
-abbrev pub countMet : Res Task → Res ℕ
-countMet told = bind told (λ t. ok t.seen)
+abbrev pub count_met : Res Task → Res ℕ
+count_met told = bind told (λ t. ok t.seen)
 
-abbrev pub fieldMet : Res Task → ℕ → List ℕ → Res Entry
-fieldMet told n numbers = bind told (λ t. pick (leb t.seen n) (no PastEnd 0) (ok (entry_at numbers)))
+abbrev pub field_met : Res Task → ℕ → List ℕ → Res Entry
+field_met told n numbers = bind told (λ t. pick (leb t.seen n) (no PastEnd 0) (ok (entry_at numbers)))
 
-abbrev pub ownerMet : Res Task → List ℕ → Res (Entry × ℕ)
-ownerMet told numbers = bind told (λ t. pick (eqb t.taken 0) (no PastEnd 0) (ok (entry_at numbers, t.last)))
+abbrev pub owner_met : Res Task → List ℕ → Res (Entry × ℕ)
+owner_met told numbers = bind told (λ t. pick (eqb t.taken 0) (no PastEnd 0) (ok (entry_at numbers, t.last)))
 
-abbrev pub windowMet : Res Task → ℕ → Res ℕ
-windowMet told first = bind told (λ t. pick (leb t.seen first) (no PastEnd 0) (ok t.taken))
+abbrev pub window_met : Res Task → ℕ → Res ℕ
+window_met told first = bind told (λ t. pick (leb t.seen first) (no PastEnd 0) (ok t.taken))

@@ -12,19 +12,19 @@ nth (e ∷ es) zero = ok e
 nth (e ∷ es) (suc n) = nth es n
 
 -- the entry that a byte stands in, and its number; the first entry has the number n
-unfoldable pub ownerFrom : ℕ → List Entry → ℕ → Res (Entry × ℕ)
-ownerFrom n [] offset = no PastEnd 0
-ownerFrom n (e ∷ es) offset = pick (leb e.at offset && ltb offset (e.at + e.size)) (ok (e, n)) (ownerFrom (n + 1) es offset)
+unfoldable pub owner_from : ℕ → List Entry → ℕ → Res (Entry × ℕ)
+owner_from n [] offset = no PastEnd 0
+owner_from n (e ∷ es) offset = pick (leb e.at offset && ltb offset (e.at + e.size)) (ok (e, n)) (owner_from (n + 1) es offset)
 
-abbrev pub ownerOf : List Entry → ℕ → Res (Entry × ℕ)
-ownerOf es offset = ownerFrom 0 es offset
+abbrev pub owner_of : List Entry → ℕ → Res (Entry × ℕ)
+owner_of es offset = owner_from 0 es offset
 
 -- the entries from the first-th on, as many as have room in so many numbers
-abbrev pub windowOf : List Entry → ℕ → ℕ → List Entry
-windowOf es first room = take (room / 6) (drop first es)
+abbrev pub window_of : List Entry → ℕ → ℕ → List Entry
+window_of es first room = take (room / 6) (drop first es)
 
-abbrev pub windowCount : List Entry → ℕ → ℕ → Res ℕ
-windowCount es first room = pick (ltb first (length es)) (ok (length (windowOf es first room))) (no PastEnd 0)
+abbrev pub window_count : List Entry → ℕ → ℕ → Res ℕ
+window_count es first room = pick (ltb first (length es)) (ok (length (window_of es first room))) (no PastEnd 0)
 
 -- the numbers of some entries, six for each
 unfoldable pub sixes : List Entry → List ℕ
@@ -35,9 +35,9 @@ sixes (e ∷ es) = six e ++ sixes es
 abbrev pub over : List ℕ → List ℕ → List ℕ
 over new old = new ++ drop (length new) old
 
-abbrev pub windowOut : Res (List Entry) → ℕ → List ℕ → List ℕ
-windowOut (ok es) first out = over (sixes (windowOf es first (length out))) out
-windowOut (no f p) first out = out
+abbrev pub window_out : Res (List Entry) → ℕ → List ℕ → List ℕ
+window_out (ok es) first out = over (sixes (window_of es first (length out))) out
+window_out (no f p) first out = out
 
 -- the entry that six numbers are
 abbrev pub entry_at : List ℕ → Entry

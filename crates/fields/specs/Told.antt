@@ -6,13 +6,13 @@ use Rattle.fields.specs.declared.Entry.{Entry}
 use Rattle.fields.specs.declared.Listed.{Listed}
 use Rattle.fields.specs.declared.Owned.{Owned}
 
-abbrev pub toldEntry : Entry → format.Entry
-toldEntry e = record { at = e.offset; size = e.size; field = e.field; index = record { i = e.i; j = e.j; k = e.k } }
+abbrev pub told_entry : Entry → format.Entry
+told_entry e = record { at = e.offset; size = e.size; field = e.field; index = record { i = e.i; j = e.j; k = e.k } }
 
-abbrev pub toldListed : Listed → Res format.Entry
-toldListed (Listed.Is e) = ok (toldEntry e)
-toldListed (Listed.No r) = no r.fault r.place
+abbrev pub told_listed : Listed → Res format.Entry
+told_listed (Listed.Is e) = ok (told_entry e)
+told_listed (Listed.No r) = no r.fault r.place
 
-abbrev pub toldOwned : Owned → Res (format.Entry × ℕ)
-toldOwned (Owned.By e n) = ok (toldEntry e, n)
-toldOwned (Owned.No r) = no r.fault r.place
+abbrev pub told_owned : Owned → Res (format.Entry × ℕ)
+told_owned (Owned.By e n) = ok (told_entry e, n)
+told_owned (Owned.No r) = no r.fault r.place

@@ -1,13 +1,13 @@
 // The field list of a message: how many fields it has, the n-th, the owner of a byte, and windows of the list.
 ghost use Rattle.std.specs.Prelude.{◌≡◌, length};
 ghost use Rattle.format.specs.declared.Fault.TheVariants.{PastEnd};
-ghost use Rattle.format.specs.Result.{ok, bind, toldAnswer};
-ghost use Rattle.format.specs.Message.{kindLayout};
+ghost use Rattle.format.specs.Result.{ok, bind, told_answer};
+ghost use Rattle.format.specs.Message.{kind_layout};
 ghost use Rattle.tour.specs.Tour.{fields_of};
-ghost use Rattle.tour.specs.Told.{toldToured};
-ghost use Rattle.fields.specs.Questions.{nth, ownerOf, windowCount, windowOut, entry_at};
-ghost use Rattle.fields.specs.Met.{countMet, fieldMet, ownerMet, windowMet};
-ghost use Rattle.fields.specs.Told.{toldEntry, toldListed, toldOwned};
+ghost use Rattle.tour.specs.Told.{told_toured};
+ghost use Rattle.fields.specs.Questions.{nth, owner_of, window_count, window_out, entry_at};
+ghost use Rattle.fields.specs.Met.{count_met, field_met, owner_met, window_met};
+ghost use Rattle.fields.specs.Told.{told_entry, told_listed, told_owned};
 
 use format::{Answer, Fault, Refusal};
 use tour::Toured;
@@ -39,7 +39,7 @@ pub enum Owned {
 
 // How many fields a message of a kind has.
 pub fn count(kind: u8, m: &[u8]) -> Answer
-    ensures { toldAnswer result ≡ bind (fields_of (kindLayout kind) m.now) (λ es. ok (length es)) }
+    ensures { told_answer result ≡ bind (fields_of (kind_layout kind) m.now) (λ es. ok (length es)) }
 {
     let layout = format::kind_layout(kind);
     let mut six: [u64; 6] = [0; 6];
@@ -50,7 +50,7 @@ pub fn count(kind: u8, m: &[u8]) -> Answer
 
 // The entry of a number in the list, from 0 on.
 pub fn field(kind: u8, m: &[u8], n: usize) -> Listed
-    ensures { toldListed result ≡ bind (fields_of (kindLayout kind) m.now) (λ es. nth es n) }
+    ensures { told_listed result ≡ bind (fields_of (kind_layout kind) m.now) (λ es. nth es n) }
 {
     let layout = format::kind_layout(kind);
     let mut six: [u64; 6] = [0; 6];
@@ -61,7 +61,7 @@ pub fn field(kind: u8, m: &[u8], n: usize) -> Listed
 
 // The entry that owns a byte, and its number in the list.
 pub fn owner(kind: u8, m: &[u8], offset: usize) -> Owned
-    ensures { toldOwned result ≡ bind (fields_of (kindLayout kind) m.now) (λ es. ownerOf es offset) }
+    ensures { told_owned result ≡ bind (fields_of (kind_layout kind) m.now) (λ es. owner_of es offset) }
 {
     let layout = format::kind_layout(kind);
     let mut six: [u64; 6] = [0; 6];
@@ -72,7 +72,7 @@ pub fn owner(kind: u8, m: &[u8], offset: usize) -> Owned
 
 // The entries from a number on, six numbers for each, as many whole entries as fit a lent list; how many were written.
 pub fn window(kind: u8, m: &[u8], first: usize, out: &mut [u64]) -> Answer
-    ensures { (toldAnswer result ≡ bind (fields_of (kindLayout kind) m.now) (λ es. windowCount es first (length out.old))) × (out.new ≡ windowOut (fields_of (kindLayout kind) m.now) first out.old) }
+    ensures { (told_answer result ≡ bind (fields_of (kind_layout kind) m.now) (λ es. window_count es first (length out.old))) × (out.new ≡ window_out (fields_of (kind_layout kind) m.now) first out.old) }
 {
     let layout = format::kind_layout(kind);
     let asked = tour::list_task(first, 0);
@@ -82,7 +82,7 @@ pub fn window(kind: u8, m: &[u8], first: usize, out: &mut [u64]) -> Answer
 
 // How many fields a tour met. Here and below, the tour may have gone over any list of fields.
 pub fn count_met(toured: Toured) -> Answer
-    ensures { toldAnswer result ≡ countMet (toldToured toured) }
+    ensures { told_answer result ≡ count_met (told_toured toured) }
 {
     let Toured::Done(task) = toured else {
         return Answer::No(tour::toured_refusal(toured));
@@ -92,7 +92,7 @@ pub fn count_met(toured: Toured) -> Answer
 
 // The n-th field that a tour met, where it listed that one in six numbers.
 pub fn field_met(toured: Toured, n: usize, six: &[u64; 6]) -> Listed
-    ensures { toldListed result ≡ fieldMet (toldToured toured) n six.now }
+    ensures { told_listed result ≡ field_met (told_toured toured) n six.now }
 {
     let Toured::Done(task) = toured else {
         return Listed::No(tour::toured_refusal(toured));
@@ -105,7 +105,7 @@ pub fn field_met(toured: Toured, n: usize, six: &[u64; 6]) -> Listed
 
 // The first field that ended past a byte, where a tour listed that one in six numbers.
 pub fn owner_met(toured: Toured, six: &[u64; 6]) -> Owned
-    ensures { toldOwned result ≡ ownerMet (toldToured toured) six.now }
+    ensures { told_owned result ≡ owner_met (told_toured toured) six.now }
 {
     let Toured::Done(task) = toured else {
         return Owned::No(tour::toured_refusal(toured));
@@ -119,7 +119,7 @@ pub fn owner_met(toured: Toured, six: &[u64; 6]) -> Owned
 
 // How many fields a tour listed, from the first-th on.
 pub fn window_met(toured: Toured, first: usize) -> Answer
-    ensures { toldAnswer result ≡ windowMet (toldToured toured) first }
+    ensures { told_answer result ≡ window_met (told_toured toured) first }
 {
     let Toured::Done(task) = toured else {
         return Answer::No(tour::toured_refusal(toured));
@@ -141,7 +141,7 @@ fn past_end() -> Refusal
 
 // The entry that six numbers are.
 fn entry_of(six: &[u64; 6]) -> Entry
-    ensures { toldEntry result ≡ entry_at six.now }
+    ensures { told_entry result ≡ entry_at six.now }
 {
     Entry {
         offset: six[0] as usize,

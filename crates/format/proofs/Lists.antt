@@ -12,12 +12,12 @@ module _ {A : Type 0} (P : A → Type 0) where
   All [] = Unit
   All (a ∷ l) = P a × All l
 
-  all-reverseAux : (l r : List A) → All l → All r → All (reverse_aux l r)
-  all-reverseAux [] r p q = q
-  all-reverseAux (a ∷ l) r p q = all-reverseAux l (a ∷ r) p.1 (p.0, q)
+  all_reverse_aux : (l r : List A) → All l → All r → All (reverse_aux l r)
+  all_reverse_aux [] r p q = q
+  all_reverse_aux (a ∷ l) r p q = all_reverse_aux l (a ∷ r) p.1 (p.0, q)
 
-  pub all-reverse : (l : List A) → All l → All (reverse l)
-  all-reverse l p = all-reverseAux l [] p tt
+  pub all_reverse : (l : List A) → All l → All (reverse l)
+  all_reverse l p = all_reverse_aux l [] p tt
 
   pub all_map : (f : A → A) → ((a : A) → P a → P (f a)) → (l : List A) → All l → All (map f l)
   all_map f h [] p = tt
@@ -37,5 +37,5 @@ module _ {A : Type 0} (at-index : ℕ → Index → Index) (f : Format A) where
   all→each k (suc n) [] h p = absurd (omega arith)
   all→each k (suc n) (a ∷ l) h p = (p.0, all→each (k + 1) n l (omega arith) p.1)
 
-  pub each-length : (k n : ℕ) (l : List A) → (each at-index k (replicate n f)).Good l → length l ≡ n
-  each-length k n l g = length-each at-index k (replicate n f) l g ∙ length-replicate n f
+  pub each_length : (k n : ℕ) (l : List A) → (each at-index k (replicate n f)).Good l → length l ≡ n
+  each_length k n l g = length-each at-index k (replicate n f) l g ∙ length-replicate n f

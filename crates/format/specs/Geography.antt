@@ -6,17 +6,17 @@ use Rattle.format.specs.declared.Fault.TheVariants.{Negative, Extra, Geography}
 use Rattle.format.specs.Result.{Res, ok, no, bind, pick}
 use Rattle.format.specs.Number.{half}
 use Rattle.format.specs.Format.{Format, Entry, number, block, ruled, into, both, each}
-use Rattle.format.specs.Message.{first, second, third, noIndex}
+use Rattle.format.specs.Message.{first, second, third, no_index}
 
 -- the bytes that are kept as they came, after a ring's vertices and after the last ring; and the fewest vertices of a ring
-abbrev pub ringKept : ℕ
-ringKept = 38
+abbrev pub ring_kept : ℕ
+ring_kept = 38
 
-abbrev pub bodyKept : ℕ
-bodyKept = 33
+abbrev pub body_kept : ℕ
+body_kept = 33
 
-abbrev pub fewestVertices : ℕ
-fewestVertices = 3
+abbrev pub fewest_vertices : ℕ
+fewest_vertices = 3
 
 -- a vertex: its x, y and z, any floats
 abbrev pub Vertex : Type 0
@@ -44,55 +44,55 @@ at_least few field = ruled (λ n. leb few n) Geography (ruled (λ n. ltb n (half
 unfoldable pub ring : Format Ring
 ring =
     into (λ v. record { mark = v.0; vertices = v.1.1.0; kept = v.1.1.1 }) (λ r. (r.mark, (length r.vertices, (r.vertices, r.kept))))
-    (both (number 1 64) (λ m. both (at_least fewestVertices 65) (λ n. both (each second 0 (replicate n vertex)) (λ vs. block ringKept 67))))
+    (both (number 1 64) (λ m. both (at_least fewest_vertices 65) (λ n. both (each second 0 (replicate n vertex)) (λ vs. block ring_kept 67))))
 
 -- what the third byte says of so many rings: 1 exactly if there is more than one
-abbrev pub holesOf : ℕ → ℕ
-holesOf rings = pick (leb 2 rings) 1 0
+abbrev pub holes_of : ℕ → ℕ
+holes_of rings = pick (leb 2 rings) 1 0
 
 -- the third byte and the ring count. The byte is held against the count once that has passed its own tests, and refused at its own place, where this begins
 abbrev pub ringed : Format (ℕ × ℕ)
-ringed = ruled (λ p. eqb p.0 (holesOf p.1)) Geography (both (ruled (λ h. leb h 1) Geography (number 1 62)) (λ h. at_least 1 63))
+ringed = ruled (λ p. eqb p.0 (holes_of p.1)) Geography (both (ruled (λ h. leb h 1) Geography (number 1 62)) (λ h. at_least 1 63))
 
 unfoldable pub polygon : Format Polygon
 polygon =
     into (λ v. record { edition = v.0; internal = v.1.0; holes = v.1.1.0.0; rings = v.1.1.1.0; kept = v.1.1.1.1 })
     (λ p. (p.edition, (p.internal, ((p.holes, length p.rings), (p.rings, p.kept)))))
-    (both (number 1 60) (λ e. both (number 1 61) (λ i. both ringed (λ h. both (each first 0 (replicate h.1 ring)) (λ rs. block bodyKept 68)))))
+    (both (number 1 60) (λ e. both (number 1 61) (λ i. both ringed (λ h. both (each first 0 (replicate h.1 ring)) (λ rs. block body_kept 68)))))
 
 module _ {A : Type 0} where
   -- a whole list, read by a format: what is left over is refused at its first byte
-  abbrev pub toEnd : List ℕ → A × ℕ → Res A
-  toEnd s q = pick (eqb q.1 (length s)) (ok q.0) (no Extra q.1)
+  abbrev pub to_end : List ℕ → A × ℕ → Res A
+  to_end s q = pick (eqb q.1 (length s)) (ok q.0) (no Extra q.1)
 
-  abbrev pub readWhole : Format A → List ℕ → Res A
-  readWhole f s = bind (f.read s 0) (toEnd s)
+  abbrev pub read_whole : Format A → List ℕ → Res A
+  read_whole f s = bind (f.read s 0) (to_end s)
 
-abbrev pub readPolygon : List ℕ → Res Polygon
-readPolygon = readWhole polygon
+abbrev pub read_polygon : List ℕ → Res Polygon
+read_polygon = read_whole polygon
 
-abbrev pub polygonFields : Polygon → List Entry
-polygonFields p = polygon.fields noIndex 0 p
+abbrev pub polygon_fields : Polygon → List Entry
+polygon_fields p = polygon.fields no_index 0 p
 
 -- the fields inside a body, at their places in it
-abbrev pub fieldsInside : List ℕ → Res (List Entry)
-fieldsInside b = bind (readPolygon b) (λ p. ok (polygonFields p))
+abbrev pub fields_inside : List ℕ → Res (List Entry)
+fields_inside b = bind (read_polygon b) (λ p. ok (polygon_fields p))
 
 -- the other sense: each ring after the first goes round the other way, from the same first vertex
-abbrev pub afterFirst : {A : Type 0} → (List A → List A) → List A → List A
-afterFirst f [] = []
-afterFirst f (a ∷ l) = a ∷ f l
+abbrev pub after_first : {A : Type 0} → (List A → List A) → List A → List A
+after_first f [] = []
+after_first f (a ∷ l) = a ∷ f l
 
-abbrev pub turnedRing : Ring → Ring
-turnedRing r = record { mark = r.mark; vertices = afterFirst reverse r.vertices; kept = r.kept }
+abbrev pub turned_ring : Ring → Ring
+turned_ring r = record { mark = r.mark; vertices = after_first reverse r.vertices; kept = r.kept }
 
 abbrev pub turned : Polygon → Polygon
-turned p = record { edition = p.edition; internal = p.internal; holes = p.holes; rings = afterFirst (map turnedRing) p.rings; kept = p.kept }
+turned p = record { edition = p.edition; internal = p.internal; holes = p.holes; rings = after_first (map turned_ring) p.rings; kept = p.kept }
 
 -- what is made of a body; one that isn't accepted stays as it is
-abbrev pub turnedOr : List ℕ → Res Polygon → List ℕ
-turnedOr b (ok p) = polygon.bytes (turned p)
-turnedOr b (no f k) = b
+abbrev pub turned_or : List ℕ → Res Polygon → List ℕ
+turned_or b (ok p) = polygon.bytes (turned p)
+turned_or b (no f k) = b
 
-abbrev pub turnedBody : List ℕ → List ℕ
-turnedBody b = turnedOr b (readPolygon b)
+abbrev pub turned_body : List ℕ → List ℕ
+turned_body b = turned_or b (read_polygon b)

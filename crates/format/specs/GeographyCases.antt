@@ -4,9 +4,9 @@ use Rattle.std.specs.Prelude.{ℕ, ◌≡◌, refl, List, [], ◌∷◌, ◌++�
 use Rattle.format.specs.declared.Fault.{Fault}
 use Rattle.format.specs.declared.Fault.TheVariants.{Short, Negative, Extra, Geography}
 use Rattle.format.specs.Result.{Res, ok, no}
-use Rattle.format.specs.Number.{num_at, numBytes}
+use Rattle.format.specs.Number.{num_at, num_bytes}
 use Rattle.format.specs.Format.{Entry, number, block, nothing, ruled, into, both, each}
-use Rattle.format.specs.Geography.{Ring, Polygon, vertex, ring, polygon, readPolygon, polygonFields, turned}
+use Rattle.format.specs.Geography.{Ring, Polygon, vertex, ring, polygon, read_polygon, polygon_fields, turned}
 
 -- a ring of so many vertices
 abbrev rounds : ℕ → ℕ → List ℕ
@@ -22,7 +22,7 @@ pub data Outcome : Type 0 where
   refused : Fault → ℕ → Outcome
 
 abbrev pub outcome : Res Polygon → Outcome
-outcome (ok p) = let es = polygonFields p in accepted (map (λ (e : Entry). e.at) es) (map (λ (e : Entry). e.size) es) (map (λ (e : Entry). e.field) es)
+outcome (ok p) = let es = polygon_fields p in accepted (map (λ (e : Entry). e.at) es) (map (λ (e : Entry). e.size) es) (map (λ (e : Entry). e.field) es)
 outcome (no f k) = refused f k
 
 abbrev places : List ℕ
@@ -34,12 +34,12 @@ sizes = 1 ∷ 1 ∷ 1 ∷ 4 ∷ 1 ∷ 4 ∷ 8 ∷ 8 ∷ 8 ∷ 8 ∷ 8 ∷ 8 ∷ 
 abbrev fields : List ℕ
 fields = 60 ∷ 61 ∷ 62 ∷ 63 ∷ 64 ∷ 65 ∷ 66 ∷ 66 ∷ 66 ∷ 66 ∷ 66 ∷ 66 ∷ 66 ∷ 66 ∷ 66 ∷ 66 ∷ 66 ∷ 66 ∷ 67 ∷ 64 ∷ 65 ∷ 66 ∷ 66 ∷ 66 ∷ 66 ∷ 66 ∷ 66 ∷ 66 ∷ 66 ∷ 66 ∷ 66 ∷ 66 ∷ 66 ∷ 67 ∷ 68 ∷ []
 
-pub polygons-right : map (λ bs. outcome (readPolygon bs))
+pub polygons_right : map (λ bs. outcome (read_polygon bs))
     (body 1 0 2 4 ∷ body 2 0 2 4 ∷ body 0 0 2 4 ∷ body 1 0 0 4 ∷ body 0 0 0 4 ∷ body 1 128 2 4 ∷ body 2 128 2 4 ∷ body 0 128 2 4 ∷ body 1 0 2 2 ∷ body 1 0 3 4 ∷ (body 1 0 2 4 ++ (0 ∷ [])) ∷ (0 ∷ 1 ∷ []) ∷ [])
     ≡ accepted places sizes fields ∷ refused Geography 2 ∷ refused Geography 2 ∷ refused Geography 3 ∷ refused Geography 3 ∷ refused Negative 3 ∷ refused Geography 2 ∷ refused Negative 3 ∷ refused Geography 8
     ∷ refused Geography 286 ∷ refused Extra 318 ∷ refused Short 2 ∷ []
-unfolding num_at numBytes number block nothing ruled into both each vertex ring polygon
-polygons-right = refl
+unfolding num_at num_bytes number block nothing ruled into both each vertex ring polygon
+polygons_right = refl
 
 -- a ring whose vertices are told apart by one number each, and an area of such rings
 abbrev round : List ℕ → Ring
@@ -49,6 +49,6 @@ abbrev area : List Ring → Polygon
 area rings = record { edition = 0; internal = 1; holes = 1; rings = rings; kept = [] }
 
 -- the first ring stays as it is; of each other the first vertex stays, and the others come in reverse order
-pub turns-right : turned (area (round (1 ∷ 2 ∷ 3 ∷ []) ∷ round (4 ∷ 5 ∷ 6 ∷ 7 ∷ []) ∷ round (8 ∷ 9 ∷ 10 ∷ []) ∷ []))
+pub turns_right : turned (area (round (1 ∷ 2 ∷ 3 ∷ []) ∷ round (4 ∷ 5 ∷ 6 ∷ 7 ∷ []) ∷ round (8 ∷ 9 ∷ 10 ∷ []) ∷ []))
     ≡ area (round (1 ∷ 2 ∷ 3 ∷ []) ∷ round (4 ∷ 7 ∷ 6 ∷ 5 ∷ []) ∷ round (8 ∷ 10 ∷ 9 ∷ []) ∷ [])
-turns-right = refl
+turns_right = refl

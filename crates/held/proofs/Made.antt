@@ -37,11 +37,11 @@ module _ {M : Type 1} {𝓤 : Ura M} (𝓛 : Logic 𝓤) (κ : Lft) (res : Part)
   abbrev mach : Val
   mach = vstruct (vcons u (vcons w vnil))
 
-  pub made-owns : ent 𝓤 (⋆ 𝓛 (‵ ((S.the_row).own_val res (u ∷ [])) ∷ ‵ ((ShrSlice (named 0) κ u8).own_val part (w ∷ [])) ∷ [])) (sem 𝓛 ((T.the_row α).own_val made (mach ∷ [])))
-  made-owns =
+  pub made_owns : ent 𝓤 (⋆ 𝓛 (‵ ((S.the_row).own_val res (u ∷ [])) ∷ ‵ ((ShrSlice (named 0) κ u8).own_val part (w ∷ [])) ∷ [])) (sem 𝓛 ((T.the_row α).own_val made (mach ∷ [])))
+  made_owns =
       qed 𝓛 (‵ ((S.the_row).own_val res (u ∷ [])) ∷ ‵ ((ShrSlice (named 0) κ u8).own_val part (w ∷ [])) ∷ []) ∵
       nothing ! $ move ! (2 ∷ 0 ∷ []) $ fjoin ! $ move ! (1 ∷ 0 ∷ []) $ fjoin ! $ feq_i ! (List Val) (mach ∷ []) (mach ∷ []) refl $ fjoin ! $
       fpack ! (Valss (rows (T.the_type α).parts)) (within (shape (T.the_type α)) (intos (T.the_type α).parts (res, (part, tt))) (mach ∷ [])) (u ∷ [], (w ∷ [], tt)) $ done !
 
-  pub made-typed : Is S.the_row res (u ∷ []) → Is (ShrSlice (named 0) κ u8) part (w ∷ []) → Holds (has_ty (T'.mir (named 0)) mach) × WT mach
-  made-typed p q = ((LL.lawful (T.the_type α) (T'.the_laws α) 𝓛).typed made (mach ∷ []) ((u ∷ [], (w ∷ [], tt)), (refl, (p, (q, tt))))).0
+  pub made_typed : Is S.the_row res (u ∷ []) → Is (ShrSlice (named 0) κ u8) part (w ∷ []) → Holds (has_ty (T'.mir (named 0)) mach) × WT mach
+  made_typed p q = ((LL.lawful (T.the_type α) (T'.the_laws α) 𝓛).typed made (mach ∷ []) ((u ∷ [], (w ∷ [], tt)), (refl, (p, (q, tt))))).0

@@ -1,14 +1,14 @@
 // What holds a reference: a reader over one table of a message, each function thin over one of `query` or `cards`; the bytes of a value, handed back
 // beside what is told of them; and the step that is lent a table's columns, thin over one of `columns`.
 ghost use Rattle.std.specs.Prelude.{◌≡◌, length};
-ghost use Rattle.format.specs.Result.{toldAnswer};
-ghost use Rattle.cards.specs.Answers.{askOpen};
-ghost use Rattle.cards.specs.Reasons.{askFit, toldFit};
-ghost use Rattle.query.specs.Answers.{toldTable, askTable, toldColumn, askColumn, askPosition, toldCell, askCell, toldPart, askCellSpan, askParameterSpan, askElementSpan, Handed};
-ghost use Rattle.steps.specs.Steps.{openTable};
+ghost use Rattle.format.specs.Result.{told_answer};
+ghost use Rattle.cards.specs.Answers.{ask_open};
+ghost use Rattle.cards.specs.Reasons.{ask_fit, told_fit};
+ghost use Rattle.query.specs.Answers.{told_table, ask_table, told_column, ask_column, ask_position, told_cell, ask_cell, told_part, ask_cell_span, ask_parameter_span, ask_element_span, Handed};
+ghost use Rattle.steps.specs.Steps.{open_table};
 ghost use Rattle.write.specs.Shown.{Opened};
-ghost use Rattle.columns.specs.Entries.{columnsOf};
-ghost use Rattle.columns.specs.Walks.{Bounded, addAll, put_all, FitsAll};
+ghost use Rattle.columns.specs.Entries.{columns_of};
+ghost use Rattle.columns.specs.Walks.{Bounded, add_all, put_all, Fits_all};
 
 use cards::Fit;
 use columns::{Column, Head, Survey};
@@ -32,49 +32,49 @@ pub fn reader<'a>(msg: &'a [u8], table: usize) -> TableReader<'a>
 
 // The table's layout.
 pub fn layout<'a>(r: TableReader<'a>) -> TableAnswer
-    ensures { toldTable result ≡ askTable r.entry.msg.now r.entry.table }
+    ensures { told_table result ≡ ask_table r.entry.msg.now r.entry.table }
 {
     query::table(r.msg, r.table)
 }
 
 // The layout of a column.
 pub fn column<'a>(r: TableReader<'a>, c: usize) -> ColumnAnswer
-    ensures { toldColumn result ≡ askColumn r.entry.msg.now r.entry.table c }
+    ensures { told_column result ≡ ask_column r.entry.msg.now r.entry.table c }
 {
     query::column(r.msg, r.table, c)
 }
 
 // The position of the first column of a name.
 pub fn find<'a, 'b>(r: TableReader<'a>, name: &'b [u8]) -> Answer
-    ensures { toldAnswer result ≡ askPosition r.entry.msg.now r.entry.table name.now }
+    ensures { told_answer result ≡ ask_position r.entry.msg.now r.entry.table name.now }
 {
     query::find_column(r.msg, r.table, name)
 }
 
 // The position of the column that a card was made from.
 pub fn opened<'a, 'b>(r: TableReader<'a>, card: &'b [u8]) -> Answer
-    ensures { toldAnswer result ≡ askOpen r.entry.msg.now r.entry.table card.now }
+    ensures { told_answer result ≡ ask_open r.entry.msg.now r.entry.table card.now }
 {
     cards::open_card(r.msg, r.table, card)
 }
 
 // Whether a card fits, and if not why, and where a column of its type and name stands.
 pub fn fit<'a, 'b>(r: TableReader<'a>, card: &'b [u8]) -> Fit
-    ensures { toldFit result ≡ askFit r.entry.msg.now r.entry.table card.now }
+    ensures { told_fit result ≡ ask_fit r.entry.msg.now r.entry.table card.now }
 {
     cards::card_fit(r.msg, r.table, card)
 }
 
 // A cell, shown by its column's type.
 pub fn cell<'a>(r: TableReader<'a>, row: usize, c: usize) -> CellAnswer
-    ensures { toldCell result ≡ askCell r.entry.msg.now r.entry.table row c }
+    ensures { told_cell result ≡ ask_cell r.entry.msg.now r.entry.table row c }
 {
     query::cell(r.msg, r.table, row, c)
 }
 
 // Where the bytes of a text or binary cell stand, or null.
 pub fn span<'a>(r: TableReader<'a>, row: usize, c: usize) -> Part
-    ensures { toldPart result ≡ askCellSpan r.entry.msg.now r.entry.table row c }
+    ensures { told_part result ≡ ask_cell_span r.entry.msg.now r.entry.table row c }
 {
     query::cell_span(r.msg, r.table, row, c)
 }
@@ -89,7 +89,7 @@ pub struct Bytes<'a> {
 
 // The bytes of a text or binary cell.
 pub fn cell_bytes<'a>(r: TableReader<'a>, row: usize, c: usize) -> Bytes<'a>
-    ensures { Handed r.entry.msg (askCellSpan r.entry.msg.now r.entry.table row c) result.answer result.part }
+    ensures { Handed r.entry.msg (ask_cell_span r.entry.msg.now r.entry.table row c) result.answer result.part }
 {
     let answer = query::cell_span(r.msg, r.table, row, c);
     let part = query::part_at(r.msg, answer);
@@ -98,7 +98,7 @@ pub fn cell_bytes<'a>(r: TableReader<'a>, row: usize, c: usize) -> Bytes<'a>
 
 // The bytes of a text or binary parameter of an invocation.
 pub fn parameter_bytes<'a>(m: &'a [u8], p: usize) -> Bytes<'a>
-    ensures { Handed m.entry (askParameterSpan m.now p) result.answer result.part }
+    ensures { Handed m.entry (ask_parameter_span m.now p) result.answer result.part }
 {
     let answer = query::parameter_span(m, p);
     let part = query::part_at(m, answer);
@@ -107,7 +107,7 @@ pub fn parameter_bytes<'a>(m: &'a [u8], p: usize) -> Bytes<'a>
 
 // The bytes of a text or binary element of the array that a parameter of an invocation is.
 pub fn element_bytes<'a>(m: &'a [u8], p: usize, e: usize) -> Bytes<'a>
-    ensures { Handed m.entry (askElementSpan m.now p e) result.answer result.part }
+    ensures { Handed m.entry (ask_element_span m.now p e) result.answer result.part }
 {
     let answer = query::element_span(m, p, e);
     let part = query::part_at(m, answer);
@@ -117,7 +117,7 @@ pub fn element_bytes<'a>(m: &'a [u8], p: usize, e: usize) -> Bytes<'a>
 // What is found of the columns of a lent list, behind those of a survey.
 fn survey(s: Survey, cols: &[Column], names: &[u8]) -> Survey
     requires { Bounded s }
-    ensures { result ≡ addAll names.now s cols.now }
+    ensures { result ≡ add_all names.now s cols.now }
 {
     let mut a = s;
     let mut i = 0;
@@ -136,7 +136,7 @@ fn put_columns(
     cols: &[Column],
     names: &[u8],
 ) -> Outcome
-    requires { FitsAll names.now (length out.old) head.walk cols.now }
+    requires { Fits_all names.now (length out.old) head.walk cols.now }
     ensures { (result ≡ head.step) × (out.exit.now ≡ (put_all names.now (record { out = out.entry.now; types = types.old; walk = head.walk }) cols.now).out) × (types.new ≡ (put_all names.now (record { out = out.entry.now; types = types.old; walk = head.walk }) cols.now).types) }
 {
     let mut w = columns::walk_in(head);
@@ -157,7 +157,7 @@ pub fn open_table(
     cols: &[Column],
     names: &[u8],
 ) -> Outcome
-    ensures { Opened (openTable status (columnsOf cols.now names.now)) st types.old out.old result types.new out.new }
+    ensures { Opened (open_table status (columns_of cols.now names.now)) st types.old out.old result types.new out.new }
 {
     let z = columns::no_columns(st);
     let a = survey(z, cols, names);

@@ -7,48 +7,48 @@ use lib.Dec.{eqb}
 use Rattle.format.specs.declared.Fault.{Fault}
 use Rattle.format.specs.declared.Refusal.{Refusal}
 use Rattle.format.specs.declared.Answer.{Answer}
-use Rattle.format.specs.Result.{Res, ok, no, bind, toldAnswer}
+use Rattle.format.specs.Result.{Res, ok, no, bind, told_answer}
 use Rattle.format.specs.Number.{Bytes}
-use Rattle.format.specs.Message.{noIndex}
-use Rattle.format.specs.Geography.{Polygon, polygon, readPolygon, polygonFields, fieldsInside}
+use Rattle.format.specs.Message.{no_index}
+use Rattle.format.specs.Geography.{Polygon, polygon, read_polygon, polygon_fields, fields_inside}
 use Rattle.format.proofs.Results.{ok_same, no_ok, passed, bound}
-use Rattle.format.proofs.Geography.{inside-tiles}
+use Rattle.format.proofs.Geography.{inside_tiles}
 use Rattle.tally.specs.declared.Task.{Task}
 use Rattle.tally.specs.declared.Tour.{Tour}
 use Rattle.tally.specs.Task.{State, doing}
 use Rattle.tally.specs.Walks.{Walked}
-use Rattle.tour.proofs.Messages.{tour-met}
+use Rattle.tour.proofs.Messages.{tour_met}
 use Rattle.fields.proofs.Calls.{Tiled, After}
 
 -- what is answered of a body, for one that is refused and one that is accepted
-refused-by : (x : Res Polygon) (st : State) {v : Answer} {given : Refusal} → toldAnswer v ≡ bind x (λ p. ok (length p.rings)) → v ≡ Answer.No given
-    → After (bind x (λ p. ok (polygonFields p))) st (no given.fault given.place) st.out
-refused-by (ok p) st told is = absurd (no_ok (sym (ap toldAnswer is) ∙ told))
-refused-by (no f k) st {given = g} told is =
-    let same : ◌≡◌ {A = Res ℕ} (no g.fault g.place) (no f k) = sym (ap toldAnswer is) ∙ told in
+refused_by : (x : Res Polygon) (st : State) {v : Answer} {given : Refusal} → told_answer v ≡ bind x (λ p. ok (length p.rings)) → v ≡ Answer.No given
+    → After (bind x (λ p. ok (polygon_fields p))) st (no given.fault given.place) st.out
+refused_by (ok p) st told is = absurd (no_ok (sym (ap told_answer is) ∙ told))
+refused_by (no f k) st {given = g} told is =
+    let same : ◌≡◌ {A = Res ℕ} (no g.fault g.place) (no f k) = sym (ap told_answer is) ∙ told in
     (ap₂ (λ (h : Fault) (q : ℕ). no h q) (cc) (cc), refl)
 
-accepted-by : (x : Res Polygon) {v : Answer} {n : ℕ} → toldAnswer v ≡ bind x (λ p. ok (length p.rings)) → v ≡ Answer.Is n → (p : Polygon) × (x ≡ ok p)
-accepted-by (ok p) told is = (p, refl)
-accepted-by (no f k) told is = absurd (no_ok (sym told ∙ ap toldAnswer is))
+accepted_by : (x : Res Polygon) {v : Answer} {n : ℕ} → told_answer v ≡ bind x (λ p. ok (length p.rings)) → v ≡ Answer.Is n → (p : Polygon) × (x ≡ ok p)
+accepted_by (ok p) told is = (p, refl)
+accepted_by (no f k) told is = absurd (no_ok (sym told ∙ ap told_answer is))
 
 module _ (b : List ℕ) where
-  pub body_refused : (st : State) {v : Answer} {given : Refusal} → toldAnswer v ≡ bind (readPolygon b) (λ p. ok (length p.rings)) → v ≡ Answer.No given
-      → After (fieldsInside b) st (no given.fault given.place) st.out
-  body_refused st told is = refused-by (readPolygon b) st told is
+  pub body_refused : (st : State) {v : Answer} {given : Refusal} → told_answer v ≡ bind (read_polygon b) (λ p. ok (length p.rings)) → v ≡ Answer.No given
+      → After (fields_inside b) st (no given.fault given.place) st.out
+  body_refused st told is = refused_by (read_polygon b) st told is
 
-  pub body-accepted : (task : Task) (out : List ℕ) {v : Answer} {n : ℕ} {after : Tour} {written : List ℕ} → toldAnswer v ≡ bind (readPolygon b) (λ p. ok (length p.rings)) → v ≡ Answer.Is n
-      → Walked polygon b noIndex (record { at = 0; task = task }) out after written → After (fieldsInside b) (doing task out) (ok after.task) written
-  body-accepted task out told is w =
-      let go = accepted-by (readPolygon b) told is in
+  pub body_accepted : (task : Task) (out : List ℕ) {v : Answer} {n : ℕ} {after : Tour} {written : List ℕ} → told_answer v ≡ bind (read_polygon b) (λ p. ok (length p.rings)) → v ≡ Answer.Is n
+      → Walked polygon b no_index (record { at = 0; task = task }) out after written → After (fields_inside b) (doing task out) (ok after.task) written
+  body_accepted task out told is w =
+      let go = accepted_by (read_polygon b) told is in
       let r = bound (polygon.read b 0) go.1 in
       let end = passed (eqb r.0.1 (length b)) _ _ r.2 in
       let same : r.0.0 ≡ go.0 = ok_same end.1 in
       let met = (w.goes r.0.0 r.0.1 r.1).1 in
-      tour-met (doing task out) (ap (λ (x : Res Polygon). bind x (λ p. ok (polygonFields p))) go.1) (rw same at met)
+      tour_met (doing task out) (ap (λ (x : Res Polygon). bind x (λ p. ok (polygon_fields p))) go.1) (rw same at met)
 
-  pub inside-tiled : Bytes b → length b < 2 ^ 64 → Tiled (fieldsInside b) (length b)
-  inside-tiled by small = record {
-    tile = λ es e. let q = bound (readPolygon b) e in rw (ok_same q.2) at (inside-tiles b by q.0 q.1);
+  pub inside_tiled : Bytes b → length b < 2 ^ 64 → Tiled (fields_inside b) (length b)
+  inside_tiled by small = record {
+    tile = λ es e. let q = bound (read_polygon b) e in rw (ok_same q.2) at (inside_tiles b by q.0 q.1);
     small = small;
   }

@@ -1,16 +1,16 @@
 // The field list inside the body of a geography: how many fields it has, the n-th, the owner of a byte, and windows of the list.
 // A message's own list has one entry for the body; this is the finer one, with places counted from the body's first byte.
 ghost use Rattle.std.specs.Prelude.{◌≡◌, length, replicate};
-ghost use Rattle.format.specs.Result.{ok, bind, toldAnswer};
+ghost use Rattle.format.specs.Result.{ok, bind, told_answer};
 ghost use Rattle.format.specs.Format.{each};
 ghost use Rattle.format.specs.Message.{first, second};
-ghost use Rattle.format.specs.Geography.{vertex, ring, polygon, fieldsInside};
+ghost use Rattle.format.specs.Geography.{vertex, ring, polygon, fields_inside};
 ghost use Rattle.tally.specs.Task.{doing};
-ghost use Rattle.tour.specs.Tour.{taskAfter, outAfter};
+ghost use Rattle.tour.specs.Tour.{task_after, out_after};
 ghost use Rattle.tally.specs.Walks.{index_of, Walked};
-ghost use Rattle.tour.specs.Told.{toldToured};
-ghost use Rattle.fields.specs.Questions.{nth, ownerOf, windowCount, windowOut};
-ghost use Rattle.fields.specs.Told.{toldListed, toldOwned};
+ghost use Rattle.tour.specs.Told.{told_toured};
+ghost use Rattle.fields.specs.Questions.{nth, owner_of, window_count, window_out};
+ghost use Rattle.fields.specs.Told.{told_listed, told_owned};
 
 use fields::{Listed, Owned};
 use format::Answer;
@@ -22,7 +22,7 @@ const AXES: usize = 3;
 
 // How many fields a body has.
 pub fn count(b: &[u8]) -> Answer
-    ensures { toldAnswer result ≡ bind (fieldsInside b.now) (λ es. ok (length es)) }
+    ensures { told_answer result ≡ bind (fields_inside b.now) (λ es. ok (length es)) }
 {
     let mut six: [u64; 6] = [0; 6];
     let asked = tour::list_task(0, 0);
@@ -32,7 +32,7 @@ pub fn count(b: &[u8]) -> Answer
 
 // The entry of a number in the list, from 0 on.
 pub fn field(b: &[u8], n: usize) -> Listed
-    ensures { toldListed result ≡ bind (fieldsInside b.now) (λ es. nth es n) }
+    ensures { told_listed result ≡ bind (fields_inside b.now) (λ es. nth es n) }
 {
     let mut six: [u64; 6] = [0; 6];
     let asked = tour::list_task(n, 0);
@@ -42,7 +42,7 @@ pub fn field(b: &[u8], n: usize) -> Listed
 
 // The entry that owns a byte, and its number in the list.
 pub fn owner(b: &[u8], offset: usize) -> Owned
-    ensures { toldOwned result ≡ bind (fieldsInside b.now) (λ es. ownerOf es offset) }
+    ensures { told_owned result ≡ bind (fields_inside b.now) (λ es. owner_of es offset) }
 {
     let mut six: [u64; 6] = [0; 6];
     let asked = tour::list_task(0, offset);
@@ -52,7 +52,7 @@ pub fn owner(b: &[u8], offset: usize) -> Owned
 
 // The entries from a number on, six numbers for each, as many whole entries as fit a lent list; how many were written.
 pub fn window(b: &[u8], first: usize, out: &mut [u64]) -> Answer
-    ensures { (toldAnswer result ≡ bind (fieldsInside b.now) (λ es. windowCount es first (length out.old))) × (out.new ≡ windowOut (fieldsInside b.now) first out.old) }
+    ensures { (told_answer result ≡ bind (fields_inside b.now) (λ es. window_count es first (length out.old))) × (out.new ≡ window_out (fields_inside b.now) first out.old) }
 {
     let asked = tour::list_task(first, 0);
     let toured = visit_inside(b, out, asked);
@@ -61,7 +61,7 @@ pub fn window(b: &[u8], first: usize, out: &mut [u64]) -> Answer
 
 // The task over all fields of a body, in wire order.
 pub fn visit_inside(b: &[u8], out: &mut [u64], task: Task) -> Toured
-    ensures { (toldToured result ≡ taskAfter (fieldsInside b.now) (doing task out.old)) × (out.new ≡ outAfter (fieldsInside b.now) (doing task out.old)) }
+    ensures { (told_toured result ≡ task_after (fields_inside b.now) (doing task out.old)) × (out.new ≡ out_after (fields_inside b.now) (doing task out.old)) }
 {
     let rings = areas::rings(b);
     if let Answer::No(refusal) = rings {

@@ -41,13 +41,13 @@ abbrev passed : (κ : Lft) → Bor (List ℕ) → Vals reader.signature (κ, tt)
 passed κ s = (slice_val s.ref_ptr (length s.now) ∷ [], (vint w64 0 ∷ [], tt))
 
 module _ {M : Type 1} {𝓤 : Ura M} (𝓛 : Logic 𝓤) (mem : Memory → SProp 𝓤) (run : Routine → Fun 𝓤) (κ : Lft) (q : Share) (s : Bor (List ℕ)) where
-  abbrev pub to-reader : (Made 𝓛 mem run).Ghost
-  to-reader = (((κ, tt), (q, tt), tt, (s, (0, tt)), passed κ s), tt)
+  abbrev pub to_reader : (Made 𝓛 mem run).Ghost
+  to_reader = (((κ, tt), (q, tt), tt, (s, (0, tt)), passed κ s), tt)
 
 module _ {M : Type 1} {𝓤 : Ura M} (𝓛 : Logic 𝓤) (mem : Memory → SProp 𝓤) (run : Routine → Fun 𝓤) (κ : Lft) (q : Share) (s : Bor (List ℕ)) where
-  pub reader-asks : ent 𝓤 (on_entry 𝓛 reader.signature (κ, tt) (q, tt) (s, (0, tt)) (passed κ s)) ((Made 𝓛 mem run).pre (to-reader 𝓛 mem run κ q s))
-  reader-asks = qed 𝓛 ((‵ (flft κ q) ⊛ ‵ ftrue) ∷ ‵ (owns (ShrSlice (named 0) κ u8 ∷ usize ∷ []) (s, (0, tt)) (passed κ s)) ∷ []) ∵ join ! $ frame ! $ done !
+  pub reader_asks : ent 𝓤 (on_entry 𝓛 reader.signature (κ, tt) (q, tt) (s, (0, tt)) (passed κ s)) ((Made 𝓛 mem run).pre (to_reader 𝓛 mem run κ q s))
+  reader_asks = qed 𝓛 ((‵ (flft κ q) ⊛ ‵ ftrue) ∷ ‵ (owns (ShrSlice (named 0) κ u8 ∷ usize ∷ []) (s, (0, tt)) (passed κ s)) ∷ []) ∵ join ! $ frame ! $ done !
 
 module _ {M : Type 1} {𝓤 : Ura M} (𝓛 : Logic 𝓤) (mem : Memory → SProp 𝓤) (run : Routine → Fun 𝓤) (κ : Lft) (s : Bor (List ℕ)) where
-  pub reader-said : (r : TableReader) → ent 𝓤 (ensured 𝓛 reader.ended (reader.clauses 𝓛 mem run) (κ, tt) (s, (0, tt)) tt r) (fact 𝓤 ((r.msg ≡ s) × (r.table ≡ 0)))
-  reader-said r = ex_e 𝓤 _ (λ ws. snd∗ 𝓤 (sem 𝓛 (lasts reader.ended (κ, tt) (s, (0, tt)) ws)) (fact 𝓤 ((r.msg ≡ s) × (r.table ≡ 0))))
+  pub reader_said : (r : TableReader) → ent 𝓤 (ensured 𝓛 reader.ended (reader.clauses 𝓛 mem run) (κ, tt) (s, (0, tt)) tt r) (fact 𝓤 ((r.msg ≡ s) × (r.table ≡ 0)))
+  reader_said r = ex_e 𝓤 _ (λ ws. snd∗ 𝓤 (sem 𝓛 (lasts reader.ended (κ, tt) (s, (0, tt)) ws)) (fact 𝓤 ((r.msg ≡ s) × (r.table ≡ 0))))

@@ -2,11 +2,11 @@
 // A card is made from the first reply and opened over each of them. Where it opens a column, the engine's limit is printed with
 // its place in the message and the field that owns its first byte; where it doesn't fit any more, the refusal is, and why.
 ghost use Rattle.std.specs.Prelude.{◌≡◌, ◌≤◌, length};
-ghost use Rattle.format.specs.Result.{toldAnswer};
-ghost use Rattle.cards.specs.Card.{mostSize};
-ghost use Rattle.cards.specs.Answers.{askOpen};
-ghost use Rattle.cards.specs.Reasons.{askFit, toldFit};
-ghost use Rattle.query.specs.Answers.{toldTable, askTable, askPosition, toldCell, askCell};
+ghost use Rattle.format.specs.Result.{told_answer};
+ghost use Rattle.cards.specs.Card.{most_size};
+ghost use Rattle.cards.specs.Answers.{ask_open};
+ghost use Rattle.cards.specs.Reasons.{ask_fit, told_fit};
+ghost use Rattle.query.specs.Answers.{told_table, ask_table, ask_position, told_cell, ask_cell};
 
 use cards::{Fit, Reason};
 use fields::Owned;
@@ -36,8 +36,8 @@ fn main() {
 
 // Makes the card of the limit's column from the first reply, and asks that reply too. Answers how many bytes the card has; 0 if none was made.
 fn make_card(card: &mut [u8]) -> usize
-    requires { mostSize ≤ length card.old }
-    ensures { result ≤ mostSize }
+    requires { most_size ≤ length card.old }
+    ensures { result ≤ most_size }
 {
     let mut frame = [0u8; 65537];
     let read = frames::next(&mut frame);
@@ -167,31 +167,31 @@ fn is_engine(answer: CellAnswer) -> bool {
 // each does nothing else, and is proved by a walk by hand.
 
 fn layout_of(reply: &[u8]) -> TableAnswer
-    ensures { toldTable result ≡ askTable reply.now 0 }
+    ensures { told_table result ≡ ask_table reply.now 0 }
 {
     held::layout(held::reader(reply, 0))
 }
 
 fn find_in(reply: &[u8], name: &[u8]) -> Answer
-    ensures { toldAnswer result ≡ askPosition reply.now 0 name.now }
+    ensures { told_answer result ≡ ask_position reply.now 0 name.now }
 {
     held::find(held::reader(reply, 0), name)
 }
 
 fn opened_by(reply: &[u8], card: &[u8]) -> Answer
-    ensures { toldAnswer result ≡ askOpen reply.now 0 card.now }
+    ensures { told_answer result ≡ ask_open reply.now 0 card.now }
 {
     held::opened(held::reader(reply, 0), card)
 }
 
 fn fit_of(reply: &[u8], card: &[u8]) -> Fit
-    ensures { toldFit result ≡ askFit reply.now 0 card.now }
+    ensures { told_fit result ≡ ask_fit reply.now 0 card.now }
 {
     held::fit(held::reader(reply, 0), card)
 }
 
 fn cell_of(reply: &[u8], row: usize, column: usize) -> CellAnswer
-    ensures { toldCell result ≡ askCell reply.now 0 row column }
+    ensures { told_cell result ≡ ask_cell reply.now 0 row column }
 {
     held::cell(held::reader(reply, 0), row, column)
 }

@@ -3,11 +3,11 @@
 ghost use Rattle.std.specs.Prelude.{◌+◌, ◌≤◌, ◌≡◌, ◌++◌, length, take};
 ghost use Rattle.std.proofs.Math.Seq.{paste};
 ghost use Rattle.format.specs.Result.{number_of};
-ghost use Rattle.format.specs.Message.{isKind};
-ghost use Rattle.message.specs.Verdict.{toldVerdict};
+ghost use Rattle.format.specs.Message.{is_kind};
+ghost use Rattle.message.specs.Verdict.{told_verdict};
 ghost use Rattle.io.specs.Counts.{IsPrefixLen};
-ghost use Rattle.listing.specs.Listing.{listingOf};
-ghost use Rattle.listing.specs.Text.{spelled, behindOf, words_of};
+ghost use Rattle.listing.specs.Listing.{listing_of};
+ghost use Rattle.listing.specs.Text.{spelled, behind_of, words_of};
 
 use format::{Answer, Fault, Refusal};
 use libc::STDOUT_FILENO;
@@ -27,7 +27,7 @@ const LINE: usize = 126;
 // Prints what the listing program prints for its input, one byte of kind and then a message: its field list, or a refusal.
 // Answers which.
 pub fn print(input: &[u8]) -> Verdict
-    ensures { toldVerdict result ≡ listingOf input.now }
+    ensures { told_verdict result ≡ listing_of input.now }
 {
     let verdict = judge(input);
     let Verdict::No(refusal) = verdict else {
@@ -40,7 +40,7 @@ pub fn print(input: &[u8]) -> Verdict
 
 // What is printed for an input: the field list where all is fine, or a refusal.
 fn judge(input: &[u8]) -> Verdict
-    ensures { toldVerdict result ≡ listingOf input.now }
+    ensures { told_verdict result ≡ listing_of input.now }
 {
     if input.len() == 0 {
         return Verdict::No(refusal_at_0(Fault::WireType));
@@ -56,7 +56,7 @@ fn judge(input: &[u8]) -> Verdict
 }
 
 fn is_kind(kind: u8) -> bool
-    ensures { result ≡ isKind kind }
+    ensures { result ≡ is_kind kind }
 {
     1 <= kind && kind <= 4
 }
@@ -147,7 +147,7 @@ fn put_line(line: &mut [u8], numbers: &[u64], from: usize) -> usize
 
 // The byte behind the i-th number of a line: a space, and a line feed behind the last.
 fn behind(i: usize) -> u8
-    ensures { result ≡ behindOf i }
+    ensures { result ≡ behind_of i }
 {
     if i < 5 { b' ' } else { b'\n' }
 }

@@ -9,9 +9,9 @@ use Rattle.steps.specs.Logins.{Welcome}
 abbrev pub welcome : ℕ → ℕ → ℕ → ℕ → List ℕ → Welcome
 welcome host connection start leader build = record { host = host; connection = connection; start = start; leader = leader; build = build }
 
-abbrev pub serverOf : Welcome → Server
-serverOf w = record { host = w.host; connection = w.connection; start = w.start; leader = w.leader; build = some w.build }
+abbrev pub server_of : Welcome → Server
+server_of w = record { host = w.host; connection = w.connection; start = w.start; leader = w.leader; build = some w.build }
 
 -- the hash version's bytes: version 0 has none
-abbrev pub hashPart : ℕ → ℕ → List ℕ
-hashPart version hashing = (present (eqb version 1) 0 (edition 3)).bytes (pick (eqb version 1) (some hashing) none)
+abbrev pub hash_part : ℕ → ℕ → List ℕ
+hash_part version hashing = (present (eqb version 1) 0 (edition 3)).bytes (pick (eqb version 1) (some hashing) none)

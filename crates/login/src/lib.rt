@@ -4,15 +4,15 @@ ghost use Rattle.std.proofs.Math.Option.{some, none};
 ghost use Rattle.format.specs.declared.Fault.TheVariants.{Version};
 ghost use Rattle.format.specs.Result.{pick};
 ghost use Rattle.format.specs.Format.{fine};
-ghost use Rattle.format.specs.Value.{mostBytes};
-ghost use Rattle.format.specs.Message.{aLoginRequest, aLoginResponse, messageBytes, hashSize, server};
+ghost use Rattle.format.specs.Value.{most_bytes};
+ghost use Rattle.format.specs.Message.{a_login_request, a_login_response, message_bytes, hash_size, server};
 ghost use Rattle.put.specs.Put.{put};
 ghost use Rattle.steps.specs.Plans.{answer_of};
 ghost use Rattle.steps.specs.Steps.{says};
-ghost use Rattle.steps.specs.Logins.{hashFault, requestFault, responseFault, writtenRequest, writtenResponse, loginPlan, loginRequest, loginResponse};
-ghost use Rattle.write.specs.Shown.{shownAnswer, Told};
-ghost use Rattle.write.specs.Shared.{verdictOf};
-ghost use Rattle.login.specs.Parts.{welcome, serverOf, hashPart};
+ghost use Rattle.steps.specs.Logins.{hash_fault, request_fault, response_fault, written_request, written_response, login_plan, login_request, login_response};
+ghost use Rattle.write.specs.Shown.{shown_answer, Told};
+ghost use Rattle.write.specs.Shared.{verdict_of};
+ghost use Rattle.login.specs.Parts.{welcome, server_of, hash_part};
 
 use format::{Answer, Fault};
 use write::Check;
@@ -26,7 +26,7 @@ pub fn login_request(
     user: &[u8],
     hash: &[u8],
 ) -> Answer
-    ensures { Told (loginRequest version hashing service.now user.now hash.now out.old) result out.new }
+    ensures { Told (login_request version hashing service.now user.now hash.now out.old) result out.new }
 {
     let a = ask_request(version, hashing, service, user, hash, out.len());
     let Answer::Is(n) = a else {
@@ -52,7 +52,7 @@ pub fn login_response(
     leader: u32,
     build: &[u8],
 ) -> Answer
-    ensures { Told (loginResponse version res (welcome host connection start leader build.now) out.old) result out.new }
+    ensures { Told (login_response version res (welcome host connection start leader build.now) out.old) result out.new }
 {
     let a = ask_response(version, res, build, out.len());
     let Answer::Is(n) = a else {
@@ -70,8 +70,8 @@ pub fn login_response(
 
 // Writes the hash version, which version 0 has not, and says where it ends.
 fn hash_version_at(out: &mut [u8], at: usize, version: u8, hashing: u8) -> usize
-    requires { at + length (hashPart version hashing) ≤ length out.old }
-    ensures { (result ≡ at + length (hashPart version hashing)) × (out.new ≡ put out.old at (hashPart version hashing)) }
+    requires { at + length (hash_part version hashing) ≤ length out.old }
+    ensures { (result ≡ at + length (hash_part version hashing)) × (out.new ≡ put out.old at (hash_part version hashing)) }
 {
     if version != 1 {
         return at;
@@ -90,7 +90,7 @@ fn server_at(
     build: &[u8],
 )
     requires { at + (24 + (4 + length build.now)) ≤ length out.old }
-    ensures { out.new ≡ put out.old at (server.bytes (serverOf (welcome host connection start leader build.now))) }
+    ensures { out.new ≡ put out.old at (server.bytes (server_of (welcome host connection start leader build.now))) }
 {
     let second = put::number_at(out, at, host as u64, 4);
     let third = put::number_at(out, second, connection, 8);
@@ -108,7 +108,7 @@ fn ask_request(
     hash: &[u8],
     size: usize,
 ) -> Answer
-    ensures { result ≡ shownAnswer (answer_of (loginPlan (requestFault version hashing service.now user.now hash.now) (messageBytes 1 (says version (aLoginRequest (writtenRequest version hashing service.now user.now hash.now))))) size) }
+    ensures { result ≡ shown_answer (answer_of (login_plan (request_fault version hashing service.now user.now hash.now) (message_bytes 1 (says version (a_login_request (written_request version hashing service.now user.now hash.now))))) size) }
 {
     let fault = request_fault(version, hashing, service, user, hash);
     let Check::Fine = fault else {
@@ -119,7 +119,7 @@ fn ask_request(
 }
 
 fn ask_response(version: u8, res: u8, build: &[u8], size: usize) -> Answer
-    ensures { result ≡ shownAnswer (answer_of (loginPlan (responseFault version res (welcome 0 0 0 0 build.now)) (messageBytes 2 (says version (aLoginResponse (writtenResponse res (welcome 0 0 0 0 build.now)))))) size) }
+    ensures { result ≡ shown_answer (answer_of (login_plan (response_fault version res (welcome 0 0 0 0 build.now)) (message_bytes 2 (says version (a_login_response (written_response res (welcome 0 0 0 0 build.now)))))) size) }
 {
     let edition = write::test(version <= 1, Fault::Version, 0);
     if res != 0 {
@@ -131,7 +131,7 @@ fn ask_response(version: u8, res: u8, build: &[u8], size: usize) -> Answer
 
 // What is wrong with the arguments of a request, in wire order.
 fn request_fault(version: u8, hashing: u8, service: &[u8], user: &[u8], hash: &[u8]) -> Check
-    ensures { verdictOf result ≡ requestFault version hashing service.now user.now hash.now }
+    ensures { verdict_of result ≡ request_fault version hashing service.now user.now hash.now }
 {
     let edition = write::test(version <= 1, Fault::Version, 0);
     let second = hash_version_fault(version, hashing);
@@ -145,7 +145,7 @@ fn request_fault(version: u8, hashing: u8, service: &[u8], user: &[u8], hash: &[
 }
 
 fn hash_version_fault(version: u8, hashing: u8) -> Check
-    ensures { verdictOf result ≡ pick (eqb version 1) (Rattle.steps.specs.Plans.test (leb hashing 1) Version 0) fine }
+    ensures { verdict_of result ≡ pick (eqb version 1) (Rattle.steps.specs.Plans.test (leb hashing 1) Version 0) fine }
 {
     if version != 1 {
         return Check::Fine;
@@ -155,7 +155,7 @@ fn hash_version_fault(version: u8, hashing: u8) -> Check
 
 // How many bytes the hash must have.
 fn hash_size(version: u8, hashing: u8) -> usize
-    ensures { result ≡ hashSize (pick (eqb version 1) (some hashing) none) }
+    ensures { result ≡ hash_size (pick (eqb version 1) (some hashing) none) }
 {
     if version != 1 {
         return format::SHORT_HASH;
@@ -168,7 +168,7 @@ fn hash_size(version: u8, hashing: u8) -> usize
 }
 
 fn hash_fault(n: usize, hash: &[u8]) -> Check
-    ensures { verdictOf result ≡ hashFault n hash.now }
+    ensures { verdict_of result ≡ hash_fault n hash.now }
 {
     let short = write::test(n <= hash.len(), Fault::Short, 0);
     let long = write::test(hash.len() <= n, Fault::Extra, 0);
@@ -177,7 +177,7 @@ fn hash_fault(n: usize, hash: &[u8]) -> Check
 
 // How many bytes a request has, with its length.
 fn request_size(version: u8, service: &[u8], user: &[u8], hash: &[u8]) -> usize
-    requires { (length service.now ≤ mostBytes) × (length user.now ≤ mostBytes) × (length hash.now ≤ 32) }
+    requires { (length service.now ≤ most_bytes) × (length user.now ≤ most_bytes) × (length hash.now ≤ 32) }
     ensures { result ≡ 5 + (pick (eqb version 1) 1 0 + (4 + length service.now + (4 + length user.now + length hash.now))) }
 {
     let rest = 4 + service.len() + (4 + user.len() + hash.len());

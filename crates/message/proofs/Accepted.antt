@@ -9,13 +9,13 @@ use native.Mathlib.Omega.{arith}
 use Rattle.format.specs.declared.Refusal.{Refusal}
 use Rattle.format.specs.declared.Fault.TheVariants.{WireType}
 use Rattle.format.specs.Result.{Res, ok, no, pick}
-use Rattle.format.specs.Message.{Message, GoodMessage, isKind, isLayout, kindLayout, readMessage, messageBytes}
-use Rattle.format.proofs.Results.{and-true-both}
-use Rattle.format.proofs.Demands.{accepted→encodes, encodes→accepted, encodes-once}
+use Rattle.format.specs.Message.{Message, GoodMessage, is_kind, is_layout, kind_layout, read_message, message_bytes}
+use Rattle.format.proofs.Results.{and_true_both}
+use Rattle.format.proofs.Demands.{accepted→encodes, encodes→accepted, encodes_once}
 use Rattle.scan.specs.Shown.{refusal}
 use Rattle.message.specs.declared.Verdict.{Verdict}
-use Rattle.message.specs.Verdict.{toldVerdict, verdictOf, verdictNo}
-use Rattle.message.proofs.Parts.{bytes-all}
+use Rattle.message.specs.Verdict.{told_verdict, verdict_of, verdict_no}
+use Rattle.message.proofs.Parts.{bytes_all}
 use Rattle.message.proofs.Whole.{unknown}
 
 -- no two answers are told alike: what is told gives the answer back
@@ -23,30 +23,30 @@ abbrev pub untold : Res Unit → Verdict
 untold (ok u) = Verdict.Fine
 untold (no f p) = Verdict.No (refusal f p)
 
-told_back : (a : Verdict) → untold (toldVerdict a) ≡ a
+told_back : (a : Verdict) → untold (told_verdict a) ≡ a
 told_back Verdict.Fine = refl
 told_back (Verdict.No r) = refl
 
-pub told-once : (a b : Verdict) → toldVerdict a ≡ toldVerdict b → a ≡ b
-told-once a b e = sym (told_back a) ∙ ap untold e ∙ told_back b
+pub told_once : (a b : Verdict) → told_verdict a ≡ told_verdict b → a ≡ b
+told_once a b e = sym (told_back a) ∙ ap untold e ∙ told_back b
 
 -- an answer and the reading that it tells of
-pub verdict-go : (r : Res Message) {a : Verdict} → toldVerdict a ≡ verdictOf r → a ≡ Verdict.Fine → (v : Message) × (r ≡ ok v)
-verdict-go (ok v) e told = (v, refl)
-verdict-go (no f p) e told = absurd (let z : ◌≡◌ {A = ℕ} 0 1 = cc (ap toldVerdict told) in omega arith)
+pub verdict_go : (r : Res Message) {a : Verdict} → told_verdict a ≡ verdict_of r → a ≡ Verdict.Fine → (v : Message) × (r ≡ ok v)
+verdict_go (ok v) e told = (v, refl)
+verdict_go (no f p) e told = absurd (let z : ◌≡◌ {A = ℕ} 0 1 = cc (ap told_verdict told) in omega arith)
 
-pub verdict-stop : (r : Res Message) {a : Verdict} {given x : Refusal} → toldVerdict a ≡ verdictOf r → a ≡ Verdict.No given → x ≡ verdictNo a → r ≡ no x.fault x.place
-verdict-stop (ok v) e told out = absurd (let z : ◌≡◌ {A = ℕ} 0 1 = cc (ap toldVerdict told) in omega arith)
-verdict-stop (no f p) {a} {x = x} e told out = let same : x ≡ refusal f p = out ∙ ap verdictNo (told-once a (Verdict.No (refusal f p)) e) in rw same
+pub verdict_stop : (r : Res Message) {a : Verdict} {given x : Refusal} → told_verdict a ≡ verdict_of r → a ≡ Verdict.No given → x ≡ verdict_no a → r ≡ no x.fault x.place
+verdict_stop (ok v) e told out = absurd (let z : ◌≡◌ {A = ℕ} 0 1 = cc (ap told_verdict told) in omega arith)
+verdict_stop (no f p) {a} {x = x} e told out = let same : x ≡ refusal f p = out ∙ ap verdict_no (told_once a (Verdict.No (refusal f p)) e) in rw same
 
 -- a kind is its own layout, and a number that is no kind is refused before all else
-pub kind-layout : (kind : ℕ) → isKind kind ≡ true → kindLayout kind ≡ kind
-kind-layout kind e = rw (and-true-both (leb 1 kind) (leb kind 4) e).1
+pub kind_layout_lem : (kind : ℕ) → is_kind kind ≡ true → kind_layout kind ≡ kind
+kind_layout_lem kind e = rw (and_true_both (leb 1 kind) (leb kind 4) e).1
 
-pub no_kind : (kind : ℕ) (m : List ℕ) → isKind kind ≡ false → readMessage (kindLayout kind) m ≡ no WireType 0
-no_kind kind m e = unknown (kindLayout kind) m (by_tests (leb 1 kind) (leb kind 4) refl e)
+pub no_kind : (kind : ℕ) (m : List ℕ) → is_kind kind ≡ false → read_message (kind_layout kind) m ≡ no WireType 0
+no_kind kind m e = unknown (kind_layout kind) m (by_tests (leb 1 kind) (leb kind 4) refl e)
   where
-    by_tests : (low few : Bool) → leb 1 kind ≡ low → low && few ≡ false → isLayout (pick few kind 0) ≡ false
+    by_tests : (low few : Bool) → leb 1 kind ≡ low → low && few ≡ false → is_layout (pick few kind 0) ≡ false
     by_tests low false is e = refl
     by_tests false true is e = rw is
     by_tests true true is e = absurd (false≢true (sym e))
@@ -54,29 +54,29 @@ no_kind kind m e = unknown (kindLayout kind) m (by_tests (leb 1 kind) (leb kind 
 module _ (layout : ℕ) (m : List ℕ) where
   -- what `accept_layout` promises of its answer; `accept` does so for the layout of its kind
   abbrev pub Promised : Verdict → Type 0
-  Promised a = toldVerdict a ≡ verdictOf (readMessage layout m)
+  Promised a = told_verdict a ≡ verdict_of (read_message layout m)
 
   -- two answers that keep the promise are equal
-  pub answer-once : (a b : Verdict) → Promised a → Promised b → a ≡ b
-  answer-once a b e f = told-once a b (e ∙ sym f)
+  pub answer_once : (a b : Verdict) → Promised a → Promised b → a ≡ b
+  answer_once a b e f = told_once a b (e ∙ sym f)
 
   -- a record that the bytes are the encoding of
   pub record Says (r : Message) : Type 0 where
     pub good : GoodMessage layout r
-    pub bytes : messageBytes layout r ≡ m
+    pub bytes : message_bytes layout r ≡ m
 
   -- there is at most one
-  pub says-once : (r q : Message) → Says r → Says q → r ≡ q
-  says-once r q g h = encodes-once layout r q g.good h.good (g.bytes ∙ sym h.bytes)
+  pub says_once : (r q : Message) → Says r → Says q → r ≡ q
+  says_once r q g h = encodes_once layout r q g.good h.good (g.bytes ∙ sym h.bytes)
 
   module _ (a : Verdict) (e : Promised a) where
     -- bytes that are accepted say a record
     pub fine→says : ((k : ℕ) → get_or m k 0 < 256) → a ≡ Verdict.Fine → (r : Message) × Says r
     fine→says all told =
-        let go = verdict-go (readMessage layout m) e told in
-        let w = accepted→encodes layout m (bytes-all m all) go.0 go.1 in
+        let go = verdict_go (read_message layout m) e told in
+        let w = accepted→encodes layout m (bytes_all m all) go.0 go.1 in
         (go.0, record { good = w.0; bytes = w.1 })
 
     -- bytes that say one are accepted
     pub says→fine : (r : Message) → Says r → a ≡ Verdict.Fine
-    says→fine r g = told-once a Verdict.Fine (e ∙ ap verdictOf (ap (readMessage layout) (sym g.bytes) ∙ encodes→accepted layout r g.good))
+    says→fine r g = told_once a Verdict.Fine (e ∙ ap verdict_of (ap (read_message layout) (sym g.bytes) ∙ encodes→accepted layout r g.good))

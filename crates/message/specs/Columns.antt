@@ -3,15 +3,15 @@ use Rattle.std.specs.Prelude.{ℕ, length}
 use Rattle.format.specs.declared.Refusal.{Refusal}
 use Rattle.format.specs.Result.{Res, ok, no}
 use Rattle.format.specs.Message.{Metadata}
-use Rattle.scan.specs.Shown.{refusal, none-given}
+use Rattle.scan.specs.Shown.{refusal, none_given}
 use Rattle.message.specs.declared.Columns.{Columns}
 
 -- the metadata that was read, where the types stand at a place
-abbrev pub shownColumns : ℕ → Res (Metadata × ℕ) → Columns
-shownColumns types (ok p) = Columns.Are types (length p.0.types) p.1
-shownColumns types (no f p) = Columns.No (refusal f p)
+abbrev pub shown_columns : ℕ → Res (Metadata × ℕ) → Columns
+shown_columns types (ok p) = Columns.Are types (length p.0.types) p.1
+shown_columns types (no f p) = Columns.No (refusal f p)
 
 -- the refusal that an answer holds; one that holds none is never asked
-abbrev pub columnsNo : Columns → Refusal
-columnsNo (Columns.Are types n next) = none-given
-columnsNo (Columns.No r) = r
+abbrev pub columns_no : Columns → Refusal
+columns_no (Columns.Are types n next) = none_given
+columns_no (Columns.No r) = r

@@ -5,11 +5,11 @@ use Rattle.format.specs.declared.Fault.TheVariants.{Short, Negative, Limit, Extr
 use Rattle.format.specs.Result.{Res, ok, no, bind, pick}
 use Rattle.format.specs.Number.{half}
 use Rattle.format.specs.Format.{Format, number}
-use Rattle.format.specs.Message.{Metadata, metadata, Table, inMetadata, in_table, mostColumns, mostMessage}
+use Rattle.format.specs.Message.{Metadata, metadata, Table, in_metadata, in_table, most_columns, most_message}
 
 -- what stands in the rooms of a table, shut
 unfoldable pub described : Format Metadata
-described = inMetadata mostColumns
+described = in_metadata most_columns
 
 unfoldable pub contents : Format Table
 contents = in_table metadata
@@ -18,6 +18,6 @@ contents = in_table metadata
 unfoldable pub measured : List ℕ → Res (ℕ × ℕ)
 measured m = bind ((number 4 1).read m 0) (λ p.
     pick (eqb p.0 0 || leb (half 4) p.0) (no Negative 0)
-    (pick (ltb mostMessage p.0) (no Limit 0)
+    (pick (ltb most_message p.0) (no Limit 0)
     (pick (ltb (length m) (4 + p.0)) (no Short 0)
     (pick (ltb (4 + p.0) (length m)) (no Extra (4 + p.0)) (ok p)))))

@@ -2,18 +2,18 @@
 use Rattle.format.specs.declared.Refusal.{Refusal}
 use Rattle.format.specs.Result.{Res, ok, no}
 use Rattle.format.specs.Message.{Message}
-use Rattle.scan.specs.Shown.{none-given}
+use Rattle.scan.specs.Shown.{none_given}
 use Rattle.message.specs.declared.Verdict.{Verdict}
 
-abbrev pub toldVerdict : Verdict → Res Unit
-toldVerdict Verdict.Fine = ok tt
-toldVerdict (Verdict.No r) = no r.fault r.place
+abbrev pub told_verdict : Verdict → Res Unit
+told_verdict Verdict.Fine = ok tt
+told_verdict (Verdict.No r) = no r.fault r.place
 
-abbrev pub verdictOf : Res Message → Res Unit
-verdictOf (ok r) = ok tt
-verdictOf (no f p) = no f p
+abbrev pub verdict_of : Res Message → Res Unit
+verdict_of (ok r) = ok tt
+verdict_of (no f p) = no f p
 
 -- the refusal that an answer holds; one that holds none is never asked
-abbrev pub verdictNo : Verdict → Refusal
-verdictNo Verdict.Fine = none-given
-verdictNo (Verdict.No r) = r
+abbrev pub verdict_no : Verdict → Refusal
+verdict_no Verdict.Fine = none_given
+verdict_no (Verdict.No r) = r

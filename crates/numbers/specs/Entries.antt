@@ -10,8 +10,8 @@ abbrev pub entry_at : List ℕ → ℕ → Column
 entry_at ns i = entry (get_or ns i 0) (get_or ns (i + 1) 0) (get_or ns (i + 2) 0)
 
 -- what is left behind the last column is left out
-unfoldable pub entriesOf : List ℕ → List Column
-entriesOf [] = []
-entriesOf (t ∷ []) = []
-entriesOf (t ∷ start ∷ []) = []
-entriesOf (t ∷ start ∷ size ∷ ns) = entry t start size ∷ entriesOf ns
+unfoldable pub entries_of : List ℕ → List Column
+entries_of [] = []
+entries_of (t ∷ []) = []
+entries_of (t ∷ start ∷ []) = []
+entries_of (t ∷ start ∷ size ∷ ns) = entry t start size ∷ entries_of ns

@@ -10,17 +10,17 @@ use Rattle.query.specs.declared.ColumnLayout.{ColumnLayout}
 abbrev pub above : ℕ → ℕ
 above n = n * 2 ^ 8 % 2 ^ 64
 
-abbrev pub packedNo : Fault → ℕ → ℕ
-packedNo f p = above p + number_of f
+abbrev pub packed_no : Fault → ℕ → ℕ
+packed_no f p = above p + number_of f
 
 module _ {A : Type 0} where
   -- by the numbers that faults have, and by what an accepted thing is told
-  abbrev pub packedBy : (Fault → ℕ) → (A → ℕ) → Res A → ℕ
-  packedBy numbering told (ok a) = above (told a)
-  packedBy numbering told (no f p) = above p + numbering f
+  abbrev pub packed_by : (Fault → ℕ) → (A → ℕ) → Res A → ℕ
+  packed_by numbering told (ok a) = above (told a)
+  packed_by numbering told (no f p) = above p + numbering f
 
   abbrev pub packed : (A → ℕ) → Res A → ℕ
-  packed = packedBy number_of
+  packed = packed_by number_of
 
   abbrev pub nothing : A → ℕ
   nothing a = 0
@@ -35,8 +35,8 @@ number_in p = p.1
 abbrev pub rows_of : TableLayout → ℕ
 rows_of l = l.rows
 
-abbrev pub columnsOf : TableLayout → ℕ
-columnsOf l = l.columns
+abbrev pub columns_of : TableLayout → ℕ
+columns_of l = l.columns
 
 abbrev pub type_of : ColumnLayout → ℕ
 type_of l = l.wire_type

@@ -34,41 +34,41 @@ there Span.Null = 0
 there (Span.At start size) = 1
 
 -- 1 if a hash version is there, else 0; and the version, or 0
-abbrev pub hasEdition : Edition → ℕ
-hasEdition Edition.Absent = 0
-hasEdition (Edition.Is z) = 1
+abbrev pub has_edition : Edition → ℕ
+has_edition Edition.Absent = 0
+has_edition (Edition.Is z) = 1
 
-abbrev pub editionNumber : Edition → ℕ
-editionNumber Edition.Absent = 0
-editionNumber (Edition.Is z) = unsigned 8 z
+abbrev pub edition_number : Edition → ℕ
+edition_number Edition.Absent = 0
+edition_number (Edition.Is z) = unsigned 8 z
 
 -- kind 1
-abbrev pub loginRequestNumbers : LoginRequestRecord → List ℕ
-loginRequestNumbers r =
+abbrev pub login_request_numbers : LoginRequestRecord → List ℕ
+login_request_numbers r =
     unsigned 8 r.version
-    ∷ hasEdition r.hash_version ∷ editionNumber r.hash_version
+    ∷ has_edition r.hash_version ∷ edition_number r.hash_version
     ∷ start_of r.service ∷ size_of r.service
     ∷ start_of r.user ∷ size_of r.user
     ∷ start_of r.hash ∷ size_of r.hash ∷ []
 
 -- kind 2
-abbrev pub loginResponseNumbers : LoginResponseRecord → List ℕ
-loginResponseNumbers r =
+abbrev pub login_response_numbers : LoginResponseRecord → List ℕ
+login_response_numbers r =
     unsigned 8 r.version ∷ unsigned 8 r.result
     ∷ unsigned 8 r.host ∷ unsigned 8 r.connection ∷ unsigned 8 r.start ∷ num_at 4 r.leader 0
     ∷ there r.build ∷ start_of r.build ∷ size_of r.build ∷ []
 
 -- kind 3: last the number of its parameters and where the first begins
-abbrev pub invocationNumbers : InvocationRecord → List ℕ
-invocationNumbers r =
+abbrev pub invocation_numbers : InvocationRecord → List ℕ
+invocation_numbers r =
     unsigned 8 r.version
     ∷ start_of r.procedure ∷ size_of r.procedure
     ∷ num_at 8 r.client 0
     ∷ r.params ∷ r.params_at ∷ []
 
 -- kind 4: last the number of its tables and where the first begins
-abbrev pub responseNumbers : ResponseRecord → List ℕ
-responseNumbers r =
+abbrev pub response_numbers : ResponseRecord → List ℕ
+response_numbers r =
     unsigned 8 r.version ∷ num_at 8 r.client 0 ∷ r.flags
     ∷ unsigned 8 r.status
     ∷ form r.status_string ∷ start_of r.status_string ∷ size_of r.status_string

@@ -1,22 +1,22 @@
 // Answers and the writer's state as numbers, for the C interface, which takes and gives nothing else.
 ghost use Rattle.std.specs.Prelude.{◌≡◌, [], ◌∷◌, ◌+◌, ◌*◌, ◌<◌, ◌≤◌, length};
-ghost use Rattle.format.specs.Result.{toldAnswer};
+ghost use Rattle.format.specs.Result.{told_answer};
 ghost use Rattle.format.specs.Number.{num_at};
 ghost use Rattle.scan.specs.Signed.{unsigned};
-ghost use Rattle.message.specs.Verdict.{toldVerdict};
-ghost use Rattle.fields.specs.Told.{toldOwned};
-ghost use Rattle.query.specs.Answers.{toldTable, toldColumn, toldCell, toldPart, toldArgument};
-ghost use Rattle.cards.specs.Reasons.{reasonNumber, toldPlace, toldFit};
-ghost use Rattle.steps.specs.State.{stageNumber};
-ghost use Rattle.steps.specs.Steps.{openTable};
+ghost use Rattle.message.specs.Verdict.{told_verdict};
+ghost use Rattle.fields.specs.Told.{told_owned};
+ghost use Rattle.query.specs.Answers.{told_table, told_column, told_cell, told_part, told_argument};
+ghost use Rattle.cards.specs.Reasons.{reason_number, told_place, told_fit};
+ghost use Rattle.steps.specs.State.{stage_number};
+ghost use Rattle.steps.specs.Steps.{open_table};
 ghost use Rattle.write.specs.Shown.{Opened};
-ghost use Rattle.columns.specs.Entries.{columnsOf as entriesWith};
-ghost use Rattle.columns.specs.Walks.{Bounded, addAll, put_all, FitsAll};
-ghost use Rattle.numbers.specs.Entries.{entry_at, entriesOf};
-ghost use Rattle.numbers.specs.Packed.{above, packed, packedNo, nothing, itself, number_in, rows_of, columnsOf, type_of};
-ghost use Rattle.numbers.specs.Stored.{stageOf, byte_of, state_of, numbersOf, kept};
-ghost use Rattle.numbers.specs.Listed.{lent, bitsNumbers, cellNumbers, givenNumbers, partNumbers, placeNumbers, fitNumbers};
-ghost use Rattle.numbers.specs.Records.{form, start_of, size_of, there, hasEdition, editionNumber, loginRequestNumbers, loginResponseNumbers, invocationNumbers, responseNumbers};
+ghost use Rattle.columns.specs.Entries.{columns_of as entries_with};
+ghost use Rattle.columns.specs.Walks.{Bounded, add_all, put_all, Fits_all};
+ghost use Rattle.numbers.specs.Entries.{entry_at, entries_of};
+ghost use Rattle.numbers.specs.Packed.{above, packed, packed_no, nothing, itself, number_in, rows_of, columns_of, type_of};
+ghost use Rattle.numbers.specs.Stored.{stage_of, byte_of, state_of, numbers_of, kept};
+ghost use Rattle.numbers.specs.Listed.{lent, bits_numbers, cell_numbers, given_numbers, part_numbers, place_numbers, fit_numbers};
+ghost use Rattle.numbers.specs.Records.{form, start_of, size_of, there, has_edition, edition_number, login_request_numbers, login_response_numbers, invocation_numbers, response_numbers};
 
 use cards::{Fit, Reason};
 use columns::{Column, Head, Survey};
@@ -41,7 +41,7 @@ pub fn above(value: usize) -> u64
 }
 
 pub fn refused(refusal: Refusal) -> u64
-    ensures { result ≡ packedNo refusal.fault refusal.place }
+    ensures { result ≡ packed_no refusal.fault refusal.place }
 {
     let fault = refusal.fault;
     let place = refusal.place;
@@ -49,7 +49,7 @@ pub fn refused(refusal: Refusal) -> u64
 }
 
 pub fn pack_owned(answer: Owned) -> u64
-    ensures { result ≡ packed number_in (toldOwned answer) }
+    ensures { result ≡ packed number_in (told_owned answer) }
 {
     match answer {
         Owned::By(_, n) => above(n),
@@ -58,7 +58,7 @@ pub fn pack_owned(answer: Owned) -> u64
 }
 
 pub fn pack_rows(answer: TableAnswer) -> u64
-    ensures { result ≡ packed rows_of (toldTable answer) }
+    ensures { result ≡ packed rows_of (told_table answer) }
 {
     match answer {
         TableAnswer::Is(layout) => above(layout.rows),
@@ -67,7 +67,7 @@ pub fn pack_rows(answer: TableAnswer) -> u64
 }
 
 pub fn pack_columns(answer: TableAnswer) -> u64
-    ensures { result ≡ packed columnsOf (toldTable answer) }
+    ensures { result ≡ packed columns_of (told_table answer) }
 {
     match answer {
         TableAnswer::Is(layout) => above(layout.columns),
@@ -76,7 +76,7 @@ pub fn pack_columns(answer: TableAnswer) -> u64
 }
 
 pub fn pack_type(answer: ColumnAnswer) -> u64
-    ensures { result ≡ packed type_of (toldColumn answer) }
+    ensures { result ≡ packed type_of (told_column answer) }
 {
     match answer {
         ColumnAnswer::Is(layout) => above(layout.wire_type as usize),
@@ -85,7 +85,7 @@ pub fn pack_type(answer: ColumnAnswer) -> u64
 }
 
 fn stage_of(n: u64) -> Stage
-    ensures { result ≡ stageOf n }
+    ensures { result ≡ stage_of n }
 {
     match n {
         1 => Stage::Call,
@@ -98,7 +98,7 @@ fn stage_of(n: u64) -> Stage
 }
 
 fn stage_number(s: Stage) -> u64
-    ensures { result ≡ stageNumber s }
+    ensures { result ≡ stage_number s }
 {
     match s {
         Stage::Closed => 0,
@@ -138,7 +138,7 @@ pub fn load(numbers: &[u64; 11]) -> State
 
 // The numbers of a state.
 pub fn save(numbers: &mut [u64; 11], st: State)
-    ensures { numbers.new ≡ numbersOf st }
+    ensures { numbers.new ≡ numbers_of st }
 {
     let stage = st.stage;
     *numbers = [
@@ -158,7 +158,7 @@ pub fn save(numbers: &mut [u64; 11], st: State)
 
 // Packs a step's answer, and keeps the state that it leaves; a refusal leaves the numbers as they were.
 pub fn keep(numbers: &mut [u64; 11], step: Outcome) -> u64
-    ensures { (result ≡ packed itself (toldAnswer step.answer)) × (numbers.new ≡ kept numbers.old step.answer step.state) }
+    ensures { (result ≡ packed itself (told_answer step.answer)) × (numbers.new ≡ kept numbers.old step.answer step.state) }
 {
     let answer = step.answer;
     let state = step.state;
@@ -173,7 +173,7 @@ pub fn keep(numbers: &mut [u64; 11], step: Outcome) -> u64
 
 // The answer of a call that has no state, packed.
 pub fn pack_answer(answer: Answer) -> u64
-    ensures { result ≡ packed itself (toldAnswer answer) }
+    ensures { result ≡ packed itself (told_answer answer) }
 {
     match answer {
         Answer::Is(n) => above(n),
@@ -202,7 +202,7 @@ pub fn open_listed(
     list: &[u64],
     names: &[u8],
 ) -> Outcome
-    ensures { Opened (openTable status (entriesWith (entriesOf list.now) names.now)) st types.old out.old result types.new out.new }
+    ensures { Opened (open_table status (entries_with (entries_of list.now) names.now)) st types.old out.old result types.new out.new }
 {
     let found = survey_listed(columns::no_columns(st), list, names);
     let head = columns::open_head(out, st, status, found);
@@ -212,7 +212,7 @@ pub fn open_listed(
 // What is found of the columns of a list of numbers, behind those of a survey.
 fn survey_listed(s: Survey, list: &[u64], names: &[u8]) -> Survey
     requires { Bounded s }
-    ensures { result ≡ addAll names.now s (entriesOf list.now) }
+    ensures { result ≡ add_all names.now s (entries_of list.now) }
 {
     let mut found = s;
     let mut i = 0;
@@ -231,8 +231,8 @@ fn put_listed(
     list: &[u64],
     names: &[u8],
 ) -> Outcome
-    requires { FitsAll names.now (length out.old) head.walk (entriesOf list.now) }
-    ensures { (result ≡ head.step) × (out.exit.now ≡ (put_all names.now (record { out = out.entry.now; types = types.old; walk = head.walk }) (entriesOf list.now)).out) × (types.new ≡ (put_all names.now (record { out = out.entry.now; types = types.old; walk = head.walk }) (entriesOf list.now)).types) }
+    requires { Fits_all names.now (length out.old) head.walk (entries_of list.now) }
+    ensures { (result ≡ head.step) × (out.exit.now ≡ (put_all names.now (record { out = out.entry.now; types = types.old; walk = head.walk }) (entries_of list.now)).out) × (types.new ≡ (put_all names.now (record { out = out.entry.now; types = types.old; walk = head.walk }) (entries_of list.now)).types) }
 {
     let mut walk = columns::walk_in(head);
     let mut i = 0;
@@ -254,7 +254,7 @@ fn four(t: u8, form: u64, a: u64, b: u64) -> [u64; 4]
 
 // The numbers of a value of a fixed size.
 fn list_bits(t: u8, upper: u64, lower: u64) -> [u64; 4]
-    ensures { result ≡ bitsNumbers t upper lower }
+    ensures { result ≡ bits_numbers t upper lower }
 {
     if t != format::POINT {
         return four(t, 0, upper, lower);
@@ -267,7 +267,7 @@ fn list_bits(t: u8, upper: u64, lower: u64) -> [u64; 4]
 
 // The numbers of a shown value.
 fn list_cell(c: Cell) -> [u64; 4]
-    ensures { result ≡ cellNumbers c }
+    ensures { result ≡ cell_numbers c }
 {
     let raw = show::raw_of(c);
     match raw {
@@ -279,7 +279,7 @@ fn list_cell(c: Cell) -> [u64; 4]
 
 // Lends a cell or an element.
 pub fn lend_cell(list: &mut [u64; 4], answer: CellAnswer) -> u64
-    ensures { (result ≡ packed nothing (toldCell answer)) × (list.new ≡ lent cellNumbers (toldCell answer) list.old) }
+    ensures { (result ≡ packed nothing (told_cell answer)) × (list.new ≡ lent cell_numbers (told_cell answer) list.old) }
 {
     match answer {
         CellAnswer::Is(c) => {
@@ -293,7 +293,7 @@ pub fn lend_cell(list: &mut [u64; 4], answer: CellAnswer) -> u64
 
 // Lends a parameter.
 pub fn lend_argument(list: &mut [u64; 4], answer: Argued) -> u64
-    ensures { (result ≡ packed nothing (toldArgument answer)) × (list.new ≡ lent givenNumbers (toldArgument answer) list.old) }
+    ensures { (result ≡ packed nothing (told_argument answer)) × (list.new ≡ lent given_numbers (told_argument answer) list.old) }
 {
     match answer {
         Argued::Null => {
@@ -317,7 +317,7 @@ pub fn lend_argument(list: &mut [u64; 4], answer: Argued) -> u64
 
 // Lends a part of the message.
 pub fn lend_part(list: &mut [u64; 2], answer: Part) -> u64
-    ensures { (result ≡ packed nothing (toldPart answer)) × (list.new ≡ lent partNumbers (toldPart answer) list.old) }
+    ensures { (result ≡ packed nothing (told_part answer)) × (list.new ≡ lent part_numbers (told_part answer) list.old) }
 {
     match answer {
         Part::Is(start, size) => {
@@ -333,7 +333,7 @@ pub fn lend_part(list: &mut [u64; 2], answer: Part) -> u64
 }
 
 fn reason_number(reason: Reason) -> u64
-    ensures { result ≡ reasonNumber reason }
+    ensures { result ≡ reason_number reason }
 {
     match reason {
         Reason::Past => 1,
@@ -344,7 +344,7 @@ fn reason_number(reason: Reason) -> u64
 
 // The numbers of a reason, and of where a column stands, if one does.
 fn list_fit(reason: u64, place: Found) -> [u64; 3]
-    ensures { result ≡ reason ∷ placeNumbers (toldPlace place) }
+    ensures { result ≡ reason ∷ place_numbers (told_place place) }
 {
     match place {
         Found::At(i) => [reason, 1, i as u64],
@@ -354,7 +354,7 @@ fn list_fit(reason: u64, place: Found) -> [u64; 3]
 
 // Lends how a card fits.
 pub fn lend_fit(list: &mut [u64; 3], answer: Fit) -> u64
-    ensures { (result ≡ packed nothing (toldFit answer)) × (list.new ≡ lent fitNumbers (toldFit answer) list.old) }
+    ensures { (result ≡ packed nothing (told_fit answer)) × (list.new ≡ lent fit_numbers (told_fit answer) list.old) }
 {
     match answer {
         Fit::Fits => {
@@ -441,7 +441,7 @@ fn there(s: Span) -> u64
 
 // Whether a hash version is there: 1 or 0.
 fn has_edition(e: Edition) -> u64
-    ensures { result ≡ hasEdition e }
+    ensures { result ≡ has_edition e }
 {
     match e {
         Edition::Is(_) => 1,
@@ -451,7 +451,7 @@ fn has_edition(e: Edition) -> u64
 
 // A hash version, or 0.
 fn edition_number(e: Edition) -> u64
-    ensures { result ≡ editionNumber e }
+    ensures { result ≡ edition_number e }
 {
     match e {
         Edition::Is(z) => wide8(z),
@@ -461,7 +461,7 @@ fn edition_number(e: Edition) -> u64
 
 // The numbers of a login request. So it is of the three records below.
 fn list_login_request(r: LoginRequestRecord) -> [u64; 9]
-    ensures { result ≡ loginRequestNumbers r }
+    ensures { result ≡ login_request_numbers r }
 {
     let edition = r.hash_version;
     let service_span = r.service;
@@ -484,7 +484,7 @@ fn list_login_request(r: LoginRequestRecord) -> [u64; 9]
 }
 
 fn list_login_response(r: LoginResponseRecord) -> [u64; 9]
-    ensures { result ≡ loginResponseNumbers r }
+    ensures { result ≡ login_response_numbers r }
 {
     let text = r.build;
     let leader = r.leader;
@@ -503,7 +503,7 @@ fn list_login_response(r: LoginResponseRecord) -> [u64; 9]
 }
 
 fn list_invocation(r: InvocationRecord) -> [u64; 6]
-    ensures { result ≡ invocationNumbers r }
+    ensures { result ≡ invocation_numbers r }
 {
     let text = r.procedure;
     let client = r.client;
@@ -519,7 +519,7 @@ fn list_invocation(r: InvocationRecord) -> [u64; 6]
 }
 
 fn list_response(r: ResponseRecord) -> [u64; 17]
-    ensures { result ≡ responseNumbers r }
+    ensures { result ≡ response_numbers r }
 {
     let client = r.client;
     let status_string = r.status_string;
@@ -551,7 +551,7 @@ fn list_response(r: ResponseRecord) -> [u64; 17]
 
 // Lends the record of a login request. So it is of the three kinds below.
 pub fn lend_login_request(list: &mut [u64; 9], answer: LoginRequestShown) -> u64
-    ensures { (result ≡ packed nothing (toldVerdict answer.verdict)) × (list.new ≡ lent (λ _. loginRequestNumbers answer.shown) (toldVerdict answer.verdict) list.old) }
+    ensures { (result ≡ packed nothing (told_verdict answer.verdict)) × (list.new ≡ lent (λ _. login_request_numbers answer.shown) (told_verdict answer.verdict) list.old) }
 {
     let verdict = answer.verdict;
     let shown = answer.shown;
@@ -566,7 +566,7 @@ pub fn lend_login_request(list: &mut [u64; 9], answer: LoginRequestShown) -> u64
 }
 
 pub fn lend_login_response(list: &mut [u64; 9], answer: LoginResponseShown) -> u64
-    ensures { (result ≡ packed nothing (toldVerdict answer.verdict)) × (list.new ≡ lent (λ _. loginResponseNumbers answer.shown) (toldVerdict answer.verdict) list.old) }
+    ensures { (result ≡ packed nothing (told_verdict answer.verdict)) × (list.new ≡ lent (λ _. login_response_numbers answer.shown) (told_verdict answer.verdict) list.old) }
 {
     let verdict = answer.verdict;
     let shown = answer.shown;
@@ -581,7 +581,7 @@ pub fn lend_login_response(list: &mut [u64; 9], answer: LoginResponseShown) -> u
 }
 
 pub fn lend_invocation(list: &mut [u64; 6], answer: InvocationShown) -> u64
-    ensures { (result ≡ packed nothing (toldVerdict answer.verdict)) × (list.new ≡ lent (λ _. invocationNumbers answer.shown) (toldVerdict answer.verdict) list.old) }
+    ensures { (result ≡ packed nothing (told_verdict answer.verdict)) × (list.new ≡ lent (λ _. invocation_numbers answer.shown) (told_verdict answer.verdict) list.old) }
 {
     let verdict = answer.verdict;
     let shown = answer.shown;
@@ -596,7 +596,7 @@ pub fn lend_invocation(list: &mut [u64; 6], answer: InvocationShown) -> u64
 }
 
 pub fn lend_response(list: &mut [u64; 17], answer: ResponseShown) -> u64
-    ensures { (result ≡ packed nothing (toldVerdict answer.verdict)) × (list.new ≡ lent (λ _. responseNumbers answer.shown) (toldVerdict answer.verdict) list.old) }
+    ensures { (result ≡ packed nothing (told_verdict answer.verdict)) × (list.new ≡ lent (λ _. response_numbers answer.shown) (told_verdict answer.verdict) list.old) }
 {
     let verdict = answer.verdict;
     let shown = answer.shown;

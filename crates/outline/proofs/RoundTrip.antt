@@ -7,28 +7,28 @@ use lib.Seq.{take-append_seam, drop-append_seam}
 use native.Mathlib.Omega.{arith}
 use Rattle.format.specs.Result.{ok}
 use Rattle.format.specs.Number.{Bytes}
-use Rattle.format.specs.Geography.{Polygon, polygon, readPolygon}
+use Rattle.format.specs.Geography.{Polygon, polygon, read_polygon}
 use Rattle.format.proofs.Results.{ok_same}
-use Rattle.format.proofs.Geography.{body→encodes, encodes→body, polygon-once}
+use Rattle.format.proofs.Geography.{body→encodes, encodes→body, polygon_once}
 use Rattle.steps.specs.Plans.{Out}
 use Rattle.steps.specs.Writings.{overlaid}
 use Rattle.outline.specs.declared.State.{State}
 use Rattle.outline.specs.State.{closed}
-use Rattle.outline.specs.Steps.{Step, beginArea, run}
-use Rattle.outline.specs.Spells.{polygonSteps, AllHeld, inFront}
-use Rattle.outline.proofs.Writes.{polygon-writes}
-use Rattle.outline.proofs.Back.{Ends, steps-wrote}
+use Rattle.outline.specs.Steps.{Step, begin_area, run}
+use Rattle.outline.specs.Spells.{polygon_steps, All_held, in_front}
+use Rattle.outline.proofs.Writes.{polygon_writes}
+use Rattle.outline.proofs.Back.{Ends, steps_wrote}
 
 -- steps that were accepted up to n have written a good polygon, whose steps they are: what stands before n reads as it, and what stands behind n is as it was
 pub record ReadBack (ss : List Step) (st : State) (b : List ℕ) (n : ℕ) : Type 0 where
   pub area : Polygon
   pub good : polygon.Good area
-  pub spelled : ss ≡ polygonSteps area
-  pub wrote : run ss st b ≡ inFront b (polygon.bytes area)
-  pub read : readPolygon (take n (run ss st b).buffer) ≡ ok area
+  pub spelled : ss ≡ polygon_steps area
+  pub wrote : run ss st b ≡ in_front b (polygon.bytes area)
+  pub read : read_polygon (take n (run ss st b).buffer) ≡ ok area
   pub kept : drop n (run ss st b).buffer ≡ drop n b
 
-read_back : (ss : List Step) (st : State) (b : List ℕ) (n : ℕ) (p : Polygon) → (run ss st b).answer ≡ ok n → polygon.Good p → ss ≡ polygonSteps p → run ss st b ≡ inFront b (polygon.bytes p)
+read_back : (ss : List Step) (st : State) (b : List ℕ) (n : ℕ) (p : Polygon) → (run ss st b).answer ≡ ok n → polygon.Good p → ss ≡ polygon_steps p → run ss st b ≡ in_front b (polygon.bytes p)
     → ReadBack ss st b n
 read_back ss st b n p e g s w =
     let m = polygon.bytes p in
@@ -43,26 +43,26 @@ read_back ss st b n p e g s w =
       kept = rw (buffer, same) (drop-append_seam m (drop (length m) b));
     }
 
-pub read-written : (e i : ℕ) → e < 256 → i < 256 → (ss : List Step) → AllHeld ss → (st : State) (b : List ℕ) → (ended : Ends (run (beginArea e i ∷ ss) st b)) → ReadBack (beginArea e i ∷ ss) st b ended.0
-read-written e i h j ss held st b ended =
-    let w = steps-wrote e i h j ss held st b ended in
-    read_back (beginArea e i ∷ ss) st b ended.0 w.0.area ended.1 w.0.good w.0.spelled w.1
+pub read_written : (e i : ℕ) → e < 256 → i < 256 → (ss : List Step) → All_held ss → (st : State) (b : List ℕ) → (ended : Ends (run (begin_area e i ∷ ss) st b)) → ReadBack (begin_area e i ∷ ss) st b ended.0
+read_written e i h j ss held st b ended =
+    let w = steps_wrote e i h j ss held st b ended in
+    read_back (begin_area e i ∷ ss) st b ended.0 w.0.area ended.1 w.0.good w.0.spelled w.1
 
 -- and it is the only one: no two good polygons spell the same steps
-pub spells-once : (p q : Polygon) → polygon.Good p → polygon.Good q → polygonSteps p ≡ polygonSteps q → p ≡ q
-spells-once p q g h e =
+pub spells_once : (p q : Polygon) → polygon.Good p → polygon.Good q → polygon_steps p ≡ polygon_steps q → p ≡ q
+spells_once p q g h e =
     let x = polygon.bytes p in
     let y = polygon.bytes q in
     let b = x ++ y in
     let l = length-append x y in
-    let same : inFront b x ≡ inFront b y
-    = sym (polygon-writes p g (closed 0) b (omega arith)) ∙ (ap (λ (ss : List Step). run ss (closed 0) b) e ∙ polygon-writes q h (closed 0) b (omega arith)) in
+    let same : in_front b x ≡ in_front b y
+    = sym (polygon_writes p g (closed 0) b (omega arith)) ∙ (ap (λ (ss : List Step). run ss (closed 0) b) e ∙ polygon_writes q h (closed 0) b (omega arith)) in
     let n : length x ≡ length y = ok_same (ap (λ (o : Out State). o.answer) same) in
     let bytes : take (length x) (overlaid b x) ≡ take (length x) (overlaid b y) = ap (λ (o : Out State). take (length x) o.buffer) same in
-    polygon-once p q g h (sym (take-append_seam x _) ∙ (bytes ∙ rw n (take-append_seam y _)))
+    polygon_once p q g h (sym (take-append_seam x _) ∙ (bytes ∙ rw n (take-append_seam y _)))
 
 -- the steps that the polygon of an accepted body spells put the body in front of any buffer that is long enough, and change no other byte
-pub written_read : (m : List ℕ) → Bytes m → (p : Polygon) → readPolygon m ≡ ok p → (st : State) (b : List ℕ) → length m ≤ length b → run (polygonSteps p) st b ≡ inFront b m
+pub written_read : (m : List ℕ) → Bytes m → (p : Polygon) → read_polygon m ≡ ok p → (st : State) (b : List ℕ) → length m ≤ length b → run (polygon_steps p) st b ≡ in_front b m
 written_read m bytes p e st b room =
     let z = body→encodes m bytes p e in
-    subst (λ (x : List ℕ). length x ≤ length b → run (polygonSteps p) st b ≡ inFront b x) z.1 (polygon-writes p z.0 st b) room
+    subst (λ (x : List ℕ). length x ≤ length b → run (polygon_steps p) st b ≡ in_front b x) z.1 (polygon_writes p z.0 st b) room

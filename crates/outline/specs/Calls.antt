@@ -2,13 +2,13 @@
 -- call is accepted, and of its arguments no more is said than their types say.
 use Rattle.std.specs.Prelude.{ℕ, ◌<◌, ◌≡◌, List, [], ◌∷◌, ◌++◌, length, take}
 use Rattle.format.specs.Result.{ok}
-use Rattle.format.specs.Geography.{Polygon, polygon, readPolygon}
+use Rattle.format.specs.Geography.{Polygon, polygon, read_polygon}
 use Rattle.format.specs.declared.Answer.TheVariants.{Is}
 use Rattle.steps.specs.Writings.{overlaid}
 use Rattle.outline.specs.declared.Outcome.{Outcome}
 use Rattle.outline.specs.State.{closed}
-use Rattle.outline.specs.Steps.{Step, beginArea, finishArea}
-use Rattle.outline.specs.Spells.{Held, polygonSteps}
+use Rattle.outline.specs.Steps.{Step, begin_area, finish_area}
+use Rattle.outline.specs.Spells.{Held, polygon_steps}
 use Rattle.outline.specs.Shown.{Stepped}
 
 -- what a call leaves: its outcome, and the buffer
@@ -22,28 +22,28 @@ Chain [] l = Unit
 Chain (s ∷ ss) l = Held s × (next : Left) × Stepped s l.came.state l.buffer next.came next.buffer × Chain ss next
 
 -- from a call that left l on each was accepted, and the last answered n and left the buffer b'
-abbrev pub ChainTo : (ss : List Step) (l : Left) → Chain ss l → ℕ → List ℕ → Type 0
-ChainTo [] l c n b' = (l.came.answer ≡ Is n) × (l.buffer ≡ b')
-ChainTo (s ∷ ss) l c n b' = ((m : ℕ) × (l.came.answer ≡ Is m)) × ChainTo ss c.1 c.3 n b'
+abbrev pub Chain_to : (ss : List Step) (l : Left) → Chain ss l → ℕ → List ℕ → Type 0
+Chain_to [] l c n b' = (l.came.answer ≡ Is n) × (l.buffer ≡ b')
+Chain_to (s ∷ ss) l c n b' = ((m : ℕ) × (l.came.answer ≡ Is m)) × Chain_to ss c.1 c.3 n b'
 
 -- the calls of a begin and of the steps behind it on a buffer b
 abbrev pub Calls : ℕ → ℕ → List Step → List ℕ → Type 0
 Calls edition internal ss b =
-    (edition < 256) × (internal < 256) × (l : Left) × Stepped (beginArea edition internal) (closed 0) b l.came l.buffer × Chain ss l
+    (edition < 256) × (internal < 256) × (l : Left) × Stepped (begin_area edition internal) (closed 0) b l.came l.buffer × Chain ss l
 
 -- each of them was accepted, and the last answered n and left the buffer b'
-abbrev pub CallsTo : (edition internal : ℕ) (ss : List Step) (b : List ℕ) → Calls edition internal ss b → ℕ → List ℕ → Type 0
-CallsTo edition internal ss b c n b' = ChainTo ss c.2 c.4 n b'
+abbrev pub Calls_to : (edition internal : ℕ) (ss : List Step) (b : List ℕ) → Calls edition internal ss b → ℕ → List ℕ → Type 0
+Calls_to edition internal ss b c n b' = Chain_to ss c.2 c.4 n b'
 
 -- the last of some steps finishes the area
 abbrev pub Finished : List Step → Type 0
-Finished ss = (before : List Step) × (kept : List ℕ) × (ss ≡ before ++ (finishArea kept ∷ []))
+Finished ss = (before : List Step) × (kept : List ℕ) × (ss ≡ before ++ (finish_area kept ∷ []))
 
 -- what was written: a good polygon, which the steps spell, stands in front of the buffer b, with every byte behind it as it was; n is its length, and it is read
 pub record Wrote (ss : List Step) (b : List ℕ) (n : ℕ) (b' : List ℕ) : Type 0 where
   pub area : Polygon
   pub good : polygon.Good area
-  pub spelled : ss ≡ polygonSteps area
+  pub spelled : ss ≡ polygon_steps area
   pub size : n ≡ length (polygon.bytes area)
   pub buffer : b' ≡ overlaid b (polygon.bytes area)
-  pub read : readPolygon (take n b') ≡ ok area
+  pub read : read_polygon (take n b') ≡ ok area

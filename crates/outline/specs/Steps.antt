@@ -5,19 +5,19 @@ use Rattle.format.specs.declared.Fault.TheVariants.{Geography}
 use Rattle.format.specs.Result.{ok}
 use Rattle.format.specs.Format.{Verdict, fine}
 use Rattle.format.specs.Message.{unlimited}
-use Rattle.format.specs.Geography.{vertex, ring, polygon, holesOf, fewestVertices}
+use Rattle.format.specs.Geography.{vertex, ring, polygon, holes_of, fewest_vertices}
 use Rattle.steps.specs.Plans.{Fill, Plan, Out, carry, after, test}
 use Rattle.outline.specs.declared.Outline.TheVariants.{Area, Ring}
 use Rattle.outline.specs.declared.State.{State}
-use Rattle.outline.specs.State.{closed, areaAt, ringAt, atStage}
+use Rattle.outline.specs.State.{closed, area_state, ring_state, at_stage}
 
 -- the steps, with their arguments
 pub data Step : Type 0 where
-  beginArea : ℕ → ℕ → Step  -- encoding version, internal
-  openRing : ℕ → Step  -- the ring's byte
-  addVertex : ℕ → ℕ → ℕ → Step  -- the bits of x, y and z
-  closeRing : List ℕ → Step  -- the ring's kept bytes
-  finishArea : List ℕ → Step  -- the area's kept bytes
+  begin_area : ℕ → ℕ → Step  -- encoding version, internal
+  open_ring : ℕ → Step  -- the ring's byte
+  add_vertex : ℕ → ℕ → ℕ → Step  -- the bits of x, y and z
+  close_ring : List ℕ → Step  -- the ring's kept bytes
+  finish_area : List ℕ → Step  -- the area's kept bytes
 
 -- A plan: what it asks, what it writes and fills, what it leaves. A body has no limit of its own, so the most that a step may reach is what it does reach.
 abbrev pub writing : (permitted : Bool) (faults : Verdict) (limits : Bool) → (at : ℕ) (bytes : List ℕ) (fills : List Fill) → (next : ℕ → State) → Plan State
@@ -27,25 +27,25 @@ writing permitted faults limits at bs fills next =
 -- What a begin and an opened ring write are the bytes of a polygon and of a ring that have nothing yet: the third byte and the counts hold zeros. The third byte stands
 -- at 2, the ring count behind it, a vertex count behind its ring's byte.
 abbrev pub plan : Step → State → ℕ → Plan State
-plan (beginArea edition internal) st size =
+plan (begin_area edition internal) st size =
     writing true fine true
     0 (polygon.bytes (record { edition = edition; internal = internal; holes = 0; rings = []; kept = [] })) []
-    (λ n. areaAt n 0)
-plan (openRing mark) st size =
-    writing (atStage Area st size) fine (leb (st.rings + 1) unlimited)
+    (λ n. area_state n 0)
+plan (open_ring mark) st size =
+    writing (at_stage Area st size) fine (leb (st.rings + 1) unlimited)
     st.position (ring.bytes (record { mark = mark; vertices = []; kept = [] })) []
-    (λ n. ringAt n (st.rings + 1) st.position 0)
-plan (addVertex x y z) st size =
-    writing (atStage Ring st size) fine (leb (st.vertices + 1) unlimited)
+    (λ n. ring_state n (st.rings + 1) st.position 0)
+plan (add_vertex x y z) st size =
+    writing (at_stage Ring st size) fine (leb (st.vertices + 1) unlimited)
     st.position (vertex.bytes (x ∷ y ∷ z ∷ [])) []
-    (λ n. ringAt n st.rings st.ring_at (st.vertices + 1))
-plan (closeRing kept) st size =
-    writing (atStage Ring st size) (test (leb fewestVertices st.vertices) Geography st.position) true
+    (λ n. ring_state n st.rings st.ring_at (st.vertices + 1))
+plan (close_ring kept) st size =
+    writing (at_stage Ring st size) (test (leb fewest_vertices st.vertices) Geography st.position) true
     st.position kept (record { at = st.ring_at + 1; width = 4; number = st.vertices } ∷ [])
-    (λ n. areaAt n st.rings)
-plan (finishArea kept) st size =
-    writing (atStage Area st size) (test (leb 1 st.rings) Geography st.position) true
-    st.position kept (record { at = 2; width = 1; number = holesOf st.rings } ∷ record { at = 3; width = 4; number = st.rings } ∷ [])
+    (λ n. area_state n st.rings)
+plan (finish_area kept) st size =
+    writing (at_stage Area st size) (test (leb 1 st.rings) Geography st.position) true
+    st.position kept (record { at = 2; width = 1; number = holes_of st.rings } ∷ record { at = 3; width = 4; number = st.rings } ∷ [])
     closed
 
 unfoldable pub step : Step → State → List ℕ → Out State

@@ -2,12 +2,12 @@
 ghost use Rattle.std.specs.Prelude.{◌≡◌, ◌+◌, ◌^◌, ◌<◌, ◌≤◌, true, leb, eqb};
 ghost use Rattle.format.specs.declared.Fault.TheVariants.{Geography};
 ghost use Rattle.format.specs.Result.{no};
-ghost use Rattle.format.specs.Geography.{holesOf};
-ghost use Rattle.steps.specs.Plans.{answerWithin, test};
-ghost use Rattle.write.specs.Shown.{shownAnswer};
+ghost use Rattle.format.specs.Geography.{holes_of};
+ghost use Rattle.steps.specs.Plans.{answer_within, test};
+ghost use Rattle.write.specs.Shown.{shown_answer};
 ghost use Rattle.outline.specs.declared.Outline.TheVariants.{Area, Ring};
-ghost use Rattle.outline.specs.State.{ringHead, closed, areaAt, ringAt, stageNumber, atStage};
-ghost use Rattle.outline.specs.Steps.{beginArea, openRing, addVertex, closeRing, finishArea};
+ghost use Rattle.outline.specs.State.{ring_head, closed, area_state, ring_state, stage_number, at_stage};
+ghost use Rattle.outline.specs.Steps.{begin_area, open_ring, add_vertex, close_ring, finish_area};
 ghost use Rattle.outline.specs.Shown.{Stepped};
 
 use format::{Answer, Fault, Refusal};
@@ -50,7 +50,7 @@ const FEWEST_VERTICES: usize = format::FEWEST_VERTICES as usize;
 
 // Begins an area by its encoding version and its internal byte. Its third byte and its ring count hold zeros until it is finished.
 pub fn begin(out: &mut [u8], edition: u8, internal: u8) -> Outcome
-    ensures { Stepped (beginArea edition internal) (closed 0) out.old result out.new }
+    ensures { Stepped (begin_area edition internal) (closed 0) out.old result out.new }
 {
     let a = judge(true, true, true, 0, AREA_HEAD, out.len());
     let Answer::Is(n) = a else {
@@ -71,7 +71,7 @@ pub fn begin(out: &mut [u8], edition: u8, internal: u8) -> Outcome
 
 // Opens a ring by its byte; its vertex count holds zeros until it is closed.
 pub fn open_ring(out: &mut [u8], st: State, mark: u8) -> Outcome
-    ensures { Stepped (openRing mark) st out.old result out.new }
+    ensures { Stepped (open_ring mark) st out.old result out.new }
 {
     let at = st.position;
     let size = out.len();
@@ -94,7 +94,7 @@ pub fn open_ring(out: &mut [u8], st: State, mark: u8) -> Outcome
 
 // Writes a vertex of the open ring by the bits of its three floats: any bits are a float.
 pub fn add_vertex(out: &mut [u8], st: State, x: u64, y: u64, z: u64) -> Outcome
-    ensures { Stepped (addVertex x y z) st out.old result out.new }
+    ensures { Stepped (add_vertex x y z) st out.old result out.new }
 {
     let at = st.position;
     let size = out.len();
@@ -118,7 +118,7 @@ pub fn add_vertex(out: &mut [u8], st: State, x: u64, y: u64, z: u64) -> Outcome
 
 // Closes the open ring by its kept bytes, and fills its vertex count.
 pub fn close_ring(out: &mut [u8], st: State, kept: &[u8; format::RING_KEPT]) -> Outcome
-    ensures { Stepped (closeRing kept.now) st out.old result out.new }
+    ensures { Stepped (close_ring kept.now) st out.old result out.new }
 {
     let block: &[u8] = kept;
     let at = st.position;
@@ -142,7 +142,7 @@ pub fn close_ring(out: &mut [u8], st: State, kept: &[u8; format::RING_KEPT]) -> 
 
 // Finishes the area by its kept bytes, and fills its third byte and its ring count.
 pub fn finish(out: &mut [u8], st: State, kept: &[u8; format::AREA_KEPT]) -> Outcome
-    ensures { Stepped (finishArea kept.now) st out.old result out.new }
+    ensures { Stepped (finish_area kept.now) st out.old result out.new }
 {
     let block: &[u8] = kept;
     let at = st.position;
@@ -168,7 +168,7 @@ pub fn finish(out: &mut [u8], st: State, kept: &[u8; format::AREA_KEPT]) -> Outc
 // The answer of a step that writes so many bytes at a place: 13, 25 for too few rings or vertices, 3 for one too many, then 8.
 fn judge(permitted: bool, enough: bool, more: bool, at: usize, bytes: usize, size: usize) -> Answer
     requires { (permitted ≡ true → at ≤ size) × (bytes ≤ 38) × (size + 38 < 2 ^ 64) }
-    ensures { result ≡ shownAnswer (answerWithin (at + bytes) permitted (test enough Geography at) more at bytes size) }
+    ensures { result ≡ shown_answer (answer_within (at + bytes) permitted (test enough Geography at) more at bytes size) }
 {
     if !permitted {
         return refuse(Fault::Stage, at);
@@ -187,14 +187,14 @@ fn judge(permitted: bool, enough: bool, more: bool, at: usize, bytes: usize, siz
 }
 
 fn refuse(fault: Fault, place: usize) -> Answer
-    ensures { result ≡ shownAnswer (no fault place) }
+    ensures { result ≡ shown_answer (no fault place) }
 {
     Answer::No(Refusal { fault, place })
 }
 
 // The number of a stage.
 fn stage_number(stage: Outline) -> u8
-    ensures { result ≡ stageNumber stage }
+    ensures { result ≡ stage_number stage }
 {
     match stage {
         Outline::Closed => 0,
@@ -205,7 +205,7 @@ fn stage_number(stage: Outline) -> u8
 
 // Whether a state is at a stage, by the stage's number.
 fn is_at(st: State, number: u8) -> bool
-    ensures { result ≡ eqb (stageNumber st.stage) number }
+    ensures { result ≡ eqb (stage_number st.stage) number }
 {
     let stage = st.stage;
     stage_number(stage) == number
@@ -213,7 +213,7 @@ fn is_at(st: State, number: u8) -> bool
 
 // Whether a step between rings is permitted.
 fn at_area(st: State, size: usize) -> bool
-    ensures { result ≡ atStage Area st size }
+    ensures { result ≡ at_stage Area st size }
 {
     let behind = AREA_HEAD <= st.position;
     let inside = st.position <= size;
@@ -223,7 +223,7 @@ fn at_area(st: State, size: usize) -> bool
 
 // Whether a step in a ring is permitted.
 fn at_ring(st: State, size: usize) -> bool
-    ensures { result ≡ atStage Ring st size }
+    ensures { result ≡ at_stage Ring st size }
 {
     let few_rings = st.rings <= MOST;
     let behind = AREA_HEAD <= st.ring_at;
@@ -236,7 +236,7 @@ fn at_ring(st: State, size: usize) -> bool
 
 // Whether the byte and the count of a ring that began at a place end by a position.
 fn begun_by(ring: usize, position: usize) -> bool
-    ensures { result ≡ leb (ring + ringHead) position }
+    ensures { result ≡ leb (ring + ring_head) position }
 {
     if position < RING_HEAD {
         return false;
@@ -246,7 +246,7 @@ fn begun_by(ring: usize, position: usize) -> bool
 
 // What the third byte says of so many rings.
 fn holes_of(rings: usize) -> u64
-    ensures { result ≡ holesOf rings }
+    ensures { result ≡ holes_of rings }
 {
     if 2 <= rings { 1 } else { 0 }
 }
@@ -266,7 +266,7 @@ fn nothing_open(position: usize) -> State
 
 // The state between rings, with so many of them.
 fn between_rings(position: usize, rings: usize) -> State
-    ensures { result ≡ areaAt position rings }
+    ensures { result ≡ area_state position rings }
 {
     State {
         stage: Outline::Area,
@@ -279,7 +279,7 @@ fn between_rings(position: usize, rings: usize) -> State
 
 // The state in a ring that began at a place, with so many vertices.
 fn in_ring(position: usize, rings: usize, start: usize, vertices: usize) -> State
-    ensures { result ≡ ringAt position rings start vertices }
+    ensures { result ≡ ring_state position rings start vertices }
 {
     State {
         stage: Outline::Ring,

@@ -20,12 +20,12 @@ module _ {A : Type 0} (at-index : ℕ → Index → Index) (r : ℕ → Format A
     pub few : i ≤ n
     pub left : (all : List A) (end : ℕ) → (rest 0).read s from ≡ ok (all, end) → (others : List A) × ((rest i).read s at ≡ ok (others, end))
 
-  pub round-first : Round 0 from
-  round-first = record { few = omega arith; left = λ all end e. (all, e) }
+  pub round_first : Round 0 from
+  round_first = record { few = omega arith; left = λ all end e. (all, e) }
 
-  pub round-last : {i at : ℕ} → n ≤ i → Round i at → Passes (rest 0) s from at
+  pub round_last : {i at : ℕ} → n ≤ i → Round i at → Passes (rest 0) s from at
   unfolding each nothing formats
-  round-last {i} {at} h w = record {
+  round_last {i} {at} h w = record {
     ends = λ all end e.
         let none : n - i ≡ 0 = omega arith in
         let z = rw none at (w.left all end e) in
@@ -43,9 +43,9 @@ module _ {A : Type 0} (at-index : ℕ → Index → Index) (r : ℕ → Format A
       let far : q.0.1 ≡ end = ap (λ (w : List A × ℕ). w.1) (ok_same q.2) in
       (q.0.0, rw there q.1 ∙ ap (λ (z : ℕ). ok (q.0.0, z)) far)
 
-  pub round-next : (i : ℕ) {at next : ℕ} → i < n → Round i at → Passes (r i) s at next → Round (i + 1) next
+  pub round_next : (i : ℕ) {at next : ℕ} → i < n → Round i at → Passes (r i) s at next → Round (i + 1) next
   unfolding formats
-  round-next i h w t = record {
+  round_next i h w t = record {
     few = omega arith;
     left = λ all end e.
         let one : n - i ≡ suc (n - (i + 1)) = omega arith in

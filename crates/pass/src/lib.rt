@@ -4,7 +4,7 @@ ghost use Rattle.std.specs.Prelude.{Bool, List, map, ℕ, replicate};
 ghost use Rattle.std.proofs.Math.Option.{none};
 ghost use Rattle.format.specs.Format.{number, each, present, Verdict};
 ghost use Rattle.format.specs.Value.{string, value};
-ghost use Rattle.format.specs.Message.{first, second, third, items, argument, param, trip, afterFlags, head};
+ghost use Rattle.format.specs.Message.{first, second, third, items, argument, param, trip, after_flags, head};
 ghost use Rattle.pass.specs.Passes.{Passes};
 
 // Past n bytes.
@@ -147,7 +147,7 @@ fn pass_trip(s: &[u8], at: usize, timed: bool) -> usize
 
 // Past a response's head from its status on.
 fn pass_flagged(s: &[u8], at: usize, timed: bool, flags: u8) -> usize
-    ensures { Passes (afterFlags timed flags) s.now at result }
+    ensures { Passes (after_flags timed flags) s.now at result }
 {
     let string = pass_fixed(s, at, 1);
     let application = pass_optional(s, string, scan::has_flag(flags, format::STATUS_STRING));

@@ -5,7 +5,7 @@ use Rattle.format.specs.declared.Fault.TheVariants.{WireType, PastEnd}
 use Rattle.format.specs.Result.{Res, ok, no, bind}
 use Rattle.format.specs.Value.{Value, fixed}
 use Rattle.format.specs.Message.{Table, Items, bytes, values, Argument, null, one, array}
-use Rattle.places.specs.Places.{typeAt, rowAt, cell_at, argumentAt, elementAt}
+use Rattle.places.specs.Places.{column_type_at, row_at, cell_at, argument_at, element_at}
 
 module _ {A : Type 0} where
   -- the i-th of a list
@@ -22,24 +22,24 @@ pub record Here : Type 0 where
   pub value : Value
 
 -- the cell at row k and column c of a table at a place
-abbrev pub cellHere : ℕ → Table → ℕ → ℕ → Res Here
-cellHere at b k c = bind (entry b.rows k) (λ cells. bind (entry b.metadata.types c) (λ t. bind (entry cells c) (λ v.
-    ok (record { type = t; type_at = typeAt at b.metadata c; at = cell_at (rowAt at b k) b.metadata.types cells c; value = v }))))
+abbrev pub cell_here : ℕ → Table → ℕ → ℕ → Res Here
+cell_here at b k c = bind (entry b.rows k) (λ cells. bind (entry b.metadata.types c) (λ t. bind (entry cells c) (λ v.
+    ok (record { type = t; type_at = column_type_at at b.metadata c; at = cell_at (row_at at b k) b.metadata.types cells c; value = v }))))
 
 -- the value of a parameter that is one; any other is refused at its type
-abbrev pub valueHere : ℕ → ℕ → Argument → Res Here
-valueHere at t (one v) = ok (record { type = t; type_at = at; at = argumentAt at; value = v })
-valueHere at t null = no WireType at
-valueHere at t (array e l) = no WireType at
+abbrev pub value_here : ℕ → ℕ → Argument → Res Here
+value_here at t (one v) = ok (record { type = t; type_at = at; at = argument_at at; value = v })
+value_here at t null = no WireType at
+value_here at t (array e l) = no WireType at
 
 -- the elements of an array, bytes as tinyints
-abbrev pub valuesIn : Items → List Value
-valuesIn (bytes none) = []
-valuesIn (bytes (some bs)) = map fixed bs
-valuesIn (values l) = l
+abbrev pub values_in : Items → List Value
+values_in (bytes none) = []
+values_in (bytes (some bs)) = map fixed bs
+values_in (values l) = l
 
 -- element e of an array; the parameter of any other type is refused at that
-abbrev pub elementOf : ℕ → Argument → ℕ → Res Here
-elementOf at null e = no WireType at
-elementOf at (one v) e = no WireType at
-elementOf at (array t l) e = bind (entry (valuesIn l) e) (λ v. ok (record { type = t; type_at = argumentAt at; at = elementAt at t l e; value = v }))
+abbrev pub element_of : ℕ → Argument → ℕ → Res Here
+element_of at null e = no WireType at
+element_of at (one v) e = no WireType at
+element_of at (array t l) e = bind (entry (values_in l) e) (λ v. ok (record { type = t; type_at = argument_at at; at = element_at at t l e; value = v }))

@@ -2,7 +2,7 @@
 use Rattle.std.specs.Prelude.{ℕ, ◌+◌, Bool, List, ◌++◌, length, take, drop}
 use Rattle.std.proofs.Math.Option.{Option, some, none}
 use Rattle.format.specs.Result.{pick}
-use Rattle.format.specs.Number.{numBytes, null4}
+use Rattle.format.specs.Number.{num_bytes, null4}
 
 -- the bytes bs, put at a place of a buffer
 unfoldable pub put : List ℕ → ℕ → List ℕ → List ℕ
@@ -14,5 +14,5 @@ optional null bs = pick null none (some bs)
 
 -- a length and its bytes, -1 for null
 abbrev pub sized : Option (List ℕ) → List ℕ
-sized none = numBytes 4 null4
-sized (some bs) = numBytes 4 (length bs) ++ bs
+sized none = num_bytes 4 null4
+sized (some bs) = num_bytes 4 (length bs) ++ bs

@@ -1,13 +1,13 @@
 // Leaf writers. Each writes into the part of the output that it is lent, from the part's start; the functions at a place lend that part.
 ghost use Rattle.std.specs.Prelude.{◌≡◌, ◌+◌, ◌*◌, ◌^◌, ◌≤◌, ◌++◌, length, take, drop};
-ghost use Rattle.format.specs.Number.{numBytes};
+ghost use Rattle.format.specs.Number.{num_bytes};
 ghost use Rattle.format.specs.Value.{width_of};
 ghost use Rattle.put.specs.Put.{put, optional, sized};
 
 // Writes the 4 lowest bytes of a number.
 fn put_four(out: &mut [u8], n: u64)
     requires { 4 ≤ length out.old }
-    ensures { out.new ≡ numBytes 4 n ++ drop 4 out.old }
+    ensures { out.new ≡ num_bytes 4 n ++ drop 4 out.old }
 {
     out[0] = (n / 16777216 % 256) as u8;
     out[1] = (n / 65536 % 256) as u8;
@@ -18,7 +18,7 @@ fn put_four(out: &mut [u8], n: u64)
 // Writes the 8 bytes of a number: its upper four, then its lower four.
 fn put_eight(out: &mut [u8], n: u64)
     requires { 8 ≤ length out.old }
-    ensures { out.new ≡ numBytes 8 n ++ drop 8 out.old }
+    ensures { out.new ≡ num_bytes 8 n ++ drop 8 out.old }
 {
     put_four(out, n / 4294967296);
     put_four(&mut out[4..], n);
@@ -27,7 +27,7 @@ fn put_eight(out: &mut [u8], n: u64)
 // Writes the k lowest bytes of a number, from its last to its first.
 fn put_each(out: &mut [u8], n: u64, k: usize)
     requires { k ≤ length out.old }
-    ensures { out.new ≡ numBytes k n ++ drop k out.old }
+    ensures { out.new ≡ num_bytes k n ++ drop k out.old }
 {
     let mut rest = n;
     let mut i = k;
@@ -41,7 +41,7 @@ fn put_each(out: &mut [u8], n: u64, k: usize)
 // Writes the k bytes of a number; those of 8 and 4 bytes without a loop.
 pub fn put_number(out: &mut [u8], n: u64, k: usize)
     requires { k ≤ length out.old }
-    ensures { out.new ≡ numBytes k n ++ drop k out.old }
+    ensures { out.new ≡ num_bytes k n ++ drop k out.old }
 {
     if k == 8 {
         put_eight(out, n);
@@ -111,7 +111,7 @@ pub fn put_bytes(out: &mut [u8], s: &[u8])
 // Writes a value of a fixed size, by its upper and lower 64 bits.
 pub fn put_fixed(out: &mut [u8], t: u8, upper: u64, lower: u64)
     requires { width_of t ≤ length out.old }
-    ensures { out.new ≡ numBytes (width_of t) (upper * 2 ^ 64 + lower) ++ drop (width_of t) out.old }
+    ensures { out.new ≡ num_bytes (width_of t) (upper * 2 ^ 64 + lower) ++ drop (width_of t) out.old }
 {
     let width = scan::width_of(t);
     if width == 16 {
@@ -138,7 +138,7 @@ pub fn put_text(out: &mut [u8], null: bool, s: &[u8])
 // Writes the k bytes of a number at a place, and says where they end.
 pub fn number_at(out: &mut [u8], at: usize, n: u64, k: usize) -> usize
     requires { at + k ≤ length out.old }
-    ensures { (result ≡ at + k) × (out.new ≡ put out.old at (numBytes k n)) }
+    ensures { (result ≡ at + k) × (out.new ≡ put out.old at (num_bytes k n)) }
 {
     put_number(&mut out[at..], n, k);
     at + k
@@ -156,7 +156,7 @@ pub fn bytes_at(out: &mut [u8], at: usize, s: &[u8]) -> usize
 // Writes a value of a fixed size at a place, and says where it ends.
 pub fn fixed_at(out: &mut [u8], at: usize, t: u8, upper: u64, lower: u64) -> usize
     requires { at + width_of t ≤ length out.old }
-    ensures { (result ≡ at + width_of t) × (out.new ≡ put out.old at (numBytes (width_of t) (upper * 2 ^ 64 + lower))) }
+    ensures { (result ≡ at + width_of t) × (out.new ≡ put out.old at (num_bytes (width_of t) (upper * 2 ^ 64 + lower))) }
 {
     put_fixed(&mut out[at..], t, upper, lower);
     at + scan::width_of(t)

@@ -17,34 +17,34 @@ use Rattle.format.specs.Format.{each, counted, nothing}
 use Rattle.format.specs.Value.{anything}
 use Rattle.format.specs.Message.{third, unlimited}
 use Rattle.format.proofs.Results.{ok_same, no_ok}
-use Rattle.format.proofs.Numbers.{length-numBytes}
-use Rattle.format.proofs.Lengths.{lawful-counted}
+use Rattle.format.proofs.Numbers.{length-num_bytes}
+use Rattle.format.proofs.Lengths.{lawful_counted}
 use Rattle.scan.proofs.Counted.{Here}
 use Rattle.places.specs.Stands.{Stands}
-use Rattle.places.proofs.Stands.{stands_read, stands-head, stands-tail, stands_at}
+use Rattle.places.proofs.Stands.{stands_read, stands_head, stands_tail, stands_at_lem}
 use Rattle.places.proofs.Lists.{sized}
 use Rattle.places.proofs.Layouts.{name}
-use Rattle.query.specs.Answers.{same, firstNamed}
-use Rattle.query.proofs.Ends.{EqualFrom, equal-from-end}
+use Rattle.query.specs.Answers.{same, first_named}
+use Rattle.query.proofs.Ends.{Equal_from, equal_from_end}
 
 -- `same` is equality
-pub same-yes : (xs : List ℕ) → same xs xs ≡ true
+pub same_yes : (xs : List ℕ) → same xs xs ≡ true
 unfolding same
-same-yes [] = refl
-same-yes (x ∷ xs) = ap (λ (z : Bool). z && same xs xs) (is_true (eqb x x) (eqb_refl x)) ∙ same-yes xs
+same_yes [] = refl
+same_yes (x ∷ xs) = ap (λ (z : Bool). z && same xs xs) (is_true (eqb x x) (eqb_refl x)) ∙ same_yes xs
 
-same-eq : (xs ys : List ℕ) → T (same xs ys) → xs ≡ ys
+same_eq : (xs ys : List ℕ) → T (same xs ys) → xs ≡ ys
 unfolding same
-same-eq [] [] t = refl
-same-eq [] (y ∷ ys) t = absurd t
-same-eq (x ∷ xs) [] t = absurd t
-same-eq (x ∷ xs) (y ∷ ys) t = ap (λ (a : ℕ). a ∷ xs) (eqb→eq x y (and_l (eqb x y) (same xs ys) t)) ∙ ap (λ (zs : List ℕ). y ∷ zs) (same-eq xs ys (and_r (eqb x y) (same xs ys) t))
+same_eq [] [] t = refl
+same_eq [] (y ∷ ys) t = absurd t
+same_eq (x ∷ xs) [] t = absurd t
+same_eq (x ∷ xs) (y ∷ ys) t = ap (λ (a : ℕ). a ∷ xs) (eqb→eq x y (and_l (eqb x y) (same xs ys) t)) ∙ ap (λ (zs : List ℕ). y ∷ zs) (same_eq xs ys (and_r (eqb x y) (same xs ys) t))
 
 pub same_true : (xs ys : List ℕ) → same xs ys ≡ true → xs ≡ ys
-same_true xs ys e = same-eq xs ys (rw e tt)
+same_true xs ys e = same_eq xs ys (rw e tt)
 
-pub same-no : (xs ys : List ℕ) → (xs ≡ ys → ⊥) → same xs ys ≡ false
-same-no xs ys n = go (same xs ys) (λ t. n (same-eq xs ys t))
+pub same_no : (xs ys : List ℕ) → (xs ≡ ys → ⊥) → same xs ys ≡ false
+same_no xs ys n = go (same xs ys) (λ t. n (same_eq xs ys t))
   where
     go : (z : Bool) → (T z → ⊥) → z ≡ false
     go true h = absurd (h tt)
@@ -56,14 +56,14 @@ unfolding counted
 name_body none d = absurd (false≢true d.good)
 name_body {m} {at} (some bs) d =
     let body : Stands sized m at (some bs) = record { good = (omega (arith, d.good.0), d.good.1, refl); before = d.before; after = d.after; whole = d.whole; start = d.start } in
-    (bs, refl, stands_read (lawful-counted false unlimited anything 0 0 (lit< tt)) body ∙ rw (length-append, length-numBytes))
+    (bs, refl, stands_read (lawful_counted false unlimited anything 0 0 (lit< tt)) body ∙ rw (length-append, length-num_bytes))
 
 some_same : {a b : List ℕ} → some a ≡ some b → a ≡ b
 some_same e = cc
 
 -- what a body that was read and one that stands have in common
-pub name-here : {m : List ℕ} {at start end : ℕ} (bs : List ℕ) → sized.read m at ≡ ok (some bs, at + (4 + length bs)) → (b : Here false unlimited m at start end) → (b.body ≡ bs) × (end ≡ at + (4 + length bs))
-name-here bs e b =
+pub name_here : {m : List ℕ} {at start end : ℕ} (bs : List ℕ) → sized.read m at ≡ ok (some bs, at + (4 + length bs)) → (b : Here false unlimited m at start end) → (b.body ≡ bs) × (end ≡ at + (4 + length bs))
+name_here bs e b =
     let both = ok_same (sym b.read ∙ e) in
     (some_same (ap (λ (p : Option (List ℕ) × ℕ). p.0) both), ap (λ (p : Option (List ℕ) × ℕ). p.1) both)
 
@@ -72,7 +72,7 @@ module _ (m : List ℕ) (count : ℕ) (wanted : List ℕ) where
   pub record Left (i at : ℕ) (whole : Res ℕ) : Type 0 where
     pub names : List (Option (List ℕ))
     pub stands : Stands (each third i (replicate (count - i) name)) m at names
-    pub decide : firstNamed wanted names i ≡ whole
+    pub decide : first_named wanted names i ≡ whole
 
   -- the name at this turn, its bytes, and what is left after it
   pub record Turn (i at start end : ℕ) (whole : Res ℕ) : Type 0 where
@@ -82,11 +82,11 @@ module _ (m : List ℕ) (count : ℕ) (wanted : List ℕ) where
     pub found : bytes ≡ wanted → ok i ≡ whole
     pub goes_on : (bytes ≡ wanted → ⊥) → Left (i + 1) end whole
 
-  pub starts : (at : ℕ) (names : List (Option (List ℕ))) → Stands (each third 0 (replicate count name)) m at names → Left 0 at (firstNamed wanted names 0)
+  pub starts : (at : ℕ) (names : List (Option (List ℕ))) → Stands (each third 0 (replicate count name)) m at names → Left 0 at (first_named wanted names 0)
   starts at names d = let all : count - 0 ≡ count = omega arith in record { names = names; stands = rw all d; decide = refl }
 
   pub ends : (i at : ℕ) {whole : Res ℕ} → count ≤ i → Left i at whole → no NoColumn 0 ≡ whole
-  unfolding firstNamed each nothing
+  unfolding first_named each nothing
   ends i at h w =
       let none_left : count - i ≡ 0 = omega arith in
       let empty : w.names ≡ [] = rw none_left at w.stands.good in
@@ -94,30 +94,30 @@ module _ (m : List ℕ) (count : ℕ) (wanted : List ℕ) where
 
   module _ (i at start end : ℕ) (whole : Res ℕ) (b : Here false unlimited m at start end) where
     -- by the name that is first of those left
-    first-left : (n : Option (List ℕ)) (ns : List (Option (List ℕ))) → Stands name m at n → Stands (each third (i + 1) (replicate (count - (i + 1)) name)) m (at + length (name.bytes n)) ns
-        → firstNamed wanted (n ∷ ns) i ≡ whole → Turn i at start end whole
-    unfolding firstNamed counted
-    first-left n ns d rest e =
+    first_left : (n : Option (List ℕ)) (ns : List (Option (List ℕ))) → Stands name m at n → Stands (each third (i + 1) (replicate (count - (i + 1)) name)) m (at + length (name.bytes n)) ns
+        → first_named wanted (n ∷ ns) i ≡ whole → Turn i at start end whole
+    unfolding first_named counted
+    first_left n ns d rest e =
         let w = name_body n d in
         let bs = w.0 in
-        let h = name-here bs w.2 b in
+        let h = name_here bs w.2 b in
         let far = h.1 in
-        let at-end : at + length (name.bytes n) ≡ end = rw (w.1, length-append, length-numBytes) (sym far) in
-        let known : firstNamed wanted (some bs ∷ ns) i ≡ whole = rw w.1 at e in
+        let at-end : at + length (name.bytes n) ≡ end = rw (w.1, length-append, length-num_bytes) (sym far) in
+        let known : first_named wanted (some bs ∷ ns) i ≡ whole = rw w.1 at e in
         let stand : (k : ℕ) → k < length b.body → get_or m (start + k) 0 ≡ get_or b.body k 0
         = λ k l. rw b.bytes (sym (get_or-take (end - start) (drop start m) k 0 (omega (arith, b.size)) ∙ get_or-drop start m k 0)) in
         record {
           bytes = b.body;
           size = b.size;
           stand = stand;
-          found = λ equal. let yes : same bs wanted ≡ true = rw (← h.0, equal) (same-yes wanted) in rw yes at known;
-          goes_on = λ other. let not : same bs wanted ≡ false = same-no bs wanted (λ z. other (h.0 ∙ z)) in record { names = ns; stands = stands_at at-end rest; decide = rw not at known };
+          found = λ equal. let yes : same bs wanted ≡ true = rw (← h.0, equal) (same_yes wanted) in rw yes at known;
+          goes_on = λ other. let not : same bs wanted ≡ false = same_no bs wanted (λ z. other (h.0 ∙ z)) in record { names = ns; stands = stands_at_lem at-end rest; decide = rw not at known };
         }
 
-    split : (k : ℕ) → count - (i + 1) ≡ k → (names : List (Option (List ℕ))) → Stands (each third i (name ∷ replicate k name)) m at names → firstNamed wanted names i ≡ whole → Turn i at start end whole
+    split : (k : ℕ) → count - (i + 1) ≡ k → (names : List (Option (List ℕ))) → Stands (each third i (name ∷ replicate k name)) m at names → first_named wanted names i ≡ whole → Turn i at start end whole
     unfolding each
     split k left [] d e = absurd d.good
-    split k left (n ∷ ns) d e = first-left n ns (stands-head third i name (replicate k name) d) (rw left (stands-tail third i name (replicate k name) d)) e
+    split k left (n ∷ ns) d e = first_left n ns (stands_head third i name (replicate k name) d) (rw left (stands_tail third i name (replicate k name) d)) e
 
   pub turn : (i at : ℕ) {start end : ℕ} {whole : Res ℕ} → i < count → Left i at whole → Here false unlimited m at start end → Turn i at start end whole
   turn i at {start} {end} {whole} h w b =
@@ -126,10 +126,10 @@ module _ (m : List ℕ) (count : ℕ) (wanted : List ℕ) where
 
   -- what the tests of a turn say of its name
   module _ {i at start end : ℕ} {whole : Res ℕ} (t : Turn i at start end whole) where
-    pub found_it : end - start ≡ length wanted → EqualFrom (λ k. get_or m (start + k) 0) wanted 0 → ok i ≡ whole
+    pub found_it : end - start ≡ length wanted → Equal_from (λ k. get_or m (start + k) 0) wanted 0 → ok i ≡ whole
     found_it size all =
         let long : length t.bytes ≡ length wanted = t.size ∙ size in
-        t.found (equal-from-end t.bytes wanted long (λ k after below. sym (t.stand k (omega arith)) ∙ all k after below))
+        t.found (equal_from_end t.bytes wanted long (λ k after below. sym (t.stand k (omega arith)) ∙ all k after below))
 
     pub other_length : (end - start ≡ length wanted → ⊥) → Left (i + 1) end whole
     other_length not = t.goes_on (λ e. not (sym t.size ∙ ap length e))
@@ -139,10 +139,10 @@ module _ (m : List ℕ) (count : ℕ) (wanted : List ℕ) where
 
   -- a name that is there is read as a body
   module _ (i at : ℕ) {whole : Res ℕ} (h : i < count) (w : Left i at whole) where
-    some-name : (k : ℕ) (names : List (Option (List ℕ))) → Stands (each third i (name ∷ replicate k name)) m at names → {f : Fault} {p : ℕ} → sized.read m at ≡ no f p → ⊥
+    some_name : (k : ℕ) (names : List (Option (List ℕ))) → Stands (each third i (name ∷ replicate k name)) m at names → {f : Fault} {p : ℕ} → sized.read m at ≡ no f p → ⊥
     unfolding each
-    some-name k [] d e = absurd d.good
-    some-name k (n ∷ ns) d e = no_ok (sym e ∙ (name_body n (stands-head third i name (replicate k name) d)).2)
+    some_name k [] d e = absurd d.good
+    some_name k (n ∷ ns) d e = no_ok (sym e ∙ (name_body n (stands_head third i name (replicate k name) d)).2)
 
-    pub never-refused : {f : Fault} {p : ℕ} → sized.read m at ≡ no f p → ⊥
-    never-refused e = let left : count - i ≡ suc (count - (i + 1)) = omega arith in some-name (count - (i + 1)) w.names (rw left at w.stands) e
+    pub never_refused : {f : Fault} {p : ℕ} → sized.read m at ≡ no f p → ⊥
+    never_refused e = let left : count - i ≡ suc (count - (i + 1)) = omega arith in some_name (count - (i + 1)) w.names (rw left at w.stands) e

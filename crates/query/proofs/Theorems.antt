@@ -18,9 +18,9 @@ use Rattle.format.proofs.Decides.{once, answer}
 use Rattle.format.proofs.Results.{ok_same, no_ok}
 use Rattle.show.specs.Parts.{IsPart}
 use Rattle.places.specs.Places.{tables_of, table_at, params_of, param_at}
-use Rattle.places.specs.Entries.{Here, entry, cellHere, valueHere, elementOf}
-use Rattle.places.proofs.Calls.{param-stands}
-use Rattle.places.proofs.Values.{cell-stands, value-stands, element-stands}
+use Rattle.places.specs.Entries.{Here, entry, cell_here, value_here, element_of}
+use Rattle.places.proofs.Calls.{param_stands}
+use Rattle.places.proofs.Values.{cell_stands, value_stands, element_stands}
 use Rattle.query.specs.declared.TableAnswer.{TableAnswer}
 use Rattle.query.specs.declared.ColumnLayout.{ColumnLayout}
 use Rattle.query.specs.declared.ColumnAnswer.{ColumnAnswer}
@@ -29,99 +29,99 @@ use Rattle.query.specs.declared.Named.{Named}
 use Rattle.query.specs.declared.CellAnswer.{CellAnswer}
 use Rattle.query.specs.declared.Part.{Part}
 use Rattle.query.specs.declared.Argued.{Argued}
-use Rattle.query.specs.Answers.{Given, same, isNamed, firstNamed, spanIn, ofTable, of_param, askCellSpan, askParameterSpan, askElementSpan, Handed, toldTable, toldColumn, toldPlaced, toldNamed, toldCell, toldPart, toldArgument}
-use Rattle.query.proofs.Names.{same-yes, same_true}
-use Rattle.query.proofs.Opened.{Told, part-told}
+use Rattle.query.specs.Answers.{Given, same, is_named, first_named, span_in, of_table, of_param, ask_cell_span, ask_parameter_span, ask_element_span, Handed, told_table, told_column, told_placed, told_named, told_cell, told_part, told_argument}
+use Rattle.query.proofs.Names.{same_yes, same_true}
+use Rattle.query.proofs.Opened.{Told, part_told}
 
 -- ---- two answers that say the same are the same
-pub table-once : (a b : TableAnswer) → toldTable a ≡ toldTable b → a ≡ b
-table-once = once toldTable (answer TableAnswer.Is TableAnswer.No) (elim [ TableAnswer.Is l ↦ refl | TableAnswer.No r ↦ refl ])
+pub table_once : (a b : TableAnswer) → told_table a ≡ told_table b → a ≡ b
+table_once = once told_table (answer TableAnswer.Is TableAnswer.No) (elim [ TableAnswer.Is l ↦ refl | TableAnswer.No r ↦ refl ])
 
-pub column-once : (a b : ColumnAnswer) → toldColumn a ≡ toldColumn b → a ≡ b
-column-once = once toldColumn (answer ColumnAnswer.Is ColumnAnswer.No) (elim [ ColumnAnswer.Is l ↦ refl | ColumnAnswer.No r ↦ refl ])
+pub column_once : (a b : ColumnAnswer) → told_column a ≡ told_column b → a ≡ b
+column_once = once told_column (answer ColumnAnswer.Is ColumnAnswer.No) (elim [ ColumnAnswer.Is l ↦ refl | ColumnAnswer.No r ↦ refl ])
 
 abbrev placed : Option ColumnLayout → Placed
 placed none = Placed.Past
 placed (some l) = Placed.Is l
 
-pub placed-once : (a b : Placed) → toldPlaced a ≡ toldPlaced b → a ≡ b
-placed-once = once toldPlaced (answer placed Placed.No) (elim [ Placed.Is l ↦ refl | Placed.Past ↦ refl | Placed.No r ↦ refl ])
+pub placed_once : (a b : Placed) → told_placed a ≡ told_placed b → a ≡ b
+placed_once = once told_placed (answer placed Placed.No) (elim [ Placed.Is l ↦ refl | Placed.Past ↦ refl | Placed.No r ↦ refl ])
 
-pub named-once : (a b : Named) → toldNamed a ≡ toldNamed b → a ≡ b
-named-once = once toldNamed (answer (λ v. Named.At v.0 v.1) Named.No) (elim [ Named.At i l ↦ refl | Named.No r ↦ refl ])
+pub named_once : (a b : Named) → told_named a ≡ told_named b → a ≡ b
+named_once = once told_named (answer (λ v. Named.At v.0 v.1) Named.No) (elim [ Named.At i l ↦ refl | Named.No r ↦ refl ])
 
-pub cell-once : (a b : CellAnswer) → toldCell a ≡ toldCell b → a ≡ b
-cell-once = once toldCell (answer CellAnswer.Is CellAnswer.No) (elim [ CellAnswer.Is c ↦ refl | CellAnswer.No r ↦ refl ])
+pub cell_once : (a b : CellAnswer) → told_cell a ≡ told_cell b → a ≡ b
+cell_once = once told_cell (answer CellAnswer.Is CellAnswer.No) (elim [ CellAnswer.Is c ↦ refl | CellAnswer.No r ↦ refl ])
 
 abbrev spanned : Option (ℕ × ℕ) → Part
 spanned none = Part.Null
 spanned (some p) = Part.Is p.0 p.1
 
-pub part-once : (a b : Part) → toldPart a ≡ toldPart b → a ≡ b
-part-once = once toldPart (answer spanned Part.No) (elim [ Part.Is start size ↦ refl | Part.Null ↦ refl | Part.No r ↦ refl ])
+pub part_once : (a b : Part) → told_part a ≡ told_part b → a ≡ b
+part_once = once told_part (answer spanned Part.No) (elim [ Part.Is start size ↦ refl | Part.Null ↦ refl | Part.No r ↦ refl ])
 
 abbrev argued : Given → Argued
 argued Given.nothing = Argued.Null
 argued (Given.value c) = Argued.One c
 argued (Given.list t n) = Argued.Array t n
 
-pub argument-once : (a b : Argued) → toldArgument a ≡ toldArgument b → a ≡ b
-argument-once = once toldArgument (answer argued Argued.No) (elim [ Argued.Null ↦ refl | Argued.One c ↦ refl | Argued.Array t n ↦ refl | Argued.No r ↦ refl ])
+pub argument_once : (a b : Argued) → told_argument a ≡ told_argument b → a ≡ b
+argument_once = once told_argument (answer argued Argued.No) (elim [ Argued.Null ↦ refl | Argued.One c ↦ refl | Argued.Array t n ↦ refl | Argued.No r ↦ refl ])
 
 -- ---- a search finds the first equal name, and fails only where there is none
 module _ (name : List ℕ) where
-  named-is : (n : Option (List ℕ)) → isNamed name n ≡ true → n ≡ some name
-  named-is none e = absurd (false≢true e)
-  named-is (some bs) e = ap some (same_true bs name e)
+  named_is : (n : Option (List ℕ)) → is_named name n ≡ true → n ≡ some name
+  named_is none e = absurd (false≢true e)
+  named_is (some bs) e = ap some (same_true bs name e)
 
-  named-not : (n : Option (List ℕ)) → isNamed name n ≡ false → ok n ≡ ok (some name) → ⊥
-  named-not n e f = true≢false (sym (same-yes name) ∙ (sym (ap (isNamed name) (ok_same f)) ∙ e))
+  named_not : (n : Option (List ℕ)) → is_named name n ≡ false → ok n ≡ ok (some name) → ⊥
+  named_not n e f = true≢false (sym (same_yes name) ∙ (sym (ap (is_named name) (ok_same f)) ∙ e))
 
   pub record First (ns : List (Option (List ℕ))) (l : ℕ) : Type 0 where
     pub there : entry ns l ≡ ok (some name)
     pub none_before : (k : ℕ) → k < l → entry ns k ≡ ok (some name) → ⊥
 
-  first-from : (ns : List (Option (List ℕ))) (i j : ℕ) → firstNamed name ns i ≡ ok j → (l : ℕ) × (j ≡ i + l) × First ns l
-  unfolding firstNamed
-  first-from [] i j e = absurd (no_ok e)
-  first-from (n ∷ ns) i j e = by_name (λ h. first-from ns (i + 1) j h) (isNamed name n) refl e
+  first_from_lem : (ns : List (Option (List ℕ))) (i j : ℕ) → first_named name ns i ≡ ok j → (l : ℕ) × (j ≡ i + l) × First ns l
+  unfolding first_named
+  first_from_lem [] i j e = absurd (no_ok e)
+  first_from_lem (n ∷ ns) i j e = by_name (λ h. first_from_lem ns (i + 1) j h) (is_named name n) refl e
     where
-      by_name : (firstNamed name ns (i + 1) ≡ ok j → (l : ℕ) × (j ≡ i + 1 + l) × First ns l) → (b : Bool) → isNamed name n ≡ b → pick b (ok i) (firstNamed name ns (i + 1)) ≡ ok j → (l : ℕ) × (j ≡ i + l) × First (n ∷ ns) l
-      by_name others true is h = (0, omega (arith, ok_same h), record { there = ap ok (named-is n is); none_before = λ k l. absurd (omega arith) })
+      by_name : (first_named name ns (i + 1) ≡ ok j → (l : ℕ) × (j ≡ i + 1 + l) × First ns l) → (b : Bool) → is_named name n ≡ b → pick b (ok i) (first_named name ns (i + 1)) ≡ ok j → (l : ℕ) × (j ≡ i + l) × First (n ∷ ns) l
+      by_name others true is h = (0, omega (arith, ok_same h), record { there = ap ok (named_is n is); none_before = λ k l. absurd (omega arith) })
       by_name others false is h =
           let w = others h in
-          (suc w.0, omega (arith, w.1), record { there = w.2.there; none_before = elim [ zero ↦ λ l f. named-not n is f | suc k ↦ λ l f. w.2.none_before k (omega arith) f ] })
+          (suc w.0, omega (arith, w.1), record { there = w.2.there; none_before = elim [ zero ↦ λ l f. named_not n is f | suc k ↦ λ l f. w.2.none_before k (omega arith) f ] })
 
-  pub finds-first : (ns : List (Option (List ℕ))) (j : ℕ) → firstNamed name ns 0 ≡ ok j → First ns j
-  finds-first ns j e = let w = first-from ns 0 j e in let same : j ≡ w.0 = omega (arith, w.1) in rw same w.2
+  pub finds_first : (ns : List (Option (List ℕ))) (j : ℕ) → first_named name ns 0 ≡ ok j → First ns j
+  finds_first ns j e = let w = first_from_lem ns 0 j e in let same : j ≡ w.0 = omega (arith, w.1) in rw same w.2
 
-  pub finds-none : (ns : List (Option (List ℕ))) (i : ℕ) {f : Fault} {p : ℕ} → firstNamed name ns i ≡ no f p → (k : ℕ) → entry ns k ≡ ok (some name) → ⊥
-  unfolding firstNamed
-  finds-none [] i e k h = no_ok h
-  finds-none (n ∷ ns) i {f} {p} e k h = by_name (λ g. finds-none ns (i + 1) g) (isNamed name n) refl e k h
+  pub finds_none : (ns : List (Option (List ℕ))) (i : ℕ) {f : Fault} {p : ℕ} → first_named name ns i ≡ no f p → (k : ℕ) → entry ns k ≡ ok (some name) → ⊥
+  unfolding first_named
+  finds_none [] i e k h = no_ok h
+  finds_none (n ∷ ns) i {f} {p} e k h = by_name (λ g. finds_none ns (i + 1) g) (is_named name n) refl e k h
     where
-      by_name : (firstNamed name ns (i + 1) ≡ no f p → (k : ℕ) → entry ns k ≡ ok (some name) → ⊥) → (b : Bool) → isNamed name n ≡ b → pick b (ok i) (firstNamed name ns (i + 1)) ≡ no f p → (k : ℕ) → entry (n ∷ ns) k ≡ ok (some name) → ⊥
+      by_name : (first_named name ns (i + 1) ≡ no f p → (k : ℕ) → entry ns k ≡ ok (some name) → ⊥) → (b : Bool) → is_named name n ≡ b → pick b (ok i) (first_named name ns (i + 1)) ≡ no f p → (k : ℕ) → entry (n ∷ ns) k ≡ ok (some name) → ⊥
       by_name others true is h k there = no_ok (sym h)
-      by_name others false is h zero there = named-not n is there
+      by_name others false is h zero there = named_not n is there
       by_name others false is h (suc k) there = others h k there
 
 -- ---- what is told to be a part lies whole in the message and is the value's bytes, and null is told of null alone: of a cell, a parameter and an element
 module _ (m : List ℕ) (all : Bytes m) (span : Option (ℕ × ℕ)) where
-  pub cell-span-told : (t k c : ℕ) → askCellSpan m t k c ≡ ok span → Told m (ofTable true m t (λ at b. cellHere at b k c)) span
-  cell-span-told t k c e = part-told 4 tables_of (table_at true) m t (λ at b. cellHere at b k c) (cell-stands true m all t k c) span e
+  pub cell_span_told : (t k c : ℕ) → ask_cell_span m t k c ≡ ok span → Told m (of_table true m t (λ at b. cell_here at b k c)) span
+  cell_span_told t k c e = part_told 4 tables_of (table_at true) m t (λ at b. cell_here at b k c) (cell_stands true m all t k c) span e
 
-  pub parameter-span-told : (p : ℕ) → askParameterSpan m p ≡ ok span → Told m (of_param m p (λ at q. valueHere at q.type q.argument)) span
-  parameter-span-told p e =
-      part-told 3 params_of param_at m p (λ at q. valueHere at q.type q.argument) (λ r f q there. value-stands (param-stands m all r f p there)) span e
+  pub parameter_span_told : (p : ℕ) → ask_parameter_span m p ≡ ok span → Told m (of_param m p (λ at q. value_here at q.type q.argument)) span
+  parameter_span_told p e =
+      part_told 3 params_of param_at m p (λ at q. value_here at q.type q.argument) (λ r f q there. value_stands (param_stands m all r f p there)) span e
 
-  pub element-span-told : (p k : ℕ) → askElementSpan m p k ≡ ok span → Told m (of_param m p (λ at q. elementOf at q.argument k)) span
-  element-span-told p k e =
-      part-told 3 params_of param_at m p (λ at q. elementOf at q.argument k) (λ r f q there. element-stands (param-stands m all r f p there) k) span e
+  pub element_span_told : (p k : ℕ) → ask_element_span m p k ≡ ok span → Told m (of_param m p (λ at q. element_of at q.argument k)) span
+  element_span_told p k e =
+      part_told 3 params_of param_at m p (λ at q. element_of at q.argument k) (λ r f q there. element_stands (param_stands m all r f p there) k) span e
 
 -- so the slice that is handed back has the value's bytes, all of them
-pub handed-value : (m part : Bor (List ℕ)) (asked : Res Here) (p : ℕ × ℕ) (answer : Part) (w : Told m.now asked (some p)) → Handed m (ok (some p)) answer part
+pub handed_value : (m part : Bor (List ℕ)) (asked : Res Here) (p : ℕ × ℕ) (answer : Part) (w : Told m.now asked (some p)) → Handed m (ok (some p)) answer part
     → (w.here.value ≡ body (some part.now)) × (length part.now ≡ p.1)
-handed-value m part asked p answer w h =
+handed_value m part asked p answer w h =
     let fit = w.fits in
     let size : length (take p.1 (drop p.0 m.now)) ≡ p.1 = length-take-le p.1 (drop p.0 m.now) (rw length-drop (omega arith)) in
     (w.value ∙ ap (λ (l : List ℕ). body (some l)) (sym h.itself.bytes), ap length h.itself.bytes ∙ size)
@@ -129,12 +129,12 @@ handed-value m part asked p answer w h =
 -- ---- what is handed back is decided: two slices that are one part of a message are one machine value, that is they point to one place and are as long,
 -- and have the same bytes. A slice has one thing more in the logic, the name under which a loan is tracked: no program can see it, and no statement can give it
 module _ (m : Bor (List ℕ)) (p q : Bor (List ℕ)) where
-  pub slice-once : (start size : ℕ) → IsPart m start size p → IsPart m start size q → (p.now ≡ q.now) × (shr_slice_vals p ≡ shr_slice_vals q)
-  slice-once start size a b =
+  pub slice_once : (start size : ℕ) → IsPart m start size p → IsPart m start size q → (p.now ≡ q.now) × (shr_slice_vals p ≡ shr_slice_vals q)
+  slice_once start size a b =
       let bytes : p.now ≡ q.now = a.bytes ∙ sym b.bytes in
       (bytes, ap₂ (λ (x : ℕ × ℕ) (n : ℕ). slice_val x n ∷ []) (a.place ∙ sym b.place) (ap length bytes))
 
-  pub handed-once : (span : Res (Option (ℕ × ℕ))) (x y : Part) → Handed m span x p → Handed m span y q → (x ≡ y) × (p.now ≡ q.now) × (shr_slice_vals p ≡ shr_slice_vals q)
-  handed-once span x y a b =
-      let slices = slice-once (spanIn span).0 (spanIn span).1 a.itself b.itself in
-      (part-once x y (a.says ∙ sym b.says), slices.0, slices.1)
+  pub handed_once : (span : Res (Option (ℕ × ℕ))) (x y : Part) → Handed m span x p → Handed m span y q → (x ≡ y) × (p.now ≡ q.now) × (shr_slice_vals p ≡ shr_slice_vals q)
+  handed_once span x y a b =
+      let slices = slice_once (span_in span).0 (span_in span).1 a.itself b.itself in
+      (part_once x y (a.says ∙ sym b.says), slices.0, slices.1)

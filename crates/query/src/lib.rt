@@ -4,18 +4,18 @@
 ghost use Rattle.std.specs.Prelude.{◌≡◌, false, List, map, ℕ, ◌+◌, ◌<◌, ◌≤◌, min, length, replicate, take, drop, eqb};
 ghost use Rattle.std.proofs.Math.Option.{Option};
 ghost use Rattle.format.specs.declared.Fault.TheVariants.{WireType};
-ghost use Rattle.format.specs.Result.{ok, bind, pick, toldAnswer};
+ghost use Rattle.format.specs.Result.{ok, bind, pick, told_answer};
 ghost use Rattle.format.specs.Format.{number, each, counted};
-ghost use Rattle.format.specs.Value.{string, anything, ascii, value, tTinyint};
-ghost use Rattle.format.specs.Message.{first, third, unlimited, Message, readMessage, responseLayout, head, Table, table, Param, param};
-ghost use Rattle.scan.specs.Shown.{shownNext, shownNumber, number_in, refusal};
-ghost use Rattle.show.specs.Cells.{cell_of, unruled, shownAs};
+ghost use Rattle.format.specs.Value.{string, anything, ascii, value, t_tinyint};
+ghost use Rattle.format.specs.Message.{first, third, unlimited, Message, read_message, response_layout, head, Table, table, Param, param};
+ghost use Rattle.scan.specs.Shown.{shown_next, shown_number, number_in, refusal};
+ghost use Rattle.show.specs.Cells.{cell_of, unruled, shown_as};
 ghost use Rattle.pass.specs.Passes.{Passes};
 ghost use Rattle.places.specs.Stands.{Stands};
-ghost use Rattle.places.specs.Places.{tables_of, table_at, typeAt, name_at, rowAt, params_of, param_at};
-ghost use Rattle.places.specs.Entries.{entry, cellHere, valueHere, elementOf};
-ghost use Rattle.query.specs.Shown.{past_of, cellIn, spot_of, shownOf, toldSpot, toldFound};
-ghost use Rattle.query.specs.Answers.{perhaps, ofTable, of_param, layout_of, columnOf, firstNamed, named_of, partOf, IsTold, given_of, askTables, askTable, askColumn, askPlaced, askPosition, askNamed, askColumnName, askCell, askCellSpan, askCellPlace, askParameter, askParameterSpan, askElement, askElementSpan, toldTable, toldColumn, toldPlaced, toldNamed, toldCell, toldPart, toldArgument};
+ghost use Rattle.places.specs.Places.{tables_of, table_at, column_type_at, name_at, row_at, params_of, param_at};
+ghost use Rattle.places.specs.Entries.{entry, cell_here, value_here, element_of};
+ghost use Rattle.query.specs.Shown.{past_of, cell_in, spot_of, shown_of, told_spot, told_found};
+ghost use Rattle.query.specs.Answers.{perhaps, of_table, of_param, layout_of, column_of, first_named, named_of, part_of, Is_told, given_of, ask_tables, ask_table, ask_column, ask_placed, ask_position, ask_named, ask_column_name, ask_cell, ask_cell_span, ask_cell_place, ask_parameter, ask_parameter_span, ask_element, ask_element_span, told_table, told_column, told_placed, told_named, told_cell, told_part, told_argument};
 
 use format::{Answer, Fault, Refusal};
 use message::Verdict;
@@ -114,7 +114,7 @@ fn past(a: Next) -> usize
 }
 
 fn cell_in(a: Shown) -> show::Cell
-    ensures { result ≡ cellIn a }
+    ensures { result ≡ cell_in a }
 {
     match a {
         Shown::Is(cell, _) => cell,
@@ -124,34 +124,34 @@ fn cell_in(a: Shown) -> show::Cell
 
 // Past n bytes that are there.
 fn after(m: &[u8], at: usize, n: usize) -> usize
-    ensures { result ≡ past_of (shownNext ((number n 0).read m.now at)) }
+    ensures { result ≡ past_of (shown_next ((number n 0).read m.now at)) }
 {
     past(scan::skip_fixed(m, at, n))
 }
 
 // The count of k bytes that is there.
 fn count_at(m: &[u8], at: usize, k: usize) -> usize
-    ensures { result ≡ number_in (shownNumber ((number (min k 8) 0).read m.now at)) }
+    ensures { result ≡ number_in (shown_number ((number (min k 8) 0).read m.now at)) }
 {
     scan::number_at(m, at, k) as usize
 }
 
 fn value_at(m: &[u8], at: usize, t: u8) -> show::Cell
-    ensures { result ≡ cellIn (shownAs (cell_of t at) ((unruled t).read m.now at)) }
+    ensures { result ≡ cell_in (shown_as (cell_of t at) ((unruled t).read m.now at)) }
 {
     cell_in(show::read_value(m, at, t))
 }
 
 // Past a thing that begins with its length, by that alone.
 fn skip_sized(s: &[u8], at: usize) -> Next
-    ensures { result ≡ shownNext ((counted false unlimited anything 0 0).read s.now at) }
+    ensures { result ≡ shown_next ((counted false unlimited anything 0 0).read s.now at) }
 {
     scan::body_end(scan::read_body(s, at, false, format::UNLIMITED))
 }
 
 // Past n things that begin with their length, by their lengths alone.
 fn jump(s: &[u8], from: usize, n: usize) -> Next
-    ensures { result ≡ shownNext ((each first 0 (replicate n (counted false unlimited anything 0 0))).read s.now from) }
+    ensures { result ≡ shown_next ((each first 0 (replicate n (counted false unlimited anything 0 0))).read s.now from) }
 {
     let mut at = from;
     let mut i = 0;
@@ -168,7 +168,7 @@ fn jump(s: &[u8], from: usize, n: usize) -> Next
 
 // Past n things that begin with their length and are there.
 fn over(m: &[u8], at: usize, n: usize) -> usize
-    ensures { result ≡ past_of (shownNext ((each first 0 (replicate n (counted false unlimited anything 0 0))).read m.now at)) }
+    ensures { result ≡ past_of (shown_next ((each first 0 (replicate n (counted false unlimited anything 0 0))).read m.now at)) }
 {
     past(jump(m, at, n))
 }
@@ -197,7 +197,7 @@ fn tables_counted(m: &[u8], timed: bool) -> usize
 }
 
 fn count_tables(m: &[u8], timed: bool) -> Answer
-    ensures { toldAnswer result ≡ bind (readMessage (responseLayout timed) m.now) (λ p. ok (length (tables_of p))) }
+    ensures { told_answer result ≡ bind (read_message (response_layout timed) m.now) (λ p. ok (length (tables_of p))) }
 {
     let verdict = message::accept_layout(format::response_layout(timed), m);
     match verdict {
@@ -208,7 +208,7 @@ fn count_tables(m: &[u8], timed: bool) -> Answer
 
 // How many tables a response has.
 pub fn tables(m: &[u8]) -> Answer
-    ensures { toldAnswer result ≡ askTables m.now }
+    ensures { told_answer result ≡ ask_tables m.now }
 {
     count_tables(m, true)
 }
@@ -242,7 +242,7 @@ fn layout_at(m: &[u8], at: usize) -> TableLayout
 
 // Table t of an accepted response.
 fn table_in(m: &[u8], timed: bool, t: usize) -> TableAnswer
-    ensures { (p : Message) → readMessage (responseLayout timed) m.now ≡ ok p → toldTable result ≡ bind (entry (tables_of p) t) (λ b. ok (layout_of (table_at timed p t) b)) }
+    ensures { (p : Message) → read_message (response_layout timed) m.now ≡ ok p → told_table result ≡ bind (entry (tables_of p) t) (λ b. ok (layout_of (table_at timed p t) b)) }
 {
     let counted = tables_counted(m, timed);
     if count_at(m, counted, 2) <= t {
@@ -254,7 +254,7 @@ fn table_in(m: &[u8], timed: bool, t: usize) -> TableAnswer
 
 // What table t of a response says of itself, with its round trip or without.
 pub fn find_table(m: &[u8], timed: bool, t: usize) -> TableAnswer
-    ensures { toldTable result ≡ ofTable timed m.now t (λ at b. ok (layout_of at b)) }
+    ensures { told_table result ≡ of_table timed m.now t (λ at b. ok (layout_of at b)) }
 {
     let verdict = message::accept_layout(format::response_layout(timed), m);
     match verdict {
@@ -265,7 +265,7 @@ pub fn find_table(m: &[u8], timed: bool, t: usize) -> TableAnswer
 
 // What table t of a response says of itself, and where it and its parts stand.
 pub fn table(m: &[u8], t: usize) -> TableAnswer
-    ensures { toldTable result ≡ askTable m.now t }
+    ensures { told_table result ≡ ask_table m.now t }
 {
     find_table(m, true, t)
 }
@@ -274,8 +274,8 @@ pub fn table(m: &[u8], t: usize) -> TableAnswer
 
 // The column at a position of a table that was found, by where its types and names begin.
 pub fn column_at(m: &[u8], types: usize, names: usize, c: usize) -> ColumnLayout
-    ensures { (at : ℕ) (b : Table) → Stands table m.now at b → types ≡ typeAt at b.metadata 0 → names ≡ name_at at b.metadata 0
-        → c < length b.metadata.types → ok result ≡ columnOf at b c }
+    ensures { (at : ℕ) (b : Table) → Stands table m.now at b → types ≡ column_type_at at b.metadata 0 → names ≡ name_at at b.metadata 0
+        → c < length b.metadata.types → ok result ≡ column_of at b c }
 {
     let type_at = after(m, types, c);
     let wire_type = scan::byte_at(m, type_at);
@@ -292,7 +292,7 @@ pub fn column_at(m: &[u8], types: usize, names: usize, c: usize) -> ColumnLayout
 
 // What column c of table t says of itself, or that the table has fewer; of a response with its round trip or without.
 pub fn find_placed(m: &[u8], timed: bool, t: usize, c: usize) -> Placed
-    ensures { toldPlaced result ≡ ofTable timed m.now t (λ at b. ok (perhaps (columnOf at b c))) }
+    ensures { told_placed result ≡ of_table timed m.now t (λ at b. ok (perhaps (column_of at b c))) }
 {
     let answer = find_table(m, timed, t);
     match answer {
@@ -309,14 +309,14 @@ pub fn find_placed(m: &[u8], timed: bool, t: usize, c: usize) -> Placed
 
 // What column c of table t says of itself, or that the table has fewer.
 pub fn placed_column(m: &[u8], t: usize, c: usize) -> Placed
-    ensures { toldPlaced result ≡ askPlaced m.now t c }
+    ensures { told_placed result ≡ ask_placed m.now t c }
 {
     find_placed(m, true, t, c)
 }
 
 // What column c of table t says of itself.
 pub fn column(m: &[u8], t: usize, c: usize) -> ColumnAnswer
-    ensures { toldColumn result ≡ askColumn m.now t c }
+    ensures { told_column result ≡ ask_column m.now t c }
 {
     let placed = placed_column(m, t, c);
     match placed {
@@ -328,7 +328,7 @@ pub fn column(m: &[u8], t: usize, c: usize) -> ColumnAnswer
 
 // Where the bytes of a column's name stand, without their length, and how many they are.
 pub fn column_name(m: &[u8], t: usize, c: usize) -> Part
-    ensures { toldPart result ≡ askColumnName m.now t c }
+    ensures { told_part result ≡ ask_column_name m.now t c }
 {
     let answer = column(m, t, c);
     match answer {
@@ -341,7 +341,7 @@ pub fn column_name(m: &[u8], t: usize, c: usize) -> Part
 // family begin alike.
 fn search(m: &[u8], from: usize, count: usize, name: &[u8]) -> Answer
     ensures { (names : List (Option (List ℕ))) → Stands (each third 0 (replicate count (string false ascii 46 47))) m.now from names
-        → toldAnswer result ≡ firstNamed name.now names 0 }
+        → told_answer result ≡ first_named name.now names 0 }
 {
     let mut at = from;
     let mut i = 0;
@@ -384,7 +384,7 @@ fn search(m: &[u8], from: usize, count: usize, name: &[u8]) -> Answer
 
 // The position of the first column of table t whose name is equal, bytes compared exactly.
 pub fn find_column(m: &[u8], t: usize, name: &[u8]) -> Answer
-    ensures { toldAnswer result ≡ askPosition m.now t name.now }
+    ensures { told_answer result ≡ ask_position m.now t name.now }
 {
     let answer = find_table(m, true, t);
     match answer {
@@ -395,8 +395,8 @@ pub fn find_column(m: &[u8], t: usize, name: &[u8]) -> Answer
 
 // The first column of a name in a table, by where its types and names begin.
 fn named_in(m: &[u8], types: usize, names: usize, count: usize, name: &[u8]) -> Named
-    ensures { (at : ℕ) (b : Table) → Stands table m.now at b → types ≡ typeAt at b.metadata 0 → names ≡ name_at at b.metadata 0
-        → count ≡ length b.metadata.types → toldNamed result ≡ named_of at b name.now }
+    ensures { (at : ℕ) (b : Table) → Stands table m.now at b → types ≡ column_type_at at b.metadata 0 → names ≡ name_at at b.metadata 0
+        → count ≡ length b.metadata.types → told_named result ≡ named_of at b name.now }
 {
     let found = search(m, names, count, name);
     match found {
@@ -407,7 +407,7 @@ fn named_in(m: &[u8], types: usize, names: usize, count: usize, name: &[u8]) -> 
 
 // The first column of table t whose name is equal: its position and what it says of itself.
 pub fn named_column(m: &[u8], t: usize, name: &[u8]) -> Named
-    ensures { toldNamed result ≡ askNamed m.now t name.now }
+    ensures { told_named result ≡ ask_named m.now t name.now }
 {
     let answer = find_table(m, true, t);
     match answer {
@@ -438,8 +438,8 @@ fn pass_front(m: &[u8], from: usize, types: usize, c: usize) -> usize
 // The cell at row k and column c of a table, by where its types and rows begin.
 fn spot_at(m: &[u8], types: usize, rows: usize, k: usize, c: usize) -> Spot
     requires { types + c ≤ length m.now }
-    ensures { (at : ℕ) (b : Table) → Stands table m.now at b → types ≡ typeAt at b.metadata 0 → rows ≡ rowAt at b 0
-        → k < length b.rows → c < length b.metadata.types → ok result ≡ bind (cellHere at b k c) (λ h. ok (spot_of h)) }
+    ensures { (at : ℕ) (b : Table) → Stands table m.now at b → types ≡ column_type_at at b.metadata 0 → rows ≡ row_at at b 0
+        → k < length b.rows → c < length b.metadata.types → ok result ≡ bind (cell_here at b k c) (λ h. ok (spot_of h)) }
 {
     let type_at = after(m, types, c);
     let wire_type = scan::byte_at(m, type_at);
@@ -461,7 +461,7 @@ enum FoundSpot {
 }
 
 fn find_spot(m: &[u8], timed: bool, t: usize, k: usize, c: usize) -> FoundSpot
-    ensures { toldSpot result ≡ ofTable timed m.now t (λ at b. bind (cellHere at b k c) (λ h. ok (spot_of h))) }
+    ensures { told_spot result ≡ of_table timed m.now t (λ at b. bind (cell_here at b k c) (λ h. ok (spot_of h))) }
 {
     let answer = find_table(m, timed, t);
     match answer {
@@ -493,7 +493,7 @@ enum FoundCell {
 }
 
 fn find_cell(m: &[u8], timed: bool, t: usize, k: usize, c: usize) -> FoundCell
-    ensures { toldFound result ≡ ofTable timed m.now t (λ at b. bind (cellHere at b k c) (λ h. ok (shownOf h))) }
+    ensures { told_found result ≡ of_table timed m.now t (λ at b. bind (cell_here at b k c) (λ h. ok (shown_of h))) }
 {
     let found = find_spot(m, timed, t, k, c);
     match found {
@@ -510,7 +510,7 @@ fn find_cell(m: &[u8], timed: bool, t: usize, k: usize, c: usize) -> FoundCell
 
 // The cell that was found.
 fn cell_of(found: FoundCell) -> CellAnswer
-    ensures { toldCell result ≡ bind (toldFound found) (λ s. ok s.cell) }
+    ensures { told_cell result ≡ bind (told_found found) (λ s. ok s.cell) }
 {
     match found {
         FoundCell::No(r) => CellAnswer::No(r),
@@ -523,7 +523,7 @@ fn cell_of(found: FoundCell) -> CellAnswer
 
 // The part of the message that a cell is, if it is text, bytes or a geography.
 fn part_of(cell: show::Cell, place: usize) -> Part
-    ensures { toldPart result ≡ partOf place cell }
+    ensures { told_part result ≡ part_of place cell }
 {
     let raw = show::raw_of(cell);
     match raw {
@@ -535,7 +535,7 @@ fn part_of(cell: show::Cell, place: usize) -> Part
 
 // The part of the message that a found cell is.
 fn span_of(found: FoundCell) -> Part
-    ensures { toldPart result ≡ bind (toldFound found) (λ s. partOf s.type_at s.cell) }
+    ensures { told_part result ≡ bind (told_found found) (λ s. part_of s.type_at s.cell) }
 {
     match found {
         FoundCell::No(r) => Part::No(r),
@@ -548,7 +548,7 @@ fn span_of(found: FoundCell) -> Part
 
 // The part of the message that a span tells, itself, or as much of it as there is; for null and a refusal the empty part at the message's start.
 pub fn part_at(m: &[u8], span: Part) -> &[u8]
-    ensures { IsTold m.entry (toldPart span) result }
+    ensures { Is_told m.entry (told_part span) result }
 {
     let Part::Is(start, size) = span else {
         return show::body_at(m, 0, 0);
@@ -558,21 +558,21 @@ pub fn part_at(m: &[u8], span: Part) -> &[u8]
 
 // The cell at row k and column c of table t.
 pub fn cell(m: &[u8], t: usize, k: usize, c: usize) -> CellAnswer
-    ensures { toldCell result ≡ askCell m.now t k c }
+    ensures { told_cell result ≡ ask_cell m.now t k c }
 {
     cell_of(find_cell(m, true, t, k, c))
 }
 
 // Where the bytes of a text or binary cell stand, or that it is null.
 pub fn cell_span(m: &[u8], t: usize, k: usize, c: usize) -> Part
-    ensures { toldPart result ≡ askCellSpan m.now t k c }
+    ensures { told_part result ≡ ask_cell_span m.now t k c }
 {
     span_of(find_cell(m, true, t, k, c))
 }
 
 // Where the bytes of a cell stand, whatever its type, and how many they are: of a text or binary cell its length field and its body.
 pub fn cell_place(m: &[u8], t: usize, k: usize, c: usize) -> Part
-    ensures { toldPart result ≡ askCellPlace m.now t k c }
+    ensures { told_part result ≡ ask_cell_place m.now t k c }
 {
     let found = find_spot(m, true, t, k, c);
     match found {
@@ -588,7 +588,7 @@ pub fn cell_place(m: &[u8], t: usize, k: usize, c: usize) -> Part
 
 // The place of parameter p of an accepted invocation.
 fn param_in(m: &[u8], p: usize) -> Answer
-    ensures { (v : Message) → readMessage 3 m.now ≡ ok v → toldAnswer result ≡ bind (entry (params_of v) p) (λ q. ok (param_at v p)) }
+    ensures { (v : Message) → read_message 3 m.now ≡ ok v → told_answer result ≡ bind (entry (params_of v) p) (λ q. ok (param_at v p)) }
 {
     let client = past(scan::skip_body(m, 5, false));
     let counted = after(m, client, 8);
@@ -600,7 +600,7 @@ fn param_in(m: &[u8], p: usize) -> Answer
 }
 
 fn find_param(m: &[u8], p: usize) -> Answer
-    ensures { toldAnswer result ≡ of_param m.now p (λ at q. ok at) }
+    ensures { told_answer result ≡ of_param m.now p (λ at q. ok at) }
 {
     let verdict = message::accept(3, m);
     match verdict {
@@ -611,14 +611,14 @@ fn find_param(m: &[u8], p: usize) -> Answer
 
 // How many bytes the count of an array's elements has.
 fn count_width(t: u8) -> usize
-    ensures { result ≡ pick (eqb t tTinyint) 4 2 }
+    ensures { result ≡ pick (eqb t t_tinyint) 4 2 }
 {
     if t == format::TINYINT { 4 } else { 2 }
 }
 
 // The parameter at a place.
 fn argument_at(m: &[u8], at: usize) -> Argued
-    ensures { (q : Param) → Stands param m.now at q → toldArgument result ≡ ok (given_of at q.type q.argument) }
+    ensures { (q : Param) → Stands param m.now at q → told_argument result ≡ ok (given_of at q.type q.argument) }
 {
     let t = scan::byte_at(m, at);
     let inner = after(m, at, 1);
@@ -635,7 +635,7 @@ fn argument_at(m: &[u8], at: usize) -> Argued
 
 // Parameter p of an invocation, shown.
 pub fn parameter(m: &[u8], p: usize) -> Argued
-    ensures { toldArgument result ≡ askParameter m.now p }
+    ensures { told_argument result ≡ ask_parameter m.now p }
 {
     let place = find_param(m, p);
     match place {
@@ -646,7 +646,7 @@ pub fn parameter(m: &[u8], p: usize) -> Argued
 
 // The value that a parameter at a place is, and where its type stands.
 fn one_at(m: &[u8], at: usize) -> FoundCell
-    ensures { (q : Param) → Stands param m.now at q → toldFound result ≡ bind (valueHere at q.type q.argument) (λ h. ok (shownOf h)) }
+    ensures { (q : Param) → Stands param m.now at q → told_found result ≡ bind (value_here at q.type q.argument) (λ h. ok (shown_of h)) }
 {
     let t = scan::byte_at(m, at);
     if t == format::NULL {
@@ -660,7 +660,7 @@ fn one_at(m: &[u8], at: usize) -> FoundCell
 }
 
 fn find_value(m: &[u8], p: usize) -> FoundCell
-    ensures { toldFound result ≡ of_param m.now p (λ at q. bind (valueHere at q.type q.argument) (λ h. ok (shownOf h))) }
+    ensures { told_found result ≡ of_param m.now p (λ at q. bind (value_here at q.type q.argument) (λ h. ok (shown_of h))) }
 {
     let place = find_param(m, p);
     match place {
@@ -671,14 +671,14 @@ fn find_value(m: &[u8], p: usize) -> FoundCell
 
 // Where the bytes of a text or binary parameter stand, or that it is null.
 pub fn parameter_span(m: &[u8], p: usize) -> Part
-    ensures { toldPart result ≡ askParameterSpan m.now p }
+    ensures { told_part result ≡ ask_parameter_span m.now p }
 {
     span_of(find_value(m, p))
 }
 
 // The element of an array at a place, and where the elements' type stands.
 fn element_at(m: &[u8], at: usize, e: usize) -> FoundCell
-    ensures { (q : Param) → Stands param m.now at q → toldFound result ≡ bind (elementOf at q.argument e) (λ h. ok (shownOf h)) }
+    ensures { (q : Param) → Stands param m.now at q → told_found result ≡ bind (element_of at q.argument e) (λ h. ok (shown_of h)) }
 {
     if scan::byte_at(m, at) != format::ARRAY {
         return FoundCell::No(wrong_type(at));
@@ -696,7 +696,7 @@ fn element_at(m: &[u8], at: usize, e: usize) -> FoundCell
 }
 
 fn find_element(m: &[u8], p: usize, e: usize) -> FoundCell
-    ensures { toldFound result ≡ of_param m.now p (λ at q. bind (elementOf at q.argument e) (λ h. ok (shownOf h))) }
+    ensures { told_found result ≡ of_param m.now p (λ at q. bind (element_of at q.argument e) (λ h. ok (shown_of h))) }
 {
     let place = find_param(m, p);
     match place {
@@ -707,14 +707,14 @@ fn find_element(m: &[u8], p: usize, e: usize) -> FoundCell
 
 // Element e of the array that parameter p is, shown.
 pub fn element(m: &[u8], p: usize, e: usize) -> CellAnswer
-    ensures { toldCell result ≡ askElement m.now p e }
+    ensures { told_cell result ≡ ask_element m.now p e }
 {
     cell_of(find_element(m, p, e))
 }
 
 // Where the bytes of a text or binary element stand, or that it is null.
 pub fn element_span(m: &[u8], p: usize, e: usize) -> Part
-    ensures { toldPart result ≡ askElementSpan m.now p e }
+    ensures { told_part result ≡ ask_element_span m.now p e }
 {
     span_of(find_element(m, p, e))
 }

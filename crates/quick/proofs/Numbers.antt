@@ -7,7 +7,7 @@ use lib.Arith.{digits_lt}
 use native.Mathlib.Omega.{arith}
 use native.Mathlib.Nat.{pow-succ'}
 use Rattle.format.specs.Number.{num_at}
-use Rattle.scan.proofs.Sixteen.{numAt-split}
+use Rattle.scan.proofs.Sixteen.{num_at_split}
 
 sum : (a b c d x y z : ℕ) → x ≡ b → y ≡ c → z ≡ d → a * 256 ^ 3 + (x * 256 ^ 2 + (y * 256 ^ 1 + (z * 256 ^ 0 + 0))) ≡ a * 16777216 + (b * 65536 + (c * 256 + d))
 sum a b c d x y z e f g = rw (e, f, g) (omega arith)
@@ -26,9 +26,9 @@ two_is s at = omega arith
 
 pub eight_is : (s : List ℕ) (at : ℕ) → (num_at 2 s at * 0x1000000000000 + num_at 2 s (at + 2) * 0x100000000) + (num_at 2 s (at + 4) * 0x10000 + num_at 2 s (at + 6)) ≡ num_at 8 s at
 eight_is s at =
-    let cut : num_at 8 s at ≡ num_at 4 s at * 0x100000000 + num_at 4 s (at + 4) = numAt-split 4 4 s at in
-    let high : num_at 4 s at ≡ num_at 2 s at * 0x10000 + num_at 2 s (at + 2) = numAt-split 2 2 s at in
-    let low : num_at 4 s (at + 4) ≡ num_at 2 s (at + 4) * 0x10000 + num_at 2 s (at + 4 + 2) = numAt-split 2 2 s (at + 4) in
+    let cut : num_at 8 s at ≡ num_at 4 s at * 0x100000000 + num_at 4 s (at + 4) = num_at_split 4 4 s at in
+    let high : num_at 4 s at ≡ num_at 2 s at * 0x10000 + num_at 2 s (at + 2) = num_at_split 2 2 s at in
+    let low : num_at 4 s (at + 4) ≡ num_at 2 s (at + 4) * 0x10000 + num_at 2 s (at + 4 + 2) = num_at_split 2 2 s (at + 4) in
     let last : num_at 2 s (at + 4 + 2) ≡ num_at 2 s (at + 6) = ap (num_at 2 s) (omega arith) in
     omega arith
 

@@ -11,23 +11,23 @@ use Rattle.format.specs.Result.{Res, ok, no, bind}
 use Rattle.format.specs.Format.{Format, Index, nothing, each}
 use Rattle.format.specs.Number.{num_at}
 use Rattle.format.specs.Value.{value, anything}
-use Rattle.format.specs.Message.{second, third, row, mostRow}
+use Rattle.format.specs.Message.{second, third, row, most_row}
 use Rattle.scan.specs.declared.Body.{Body}
 use Rattle.scan.specs.declared.Next.{Next}
-use Rattle.scan.specs.Shown.{shownNext, shownBody, nextNo}
-use Rattle.scan.proofs.Answers.{next-go}
-use Rattle.scan.proofs.Counted.{here, room-full}
-use Rattle.scan.proofs.Loops.{Rest, replicate-formats, loop-done, loop-turn, loop-stop}
+use Rattle.scan.specs.Shown.{shown_next, shown_body, next_no}
+use Rattle.scan.proofs.Answers.{next_go}
+use Rattle.scan.proofs.Counted.{here, room_full}
+use Rattle.scan.proofs.Loops.{Rest, replicate-formats, loop_done, loop_turn, loop_stop}
 use Rattle.quick.specs.declared.Run.{Run}
-use Rattle.quick.specs.Past.{Ends, PlainRow, RunOf, mostPlain}
-use Rattle.quick.proofs.Bodies.{counted-reads}
+use Rattle.quick.specs.Past.{Ends, Plain_row, Run_of, most_plain}
+use Rattle.quick.proofs.Bodies.{counted_reads}
 
 module _ {A : Type 0} (s : List ℕ) where
   -- the index plays no part in a reading
-  index-free : (an-index other : ℕ → Index → Index) (fs : List (Format A)) (k l at : ℕ) → (each an-index k fs).read s at ≡ (each other l fs).read s at
+  index_free : (an-index other : ℕ → Index → Index) (fs : List (Format A)) (k l at : ℕ) → (each an-index k fs).read s at ≡ (each other l fs).read s at
   unfolding each nothing
-  index-free an-index other [] k l at = refl
-  index-free an-index other (f ∷ fs) k l at = by_result (f.read s at) (index-free an-index other fs (k + 1) (l + 1))
+  index_free an-index other [] k l at = refl
+  index_free an-index other (f ∷ fs) k l at = by_result (f.read s at) (index_free an-index other fs (k + 1) (l + 1))
     where
       by_result : (r : Res (A × ℕ)) → ((next : ℕ) → (each an-index (k + 1) fs).read s next ≡ (each other (l + 1) fs).read s next)
           → bind {B = List A × ℕ} r (λ p. bind {B = List A × ℕ} ((each an-index (k + 1) fs).read s p.1) (λ q. ok (p.0 ∷ q.0, q.1)))
@@ -37,41 +37,41 @@ module _ {A : Type 0} (s : List ℕ) where
 
 module _ {A : Type 0} (f : Format A) (s : List ℕ) (n i at : ℕ) where
   left : Rest second (λ j. f) s n i at ≡ Ends f s (n - i) at
-  left = ap shownNext (ap (λ (l : List (Format A)). (each second i l).read s at) (replicate-formats f i (n - i)) ∙ index-free s second second (replicate (n - i) f) i 0 at)
+  left = ap shown_next (ap (λ (l : List (Format A)). (each second i l).read s at) (replicate-formats f i (n - i)) ∙ index_free s second second (replicate (n - i) f) i 0 at)
 
-  pub ends-done : n ≤ i → Ends f s (n - i) at ≡ Next.At at
-  ends-done h = sym left ∙ loop-done second (λ j. f) s n i at h
+  pub ends_done : n ≤ i → Ends f s (n - i) at ≡ Next.At at
+  ends_done h = sym left ∙ loop_done second (λ j. f) s n i at h
 
 -- readings that are numbered otherwise end alike
-pub names-end : {A : Type 0} (f : Format A) (s : List ℕ) (n at : ℕ) → shownNext ((each third 0 (replicate n f)).read s at) ≡ Ends f s n at
-names-end f s n at = ap shownNext (index-free s third second (replicate n f) 0 0 at)
+pub names_end : {A : Type 0} (f : Format A) (s : List ℕ) (n at : ℕ) → shown_next ((each third 0 (replicate n f)).read s at) ≡ Ends f s n at
+names_end f s n at = ap shown_next (index_free s third second (replicate n f) 0 0 at)
 
-module _ {A : Type 0} (f : Format A) (s : List ℕ) (n i at : ℕ) (h : i < n) {a : Next} (e : a ≡ shownNext (f.read s at)) where
-  pub ends-turn : {next : ℕ} → a ≡ Next.At next → Ends f s (n - (i + 1)) next ≡ Ends f s (n - i) at
-  ends-turn {next} told = sym (left f s n (i + 1) next) ∙ loop-turn second (λ j. f) s n i at h e told ∙ left f s n i at
+module _ {A : Type 0} (f : Format A) (s : List ℕ) (n i at : ℕ) (h : i < n) {a : Next} (e : a ≡ shown_next (f.read s at)) where
+  pub ends_turn : {next : ℕ} → a ≡ Next.At next → Ends f s (n - (i + 1)) next ≡ Ends f s (n - i) at
+  ends_turn {next} told = sym (left f s n (i + 1) next) ∙ loop_turn second (λ j. f) s n i at h e told ∙ left f s n i at
 
-  pub ends-stop : {x given : Refusal} → a ≡ Next.No given → x ≡ nextNo a → Ends f s (n - i) at ≡ Next.No x
-  ends-stop told out = sym (left f s n i at) ∙ loop-stop second (λ j. f) s n i at h e told out
+  pub ends_stop : {x given : Refusal} → a ≡ Next.No given → x ≡ next_no a → Ends f s (n - i) at ≡ Next.No x
+  ends_stop told out = sym (left f s n i at) ∙ loop_stop second (λ j. f) s n i at h e told out
 
 -- after a run of readings
-pub ends-run : {A : Type 0} (f : Format A) (s : List ℕ) (from n i at : ℕ) (r : Run) → RunOf f s at (n - i) r → Ends f s (n - i) at ≡ Ends f s n from → Ends f s (n - (i + r.passed)) r.at ≡ Ends f s n from
-ends-run f s from n i at r run all =
+pub ends_run : {A : Type 0} (f : Format A) (s : List ℕ) (from n i at : ℕ) (r : Run) → Run_of f s at (n - i) r → Ends f s (n - i) at ≡ Ends f s n from → Ends f s (n - (i + r.passed)) r.at ≡ Ends f s n from
+ends_run f s from n i at r run all =
     let same : n - (i + r.passed) ≡ n - i - r.passed = omega arith in
     ap (λ (k : ℕ). Ends f s k r.at) same ∙ run.1 ∙ all
 
 -- a row whose cells end where its length says
-module _ (types : List ℕ) (s : List ℕ) (at end : ℕ) (few : num_at 4 s at ≤ mostRow) (place : end ≡ at + 4 + num_at 4 s at) (fit : end ≤ length s) where
-  pub row_reads : shownNext ((each third 0 (map (value 50 51) types)).read (take end s) (at + 4)) ≡ Next.At end → shownNext ((row types).read s at) ≡ Next.At end
+module _ (types : List ℕ) (s : List ℕ) (at end : ℕ) (few : num_at 4 s at ≤ most_row) (place : end ≡ at + 4 + num_at 4 s at) (fit : end ≤ length s) where
+  pub row_reads : shown_next ((each third 0 (map (value 50 51) types)).read (take end s) (at + 4)) ≡ Next.At end → shown_next ((row types).read s at) ≡ Next.At end
   unfolding row
   row_reads told =
-      let body = counted-reads s at end place fit mostRow anything 0 0 few (omega arith) refl in
-      let h = here false mostRow s at {b = Body.Is (at + 4) end} (sym (ap (shownBody at) body)) refl in
-      let go = next-go ((each third 0 (map (value 50 51) types)).read (take end s) (at + 4)) refl told in
-      ap shownNext (room-full mostRow 49 (each third 0 (map (value 50 51) types)) s at h go.1 refl)
+      let body = counted_reads s at end place fit most_row anything 0 0 few (omega arith) refl in
+      let h = here false most_row s at {b = Body.Is (at + 4) end} (sym (ap (shown_body at) body)) refl in
+      let go = next_go ((each third 0 (map (value 50 51) types)).read (take end s) (at + 4)) refl told in
+      ap shown_next (room_full most_row 49 (each third 0 (map (value 50 51) types)) s at h go.1 refl)
 
-pub plain-row-reads : (types : List ℕ) (plain : ℕ) (s : List ℕ) (at : ℕ) → PlainRow types plain → 0 < plain → plain ≤ mostPlain → at + (4 + plain) ≤ length s → num_at 4 s at ≡ plain
-    → shownNext ((row types).read s at) ≡ Next.At (at + (4 + plain))
-plain-row-reads types plain s at is there small fit size =
+pub plain_row_reads : (types : List ℕ) (plain : ℕ) (s : List ℕ) (at : ℕ) → Plain_row types plain → 0 < plain → plain ≤ most_plain → at + (4 + plain) ≤ length s → num_at 4 s at ≡ plain
+    → shown_next ((row types).read s at) ≡ Next.At (at + (4 + plain))
+plain_row_reads types plain s at is there small fit size =
     let end = at + (4 + plain) in
     let room : length (take end s) ≡ end = length-take-le end s fit in
     let place : at + 4 + plain ≡ end = omega arith in

@@ -6,10 +6,10 @@ ghost use Rattle.format.specs.declared.Fault.TheVariants.{Decimal, Point};
 ghost use Rattle.format.specs.Number.{num_at};
 ghost use Rattle.format.specs.Format.{each, number, ruled, counted};
 ghost use Rattle.format.specs.Text.{utf8};
-ghost use Rattle.format.specs.Value.{value, string, ascii, anything, notEmpty, decimalFine, pointFine};
-ghost use Rattle.format.specs.Message.{second, third, row, mostColumns, unlimited};
-ghost use Rattle.scan.specs.Shown.{shownNext, shownBody};
-ghost use Rattle.quick.specs.Past.{Low, Past, PastBody, PlainRow, PlainRun, RowOf, RunOf, SureBody, Surely, Within, mostPlain, plain_of, size_of};
+ghost use Rattle.format.specs.Value.{value, string, ascii, anything, not_empty, decimal_fine, point_fine};
+ghost use Rattle.format.specs.Message.{second, third, row, most_columns, unlimited};
+ghost use Rattle.scan.specs.Shown.{shown_next, shown_body};
+ghost use Rattle.quick.specs.Past.{Low, Past, Past_body, Plain_row, Plain_run, Row_of, Run_of, Sure_body, Surely, Within, most_plain, plain_of, size_of};
 
 use scan::{Body, Next};
 use text::Found;
@@ -43,7 +43,7 @@ enum Sure {
 // The counted body of at most so many bytes whose length stands at a place, if it fits. It is no null's. The limit is far below the least length that has a
 // sign: for a test of the sign by itself the compiler would read the length byte by byte.
 fn sure_body(s: &[u8], at: usize, most: u64) -> Sure
-    ensures { SureBody s.now at most result }
+    ensures { Sure_body s.now at most result }
 {
     if s.len() < at {
         return Sure::Not;
@@ -64,7 +64,7 @@ fn sure_body(s: &[u8], at: usize, most: u64) -> Sure
 
 // The room of a table or of its metadata. None that is longer than a message fits one, so that scan only has to say what is refused.
 pub fn read_room(s: &[u8], at: usize) -> Body
-    ensures { result ≡ shownBody at ((counted false unlimited anything 0 0).read s.now at) }
+    ensures { result ≡ shown_body at ((counted false unlimited anything 0 0).read s.now at) }
 {
     let Sure::Is(start, end) = sure_body(s, at, format::MOST_MESSAGE) else {
         return scan::read_body(s, at, false, format::UNLIMITED);
@@ -95,7 +95,7 @@ struct Run {
 
 // Past as many of n names as are surely fine.
 fn past_names(s: &[u8], from: usize, n: usize) -> Run
-    ensures { RunOf (string false ascii 46 47) s.now from n result }
+    ensures { Run_of (string false ascii 46 47) s.now from n result }
 {
     let mut at = from;
     let mut i = 0;
@@ -112,7 +112,7 @@ fn past_names(s: &[u8], from: usize, n: usize) -> Run
 
 // Past n names: scan says what is refused of one that isn't surely fine.
 pub fn skip_names(s: &[u8], from: usize, n: usize) -> Next
-    ensures { result ≡ shownNext ((each third 0 (replicate n (string false ascii 46 47))).read s.now from) }
+    ensures { result ≡ shown_next ((each third 0 (replicate n (string false ascii 46 47))).read s.now from) }
 {
     let run = past_names(s, from, n);
     if run.passed == n {
@@ -131,7 +131,7 @@ fn body_size(n: u64) -> u64
 // Past a counted body or a null.
 fn past_body(s: &[u8], at: usize) -> usize
     requires { Low at }
-    ensures { PastBody s.now at result }
+    ensures { Past_body s.now at result }
 {
     if s.len() < at + 4 {
         return 0;
@@ -164,7 +164,7 @@ fn past_text(s: &[u8], at: usize) -> usize
 // Past a geography, which isn't empty.
 fn past_geography(s: &[u8], at: usize) -> usize
     requires { Low at }
-    ensures { Past s.now at ((string true notEmpty 0 0).read s.now at) result }
+    ensures { Past s.now at ((string true not_empty 0 0).read s.now at) result }
 {
     if s.len() < at + 4 {
         return 0;
@@ -201,7 +201,7 @@ pub fn eight(s: &[u8], at: usize) -> u64
 // of -10^38, 13025733211282029445 without a sign.
 fn past_decimal(s: &[u8], at: usize) -> usize
     requires { Low at }
-    ensures { Past s.now at ((ruled decimalFine Decimal (number 16 0)).read s.now at) result }
+    ensures { Past s.now at ((ruled decimal_fine Decimal (number 16 0)).read s.now at) result }
 {
     if s.len() < at + 16 {
         return 0;
@@ -225,7 +225,7 @@ fn past_decimal(s: &[u8], at: usize) -> usize
 // Past a point.
 fn past_point(s: &[u8], at: usize) -> usize
     requires { Low at }
-    ensures { Past s.now at ((ruled pointFine Point (number 16 0)).read s.now at) result }
+    ensures { Past s.now at ((ruled point_fine Point (number 16 0)).read s.now at) result }
 {
     if s.len() < at + 16 {
         return 0;
@@ -257,7 +257,7 @@ fn past_value(s: &[u8], at: usize, t: u8) -> usize
 
 // Where a row's last cell ends, in a room or past it.
 fn past_cells(s: &[u8], from: usize, types: &[u8]) -> usize
-    requires { (from ≤ length s.now) × (length types.now ≤ mostColumns) }
+    requires { (from ≤ length s.now) × (length types.now ≤ most_columns) }
     ensures { Within s.now ((each third 0 (map (value 50 51) types.now)).read s.now from) result }
 {
     let mut at = from;
@@ -275,7 +275,7 @@ fn past_cells(s: &[u8], from: usize, types: &[u8]) -> usize
 
 // Past a row that is surely fine.
 fn past_row(s: &[u8], at: usize, types: &[u8]) -> usize
-    requires { length types.now ≤ mostColumns }
+    requires { length types.now ≤ most_columns }
     ensures { Surely ((row types.now).read s.now at) result }
 {
     let Sure::Is(start, end) = sure_body(s, at, format::MOST_ROW) else {
@@ -287,8 +287,8 @@ fn past_row(s: &[u8], at: usize, types: &[u8]) -> usize
 
 // Past as many of n rows as are surely fine.
 fn past_rows(s: &[u8], from: usize, types: &[u8], n: usize) -> Run
-    requires { length types.now ≤ mostColumns }
-    ensures { RunOf (row types.now) s.now from n result }
+    requires { length types.now ≤ most_columns }
+    ensures { Run_of (row types.now) s.now from n result }
 {
     let mut at = from;
     let mut i = 0;
@@ -305,8 +305,8 @@ fn past_rows(s: &[u8], from: usize, types: &[u8], n: usize) -> Run
 
 // Past n rows of any columns: scan looks at a row that isn't surely fine.
 fn skip_ruled(s: &[u8], from: usize, types: &[u8], n: usize) -> Next
-    requires { length types.now ≤ mostColumns }
-    ensures { result ≡ shownNext ((each second 0 (replicate n (row types.now))).read s.now from) }
+    requires { length types.now ≤ most_columns }
+    ensures { result ≡ shown_next ((each second 0 (replicate n (row types.now))).read s.now from) }
 {
     let mut at = from;
     let mut i = 0;
@@ -342,8 +342,8 @@ fn plain_of(t: u8) -> usize
 
 // How many bytes the cells of a row have if every column's type has one size and no rule; else 0.
 fn plain_row(types: &[u8]) -> usize
-    requires { length types.now ≤ mostColumns }
-    ensures { PlainRow types.now result × (result ≤ mostPlain) }
+    requires { length types.now ≤ most_columns }
+    ensures { Plain_row types.now result × (result ≤ most_plain) }
 {
     let mut sum = 0;
     let mut i = 0;
@@ -360,8 +360,8 @@ fn plain_row(types: &[u8]) -> usize
 
 // Whether a row of so many bytes stands at a place.
 fn is_plain(s: &[u8], at: usize, plain: usize) -> bool
-    requires { plain ≤ mostPlain }
-    ensures { RowOf s.now at plain result }
+    requires { plain ≤ most_plain }
+    ensures { Row_of s.now at plain result }
 {
     if s.len() < at {
         return false;
@@ -374,8 +374,8 @@ fn is_plain(s: &[u8], at: usize, plain: usize) -> bool
 
 // Past as many of n rows as have so many bytes. No row is asked more whose columns have no rule.
 fn plain_rows(s: &[u8], from: usize, n: usize, plain: usize) -> Run
-    requires { (0 < plain) × (plain ≤ mostPlain) }
-    ensures { PlainRun s.now from n plain result }
+    requires { (0 < plain) × (plain ≤ most_plain) }
+    ensures { Plain_run s.now from n plain result }
 {
     let mut at = from;
     let mut i = 0;
@@ -391,7 +391,7 @@ fn plain_rows(s: &[u8], from: usize, n: usize, plain: usize) -> Run
 
 // Past n rows. Where there are none, no type is looked at. As skip_ruled has two callers it stays a function of its own, in which the compiler keeps all places in registers.
 pub fn skip_rows(s: &[u8], from: usize, types: &[u8], n: usize) -> Next
-    ensures { result ≡ shownNext ((each second 0 (replicate n (row types.now))).read s.now from) }
+    ensures { result ≡ shown_next ((each second 0 (replicate n (row types.now))).read s.now from) }
 {
     if format::MOST_COLUMNS < types.len() as u64 {
         return scan::skip_rows(s, from, types, n);

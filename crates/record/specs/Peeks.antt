@@ -2,7 +2,7 @@
 -- A field that can't be read, which no accepted message has, gives nothing, and the next one its place.
 use Rattle.std.specs.Prelude.{ℕ, Bool, false, List, replicate, eqb}
 use Rattle.std.proofs.Math.Option.{Option, none}
-use Rattle.format.specs.Number.{numBytes}
+use Rattle.format.specs.Number.{num_bytes}
 use Rattle.format.specs.Result.{Res, ok, no, pick}
 use Rattle.format.specs.Format.{number, block, present}
 use Rattle.format.specs.Value.{string, anything}
@@ -17,86 +17,86 @@ use Rattle.record.specs.declared.LoginRequestRecord.{LoginRequestRecord}
 use Rattle.record.specs.declared.LoginResponseRecord.{LoginResponseRecord}
 use Rattle.record.specs.declared.InvocationRecord.{InvocationRecord}
 use Rattle.record.specs.Spans.{span_of, note_of}
-use Rattle.record.specs.Records.{loginResponseOf}
+use Rattle.record.specs.Records.{login_response_of}
 
-abbrev pub numIn : ℕ → Res (ℕ × ℕ) → Num
-numIn at (ok p) = record { n = p.0; next = p.1 }
-numIn at (no f p) = record { n = 0; next = at }
+abbrev pub num_in : ℕ → Res (ℕ × ℕ) → Num
+num_in at (ok p) = record { n = p.0; next = p.1 }
+num_in at (no f p) = record { n = 0; next = at }
 
-abbrev pub spotIn : ℕ → Res (Option (List ℕ) × ℕ) → Spot
-spotIn at (ok p) = record { span = span_of at p.0; next = p.1 }
-spotIn at (no f p) = record { span = Span.Absent; next = at }
+abbrev pub spot_in : ℕ → Res (Option (List ℕ) × ℕ) → Spot
+spot_in at (ok p) = record { span = span_of at p.0; next = p.1 }
+spot_in at (no f p) = record { span = Span.Absent; next = at }
 
-abbrev pub noteIn : ℕ → Res (Option (Option (List ℕ)) × ℕ) → Spot
-noteIn at (ok p) = record { span = note_of at p.0; next = p.1 }
-noteIn at (no f p) = record { span = Span.Absent; next = at }
+abbrev pub note_in : ℕ → Res (Option (Option (List ℕ)) × ℕ) → Spot
+note_in at (ok p) = record { span = note_of at p.0; next = p.1 }
+note_in at (no f p) = record { span = Span.Absent; next = at }
 
-abbrev pub blockIn : ℕ → Res (List ℕ × ℕ) → Block
-blockIn at (ok p) = record { bytes = p.0; next = p.1 }
-blockIn at (no f p) = record { bytes = replicate 8 0; next = at }
+abbrev pub block_in : ℕ → Res (List ℕ × ℕ) → Block
+block_in at (ok p) = record { bytes = p.0; next = p.1 }
+block_in at (no f p) = record { bytes = replicate 8 0; next = at }
 
 -- how many bytes a hash has
-abbrev pub hashSize : ℕ → ℕ
-hashSize h = pick (eqb h 1) 32 20
+abbrev pub hash_size : ℕ → ℕ
+hash_size h = pick (eqb h 1) 32 20
 
 module _ (s : List ℕ) where
   unfoldable pub number_at : ℕ → ℕ → Num
-  number_at at k = numIn at ((number k 0).read s at)
+  number_at at k = num_in at ((number k 0).read s at)
 
-  unfoldable pub textAt : ℕ → Bool → Spot
-  textAt at nullable = spotIn at ((string nullable anything 0 0).read s at)
+  unfoldable pub text_at : ℕ → Bool → Spot
+  text_at at nullable = spot_in at ((string nullable anything 0 0).read s at)
 
-  unfoldable pub noteAt : ℕ → Bool → Bool → Spot
-  noteAt at there nullable = noteIn at ((present there none (string nullable anything 0 0)).read s at)
+  unfoldable pub note_at : ℕ → Bool → Bool → Spot
+  note_at at there nullable = note_in at ((present there none (string nullable anything 0 0)).read s at)
 
   unfoldable pub block_at : ℕ → Block
-  block_at at = blockIn at ((block 8 0).read s at)
+  block_at at = block_in at ((block 8 0).read s at)
 
   -- a number, and a string after it that is there or not
-  abbrev pub notedAt : ℕ → ℕ → Bool → Bool → Noted
-  notedAt at k there nullable = record {
+  abbrev pub noted_at : ℕ → ℕ → Bool → Bool → Noted
+  noted_at at k there nullable = record {
     number = (number_at at k).n;
-    span = (noteAt (number_at at k).next there nullable).span;
-    next = (noteAt (number_at at k).next there nullable).next;
+    span = (note_at (number_at at k).next there nullable).span;
+    next = (note_at (number_at at k).next there nullable).next;
   }
 
   -- kind 1: service, user and hash from a place on
-  abbrev pub loginAt : ℕ → ℕ → Edition → ℕ → LoginRequestRecord
-  loginAt at version edition size = record {
+  abbrev pub login_at : ℕ → ℕ → Edition → ℕ → LoginRequestRecord
+  login_at at version edition size = record {
     version = signed 1 version;
     hash_version = edition;
-    service = (textAt at false).span;
-    user = (textAt (textAt at false).next false).span;
-    hash = Span.At (textAt (textAt at false).next false).next size;
+    service = (text_at at false).span;
+    user = (text_at (text_at at false).next false).span;
+    hash = Span.At (text_at (text_at at false).next false).next size;
   }
 
-  abbrev pub loginRequestAt : LoginRequestRecord
-  loginRequestAt =
+  abbrev pub login_request_at : LoginRequestRecord
+  login_request_at =
       pick (eqb (number_at 4 1).n 1)
-      (loginAt 6 (number_at 4 1).n (Edition.Is (signed 1 (number_at 5 1).n)) (hashSize (number_at 5 1).n))
-      (loginAt 5 (number_at 4 1).n Edition.Absent 20)
+      (login_at 6 (number_at 4 1).n (Edition.Is (signed 1 (number_at 5 1).n)) (hash_size (number_at 5 1).n))
+      (login_at 5 (number_at 4 1).n Edition.Absent 20)
 
   -- kind 2: what follows a result of 0
-  abbrev pub serverAt : ℕ → ℕ → LoginResponseRecord
-  serverAt version result = record {
+  abbrev pub server_at : ℕ → ℕ → LoginResponseRecord
+  server_at version result = record {
     version = signed 1 version;
     result = signed 1 result;
     host = signed 4 (number_at 6 4).n;
     connection = signed 8 (number_at 10 8).n;
     start = signed 8 (number_at 18 8).n;
-    leader = numBytes 4 (number_at 26 4).n;
-    build = (textAt 30 false).span;
+    leader = num_bytes 4 (number_at 26 4).n;
+    build = (text_at 30 false).span;
   }
 
-  abbrev pub loginResponseAt : LoginResponseRecord
-  loginResponseAt = pick (eqb (number_at 5 1).n 0) (serverAt (number_at 4 1).n (number_at 5 1).n) (loginResponseOf (number_at 4 1).n (number_at 5 1).n none)
+  abbrev pub login_response_at : LoginResponseRecord
+  login_response_at = pick (eqb (number_at 5 1).n 0) (server_at (number_at 4 1).n (number_at 5 1).n) (login_response_of (number_at 4 1).n (number_at 5 1).n none)
 
   -- kind 3
-  abbrev pub invocationAt : InvocationRecord
-  invocationAt = record {
+  abbrev pub invocation_at : InvocationRecord
+  invocation_at = record {
     version = signed 1 (number_at 4 1).n;
-    procedure = (textAt 5 false).span;
-    client = (block_at (textAt 5 false).next).bytes;
-    params = (number_at (block_at (textAt 5 false).next).next 2).n;
-    params_at = (number_at (block_at (textAt 5 false).next).next 2).next;
+    procedure = (text_at 5 false).span;
+    client = (block_at (text_at 5 false).next).bytes;
+    params = (number_at (block_at (text_at 5 false).next).next 2).n;
+    params_at = (number_at (block_at (text_at 5 false).next).next 2).next;
   }

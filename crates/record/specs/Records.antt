@@ -2,12 +2,12 @@
 -- A message's version stands at 4, and what follows it at 5.
 use Rattle.std.specs.Prelude.{ℕ, ◌+◌, length, replicate}
 use Rattle.std.proofs.Math.Option.{Option, some, none, get_or}
-use Rattle.format.specs.Number.{numBytes}
+use Rattle.format.specs.Number.{num_bytes}
 use Rattle.format.specs.Result.{Res, ok, no}
 use Rattle.format.specs.Message as wire
 use Rattle.format.specs.Message.{Message, Server}
 use Rattle.scan.specs.Signed.{signed}
-use Rattle.places.specs.Places.{afterText, afterNote, afterNumber}
+use Rattle.places.specs.Places.{after_text, after_note, after_number}
 use Rattle.record.specs.declared.Span.{Span}
 use Rattle.record.specs.declared.Edition.{Edition}
 use Rattle.record.specs.declared.LoginRequestRecord.{LoginRequestRecord}
@@ -18,36 +18,36 @@ use Rattle.record.specs.Spans.{span_of, note_of}
 
 module _ {A : Type 0} where
   -- the record of a message that is accepted; of one that is not, the record given
-  abbrev pub recordIn : (Message → A) → A → Res Message → A
-  recordIn show d (ok r) = show r
-  recordIn show d (no f p) = d
+  abbrev pub record_in : (Message → A) → A → Res Message → A
+  record_in show d (ok r) = show r
+  record_in show d (no f p) = d
 
 -- kind 1
-abbrev pub editionOf : Option ℕ → Edition
-editionOf none = Edition.Absent
-editionOf (some n) = Edition.Is (signed 1 n)
+abbrev pub edition_of : Option ℕ → Edition
+edition_of none = Edition.Absent
+edition_of (some n) = Edition.Is (signed 1 n)
 
-abbrev pub loginRequestOf : ℕ → wire.LoginRequest → LoginRequestRecord
-loginRequestOf version l =
-    let service = afterNumber 1 5 l.hashVersion in
-    let user = afterText service l.service in
+abbrev pub login_request_of : ℕ → wire.Login_request → LoginRequestRecord
+login_request_of version l =
+    let service = after_number 1 5 l.hash_version in
+    let user = after_text service l.service in
     record {
       version = signed 1 version;
-      hash_version = editionOf l.hashVersion;
+      hash_version = edition_of l.hash_version;
       service = span_of service l.service;
       user = span_of user l.user;
-      hash = Span.At (afterText user l.user) (length l.hash);
+      hash = Span.At (after_text user l.user) (length l.hash);
     }
 
-abbrev pub noLoginRequest : LoginRequestRecord
-noLoginRequest = record { version = signed 1 0; hash_version = Edition.Absent; service = Span.Absent; user = Span.Absent; hash = Span.Absent }
+abbrev pub no_login_request : LoginRequestRecord
+no_login_request = record { version = signed 1 0; hash_version = Edition.Absent; service = Span.Absent; user = Span.Absent; hash = Span.Absent }
 
-abbrev pub shownLoginRequest : Res Message → LoginRequestRecord
-shownLoginRequest = recordIn (λ r. loginRequestOf r.version (wire.loginRequest-of r.content)) noLoginRequest
+abbrev pub shown_login_request : Res Message → LoginRequestRecord
+shown_login_request = record_in (λ r. login_request_of r.version (wire.the_login_request r.content)) no_login_request
 
 -- kind 2: what only follows a result of 0 is 0 or absent else
-abbrev pub loginResponseOf : ℕ → ℕ → Option Server → LoginResponseRecord
-loginResponseOf version result none = record {
+abbrev pub login_response_of : ℕ → ℕ → Option Server → LoginResponseRecord
+login_response_of version result none = record {
   version = signed 1 version;
   result = signed 1 result;
   host = signed 4 0;
@@ -56,23 +56,23 @@ loginResponseOf version result none = record {
   leader = replicate 4 0;
   build = Span.Absent;
 }
-loginResponseOf version result (some v) = record {
+login_response_of version result (some v) = record {
   version = signed 1 version;
   result = signed 1 result;
   host = signed 4 v.host;
   connection = signed 8 v.connection;
   start = signed 8 v.start;
-  leader = numBytes 4 v.leader;
+  leader = num_bytes 4 v.leader;
   build = span_of 30 v.build;
 }
 
-abbrev pub shownLoginResponse : Res Message → LoginResponseRecord
-shownLoginResponse = recordIn (λ r. loginResponseOf r.version (wire.loginResponse-of r.content).result (wire.loginResponse-of r.content).server) (loginResponseOf 0 0 none)
+abbrev pub shown_login_response : Res Message → LoginResponseRecord
+shown_login_response = record_in (λ r. login_response_of r.version (wire.the_login_response r.content).result (wire.the_login_response r.content).server) (login_response_of 0 0 none)
 
 -- kind 3, with the number of its parameters and where they begin
-abbrev pub invocationOf : ℕ → wire.Invocation → InvocationRecord
-invocationOf version l =
-    let client = afterText 5 l.procedure in
+abbrev pub invocation_of : ℕ → wire.Invocation → InvocationRecord
+invocation_of version l =
+    let client = after_text 5 l.procedure in
     record {
       version = signed 1 version;
       procedure = span_of 5 l.procedure;
@@ -81,36 +81,36 @@ invocationOf version l =
       params_at = client + 10;
     }
 
-abbrev pub noInvocation : InvocationRecord
-noInvocation = record { version = signed 1 0; procedure = Span.Absent; client = replicate 8 0; params = 0; params_at = 0 }
+abbrev pub no_invocation : InvocationRecord
+no_invocation = record { version = signed 1 0; procedure = Span.Absent; client = replicate 8 0; params = 0; params_at = 0 }
 
-abbrev pub shownInvocation : Res Message → InvocationRecord
-shownInvocation = recordIn (λ r. invocationOf r.version (wire.invocation-of r.content)) noInvocation
+abbrev pub shown_invocation : Res Message → InvocationRecord
+shown_invocation = record_in (λ r. invocation_of r.version (wire.the_invocation r.content)) no_invocation
 
 -- kind 4, with the number of its tables and where they begin; a round trip that isn't there is shown as 0
-abbrev pub responseOf : ℕ → wire.Response → ResponseRecord
-responseOf version l =
+abbrev pub response_of : ℕ → wire.Response → ResponseRecord
+response_of version l =
     let h = l.head in
-    let appStatus = afterNote 15 h.statusString in
-    let roundTrip = afterNote (appStatus + 1) h.appString in
-    let exception = afterNumber 4 roundTrip h.roundTrip in
-    let tables = afterNote exception h.exception in
+    let app_status = after_note 15 h.status_string in
+    let round_trip = after_note (app_status + 1) h.app_string in
+    let exception = after_number 4 round_trip h.round_trip in
+    let tables = after_note exception h.exception in
     record {
       version = signed 1 version;
       client = h.client;
       flags = h.flags;
       status = signed 1 h.status;
-      status_string = note_of 15 h.statusString;
-      app_status = signed 1 h.appStatus;
-      app_string = note_of (appStatus + 1) h.appString;
-      round_trip = signed 4 (get_or h.roundTrip 0);
+      status_string = note_of 15 h.status_string;
+      app_status = signed 1 h.app_status;
+      app_string = note_of (app_status + 1) h.app_string;
+      round_trip = signed 4 (get_or h.round_trip 0);
       exception = note_of exception h.exception;
       tables = length l.tables;
       tables_at = tables + 2;
     }
 
-abbrev pub noResponse : ResponseRecord
-noResponse = record {
+abbrev pub no_response : ResponseRecord
+no_response = record {
   version = signed 1 0;
   client = replicate 8 0;
   flags = 0;
@@ -124,5 +124,5 @@ noResponse = record {
   tables_at = 0;
 }
 
-abbrev pub shownResponse : Res Message → ResponseRecord
-shownResponse = recordIn (λ r. responseOf r.version (wire.response-of r.content)) noResponse
+abbrev pub shown_response : Res Message → ResponseRecord
+shown_response = record_in (λ r. response_of r.version (wire.the_response r.content)) no_response

@@ -1,13 +1,13 @@
 // The record of a message of each kind, shown: numbers with their signs, blocks as arrays, strings by their places.
 ghost use Rattle.std.specs.Prelude.{◌≡◌, ℕ, ◌+◌, ◌<◌, ◌≤◌, min, length, take, drop};
 ghost use Rattle.std.proofs.Math.Option.{none};
-ghost use Rattle.format.specs.Number.{numBytes};
+ghost use Rattle.format.specs.Number.{num_bytes};
 ghost use Rattle.format.specs.Result.{ok};
-ghost use Rattle.format.specs.Message.{Message, Response, readMessage, responseLayout, response-of, response as responseFormat};
-ghost use Rattle.message.specs.Verdict.{toldVerdict, verdictOf};
-ghost use Rattle.places.specs.Places.{tripSize};
-ghost use Rattle.record.specs.Peeks.{number_at, textAt, noteAt, notedAt, block_at, hashSize, loginAt, loginRequestAt, serverAt, loginResponseAt, invocationAt};
-ghost use Rattle.record.specs.Records.{loginResponseOf, responseOf, noResponse, shownLoginRequest, shownLoginResponse, shownInvocation, shownResponse};
+ghost use Rattle.format.specs.Message.{Message, Response, read_message, response_layout, the_response, response as response_format};
+ghost use Rattle.message.specs.Verdict.{told_verdict, verdict_of};
+ghost use Rattle.places.specs.Places.{trip_size};
+ghost use Rattle.record.specs.Peeks.{number_at, text_at, note_at, noted_at, block_at, hash_size, login_at, login_request_at, server_at, login_response_at, invocation_at};
+ghost use Rattle.record.specs.Records.{login_response_of, response_of, no_response, shown_login_request, shown_login_response, shown_invocation, shown_response};
 
 use message::Verdict;
 use scan::{Body, Number};
@@ -139,7 +139,7 @@ fn number_at(s: &[u8], at: usize, width: usize) -> Num
 }
 
 fn text_at(s: &[u8], at: usize, nullable: bool) -> Spot
-    ensures { result ≡ textAt s.now at nullable }
+    ensures { result ≡ text_at s.now at nullable }
 {
     let body = scan::read_body(s, at, nullable, format::MOST_BYTES);
     match body {
@@ -160,7 +160,7 @@ fn text_at(s: &[u8], at: usize, nullable: bool) -> Spot
 
 // A string that is there or not.
 fn note_at(s: &[u8], at: usize, there: bool, nullable: bool) -> Spot
-    ensures { result ≡ noteAt s.now at there nullable }
+    ensures { result ≡ note_at s.now at there nullable }
 {
     if !there {
         return Spot {
@@ -172,7 +172,7 @@ fn note_at(s: &[u8], at: usize, there: bool, nullable: bool) -> Spot
 }
 
 fn noted_at(s: &[u8], at: usize, width: usize, there: bool, nullable: bool) -> Noted
-    ensures { result ≡ notedAt s.now at (min width 8) there nullable }
+    ensures { result ≡ noted_at s.now at (min width 8) there nullable }
 {
     let number = number_at(s, at, width);
     let next = number.next;
@@ -219,7 +219,7 @@ fn block_at(s: &[u8], at: usize) -> Block
 }
 
 fn hash_size(h: u64) -> usize
-    ensures { result ≡ hashSize h }
+    ensures { result ≡ hash_size h }
 {
     if h == 1 {
         format::LONG_HASH
@@ -236,7 +236,7 @@ fn read_login(
     edition: Edition,
     size: usize,
 ) -> LoginRequestRecord
-    ensures { result ≡ loginAt m.now at version edition size }
+    ensures { result ≡ login_at m.now at version edition size }
 {
     let first = text_at(m, at, false);
     let service = first.span;
@@ -254,7 +254,7 @@ fn read_login(
 }
 
 fn read_login_request(m: &[u8]) -> LoginRequestRecord
-    ensures { result ≡ loginRequestAt m.now }
+    ensures { result ≡ login_request_at m.now }
 {
     let first = number_at(m, 4, 1);
     let version = first.n;
@@ -268,7 +268,7 @@ fn read_login_request(m: &[u8]) -> LoginRequestRecord
 
 // The 4 bytes of a number.
 fn bytes_of(n: u64) -> [u8; 4]
-    ensures { result ≡ numBytes 4 n }
+    ensures { result ≡ num_bytes 4 n }
 {
     [
         (n / 0x100_0000 % 0x100) as u8,
@@ -280,7 +280,7 @@ fn bytes_of(n: u64) -> [u8; 4]
 
 // What follows a login's result of 0.
 fn read_server(m: &[u8], version: u64, res: u64) -> LoginResponseRecord
-    ensures { result ≡ serverAt m.now version res }
+    ensures { result ≡ server_at m.now version res }
 {
     let host = number_at(m, 6, 4);
     let connection = number_at(m, 10, 8);
@@ -302,7 +302,7 @@ fn read_server(m: &[u8], version: u64, res: u64) -> LoginResponseRecord
 
 // A login response that ends with its result.
 fn no_server(version: u64, res: u64) -> LoginResponseRecord
-    ensures { result ≡ loginResponseOf version res none }
+    ensures { result ≡ login_response_of version res none }
 {
     LoginResponseRecord {
         version: scan::signed8(version),
@@ -316,7 +316,7 @@ fn no_server(version: u64, res: u64) -> LoginResponseRecord
 }
 
 fn read_login_response(m: &[u8]) -> LoginResponseRecord
-    ensures { result ≡ loginResponseAt m.now }
+    ensures { result ≡ login_response_at m.now }
 {
     let first = number_at(m, 4, 1);
     let second = number_at(m, 5, 1);
@@ -329,7 +329,7 @@ fn read_login_response(m: &[u8]) -> LoginResponseRecord
 }
 
 fn read_invocation(m: &[u8]) -> InvocationRecord
-    ensures { result ≡ invocationAt m.now }
+    ensures { result ≡ invocation_at m.now }
 {
     let version = number_at(m, 4, 1);
     let text = text_at(m, 5, false);
@@ -348,15 +348,15 @@ fn read_invocation(m: &[u8]) -> InvocationRecord
 
 // How many bytes a response's round trip has.
 fn trip_size(timed: bool) -> usize
-    ensures { result ≡ tripSize timed }
+    ensures { result ≡ trip_size timed }
 {
     if timed { 4 } else { 0 }
 }
 
 // A response after its flags.
 fn read_flagged(m: &[u8], timed: bool, version: u64, flags: u8, client: [u8; 8]) -> ResponseRecord
-    ensures { (l : Response) (next : ℕ) → (responseFormat timed).read m.now 5 ≡ ok (l, next) → flags ≡ l.head.flags → client ≡ l.head.client
-        → result ≡ responseOf version l }
+    ensures { (l : Response) (next : ℕ) → (response_format timed).read m.now 5 ≡ ok (l, next) → flags ≡ l.head.flags → client ≡ l.head.client
+        → result ≡ response_of version l }
 {
     let status = noted_at(m, 14, 1, scan::has_flag(flags, format::STATUS_STRING), true);
     let app = noted_at(
@@ -393,7 +393,7 @@ fn read_flagged(m: &[u8], timed: bool, version: u64, flags: u8, client: [u8; 8])
 }
 
 fn read_response(m: &[u8], timed: bool) -> ResponseRecord
-    ensures { (p : Message) → readMessage (responseLayout timed) m.now ≡ ok p → result ≡ responseOf p.version (response-of p.content) }
+    ensures { (p : Message) → read_message (response_layout timed) m.now ≡ ok p → result ≡ response_of p.version (the_response p.content) }
 {
     let version = number_at(m, 4, 1);
     let data = block_at(m, 5);
@@ -402,7 +402,7 @@ fn read_response(m: &[u8], timed: bool) -> ResponseRecord
 }
 
 fn no_response() -> ResponseRecord
-    ensures { result ≡ noResponse }
+    ensures { result ≡ no_response }
 {
     ResponseRecord {
         version: 0,
@@ -421,7 +421,7 @@ fn no_response() -> ResponseRecord
 
 // The record of a login request, or why the message is none.
 pub fn login_request(m: &[u8]) -> LoginRequestShown
-    ensures { (toldVerdict result.verdict ≡ verdictOf (readMessage 1 m.now)) × (result.shown ≡ shownLoginRequest (readMessage 1 m.now)) }
+    ensures { (told_verdict result.verdict ≡ verdict_of (read_message 1 m.now)) × (result.shown ≡ shown_login_request (read_message 1 m.now)) }
 {
     let verdict = message::accept(1, m);
     match verdict {
@@ -444,7 +444,7 @@ pub fn login_request(m: &[u8]) -> LoginRequestShown
 
 // The record of a login response, or why the message is none.
 pub fn login_response(m: &[u8]) -> LoginResponseShown
-    ensures { (toldVerdict result.verdict ≡ verdictOf (readMessage 2 m.now)) × (result.shown ≡ shownLoginResponse (readMessage 2 m.now)) }
+    ensures { (told_verdict result.verdict ≡ verdict_of (read_message 2 m.now)) × (result.shown ≡ shown_login_response (read_message 2 m.now)) }
 {
     let verdict = message::accept(2, m);
     match verdict {
@@ -461,7 +461,7 @@ pub fn login_response(m: &[u8]) -> LoginResponseShown
 
 // The record of an invocation, or why the message is none.
 pub fn invocation(m: &[u8]) -> InvocationShown
-    ensures { (toldVerdict result.verdict ≡ verdictOf (readMessage 3 m.now)) × (result.shown ≡ shownInvocation (readMessage 3 m.now)) }
+    ensures { (told_verdict result.verdict ≡ verdict_of (read_message 3 m.now)) × (result.shown ≡ shown_invocation (read_message 3 m.now)) }
 {
     let verdict = message::accept(3, m);
     match verdict {
@@ -484,14 +484,14 @@ pub fn invocation(m: &[u8]) -> InvocationShown
 
 // The record of a response, or why the message is none.
 pub fn response(m: &[u8]) -> ResponseShown
-    ensures { (toldVerdict result.verdict ≡ verdictOf (readMessage 4 m.now)) × (result.shown ≡ shownResponse (readMessage 4 m.now)) }
+    ensures { (told_verdict result.verdict ≡ verdict_of (read_message 4 m.now)) × (result.shown ≡ shown_response (read_message 4 m.now)) }
 {
     show_response(m, true)
 }
 
 // The same of a response with its round trip, or without.
 fn show_response(m: &[u8], timed: bool) -> ResponseShown
-    ensures { (toldVerdict result.verdict ≡ verdictOf (readMessage (responseLayout timed) m.now)) × (result.shown ≡ shownResponse (readMessage (responseLayout timed) m.now)) }
+    ensures { (told_verdict result.verdict ≡ verdict_of (read_message (response_layout timed) m.now)) × (result.shown ≡ shown_response (read_message (response_layout timed) m.now)) }
 {
     let verdict = message::accept_layout(format::response_layout(timed), m);
     match verdict {

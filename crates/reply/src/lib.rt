@@ -6,11 +6,11 @@ ghost use Rattle.format.specs.Text.{utf8};
 ghost use Rattle.format.specs.Value.{anything};
 ghost use Rattle.put.specs.Put.{put, optional};
 ghost use Rattle.steps.specs.Plans.{answer_of};
-ghost use Rattle.steps.specs.Arguments.{textFault, nullTextFault};
-ghost use Rattle.steps.specs.Steps.{answerAt, plan, beginReply, finishReply};
-ghost use Rattle.write.specs.Shown.{zero, seen, shownAnswer, Stepped};
-ghost use Rattle.write.specs.Shared.{verdictOf};
-ghost use Rattle.reply.specs.Opening.{openingOf, beginFault, beginSize, letIn, statusPart, appPart, exceptionPart, frontBytes, middleBytes, endBytes, beginBytes};
+ghost use Rattle.steps.specs.Arguments.{text_fault, null_text_fault};
+ghost use Rattle.steps.specs.Steps.{answer_at, plan, begin_reply, finish_reply};
+ghost use Rattle.write.specs.Shown.{zero, seen, shown_answer, Stepped};
+ghost use Rattle.write.specs.Shared.{verdict_of};
+ghost use Rattle.reply.specs.Opening.{opening_of, begin_fault, begin_size, let_in, status_part, app_part, exception_part, front_bytes, middle_bytes, end_bytes, begin_bytes};
 
 use format::{APP_STRING, Answer, EXCEPTION, Fault, STATUS_STRING};
 use steps::Stage;
@@ -37,7 +37,7 @@ pub fn begin_reply(
     app: &[u8],
     exception: &[u8],
 ) -> Outcome
-    ensures { Stepped (beginReply h.version (openingOf h client.now status.now app.now exception.now)) zero [] out.old result out.new }
+    ensures { Stepped (begin_reply h.version (opening_of h client.now status.now app.now exception.now)) zero [] out.old result out.new }
 {
     // as a slice, so that its length is known from here on
     let data: &[u8] = client;
@@ -59,7 +59,7 @@ pub fn begin_reply(
 
 // Finishes the response: its length and its table count are filled.
 pub fn finish_reply(out: &mut [u8], st: State) -> Outcome
-    ensures { Stepped finishReply st [] out.old result out.new }
+    ensures { Stepped finish_reply st [] out.old result out.new }
 {
     let a = ask_finish_reply(st, out.len());
     let Answer::Is(n) = a else {
@@ -79,7 +79,7 @@ pub fn finish_reply(out: &mut [u8], st: State) -> Outcome
 
 // What a begin is answered, in a buffer of so many bytes. It doesn't depend on the client data.
 fn ask_begin(h: Head, status: &[u8], app: &[u8], exception: &[u8], size: usize) -> Answer
-    ensures { result ≡ shownAnswer (answerAt true (beginFault h status.now app.now exception.now) true 0 (beginSize h status.now app.now exception.now) size) }
+    ensures { result ≡ shown_answer (answer_at true (begin_fault h status.now app.now exception.now) true 0 (begin_size h status.now app.now exception.now) size) }
 {
     let fault = opening_fault(h, status, app, exception);
     let Check::Fine = fault else {
@@ -97,7 +97,7 @@ fn ask_begin(h: Head, status: &[u8], app: &[u8], exception: &[u8], size: usize) 
 
 // What is wrong with the fields before the table count, in wire order.
 fn opening_fault(h: Head, status: &[u8], app: &[u8], exception: &[u8]) -> Check
-    ensures { verdictOf result ≡ beginFault h status.now app.now exception.now }
+    ensures { verdict_of result ≡ begin_fault h status.now app.now exception.now }
 {
     let edition = write::test(h.version <= 1, Fault::Version, 0);
     let flags = write::test(h.flags % STATUS_STRING == 0, Fault::Flags, 0);
@@ -116,8 +116,8 @@ fn opening_fault(h: Head, status: &[u8], app: &[u8], exception: &[u8]) -> Check
 
 // Writes all fields before the table count and the count's zeros, from the buffer's start.
 fn put_opening(out: &mut [u8], h: Head, client: &[u8], status: &[u8], app: &[u8], exception: &[u8])
-    requires { (length client.now ≡ 8) × (beginSize h status.now app.now exception.now ≤ length out.old) }
-    ensures { out.new ≡ put out.old 0 (beginBytes h client.now status.now app.now exception.now) }
+    requires { (length client.now ≡ 8) × (begin_size h status.now app.now exception.now ≤ length out.old) }
+    ensures { out.new ≡ put out.old 0 (begin_bytes h client.now status.now app.now exception.now) }
 {
     let middle = front_at(out, h, client);
     let last = middle_at(out, middle, h, status, app);
@@ -127,7 +127,7 @@ fn put_opening(out: &mut [u8], h: Head, client: &[u8], status: &[u8], app: &[u8]
 // Writes the fields up to the status, from the buffer's start; the length holds zeros.
 fn front_at(out: &mut [u8], h: Head, client: &[u8]) -> usize
     requires { (length client.now ≡ 8) × (15 ≤ length out.old) }
-    ensures { (result ≡ 15) × (out.new ≡ put out.old 0 (frontBytes h client.now)) }
+    ensures { (result ≡ 15) × (out.new ≡ put out.old 0 (front_bytes h client.now)) }
 {
     let first = put::number_at(out, 0, 0, 4);
     let second = put::number_at(out, first, h.version as u64, 1);
@@ -138,8 +138,8 @@ fn front_at(out: &mut [u8], h: Head, client: &[u8]) -> usize
 
 // Writes the fields from the status string to the application string.
 fn middle_at(out: &mut [u8], at: usize, h: Head, status: &[u8], app: &[u8]) -> usize
-    requires { at + (length (statusPart h status.now) + (1 + length (appPart h app.now))) ≤ length out.old }
-    ensures { (result ≡ at + (length (statusPart h status.now) + (1 + length (appPart h app.now)))) × (out.new ≡ put out.old at (middleBytes h status.now app.now)) }
+    requires { at + (length (status_part h status.now) + (1 + length (app_part h app.now))) ≤ length out.old }
+    ensures { (result ≡ at + (length (status_part h status.now) + (1 + length (app_part h app.now)))) × (out.new ≡ put out.old at (middle_bytes h status.now app.now)) }
 {
     let first = let_in_at(
         out,
@@ -160,8 +160,8 @@ fn middle_at(out: &mut [u8], at: usize, h: Head, status: &[u8], app: &[u8]) -> u
 
 // Writes the fields from the round trip on; the table count holds zeros.
 fn end_at(out: &mut [u8], at: usize, h: Head, exception: &[u8]) -> usize
-    requires { at + (4 + (length (exceptionPart h exception.now) + 2)) ≤ length out.old }
-    ensures { (result ≡ at + (4 + (length (exceptionPart h exception.now) + 2))) × (out.new ≡ put out.old at (endBytes h exception.now)) }
+    requires { at + (4 + (length (exception_part h exception.now) + 2)) ≤ length out.old }
+    ensures { (result ≡ at + (4 + (length (exception_part h exception.now) + 2))) × (out.new ≡ put out.old at (end_bytes h exception.now)) }
 {
     let first = put::number_at(out, at, h.round_trip as u64, 4);
     let second = let_in_at(
@@ -176,7 +176,7 @@ fn end_at(out: &mut [u8], at: usize, h: Head, exception: &[u8]) -> usize
 
 // What is wrong with a text that its flag lets in.
 fn let_in_fault(there: bool, null: bool, s: &[u8]) -> Check
-    ensures { verdictOf result ≡ pick there (nullTextFault utf8 0 (optional null s.now)) fine }
+    ensures { verdict_of result ≡ pick there (null_text_fault utf8 0 (optional null s.now)) fine }
 {
     if !there {
         return Check::Fine;
@@ -186,7 +186,7 @@ fn let_in_fault(there: bool, null: bool, s: &[u8]) -> Check
 
 // What is wrong with an exception that its flag lets in.
 fn exception_fault(there: bool, s: &[u8]) -> Check
-    ensures { verdictOf result ≡ pick there (textFault anything 0 s.now) fine }
+    ensures { verdict_of result ≡ pick there (text_fault anything 0 s.now) fine }
 {
     if !there {
         return Check::Fine;
@@ -196,7 +196,7 @@ fn exception_fault(there: bool, s: &[u8]) -> Check
 
 // How many bytes such a string has, with its length.
 fn let_in_size(there: bool, null: bool, s: &[u8]) -> usize
-    ensures { result ≡ length (letIn there null s.now) }
+    ensures { result ≡ length (let_in there null s.now) }
 {
     if !there {
         return 0;
@@ -206,8 +206,8 @@ fn let_in_size(there: bool, null: bool, s: &[u8]) -> usize
 
 // Writes such a string at a place, and says where it ends.
 fn let_in_at(out: &mut [u8], at: usize, there: bool, null: bool, s: &[u8]) -> usize
-    requires { at + length (letIn there null s.now) ≤ length out.old }
-    ensures { (result ≡ at + length (letIn there null s.now)) × (out.new ≡ put out.old at (letIn there null s.now)) }
+    requires { at + length (let_in there null s.now) ≤ length out.old }
+    ensures { (result ≡ at + length (let_in there null s.now)) × (out.new ≡ put out.old at (let_in there null s.now)) }
 {
     if !there {
         return at;
@@ -217,7 +217,7 @@ fn let_in_at(out: &mut [u8], at: usize, there: bool, null: bool, s: &[u8]) -> us
 
 // What finishing is answered, in a buffer of so many bytes.
 fn ask_finish_reply(st: State, size: usize) -> Answer
-    ensures { result ≡ shownAnswer (answer_of (plan finishReply (seen st []) size) size) }
+    ensures { result ≡ shown_answer (answer_of (plan finish_reply (seen st []) size) size) }
 {
     let permitted = write::at_reply(st, size);
     write::judge(permitted, Check::Fine, true, st.position, 0, size)

@@ -3,15 +3,15 @@ use Rattle.std.specs.Prelude.{ℕ, ◌+◌, ◌&&◌, length, get_or, leb, ltb, 
 use Rattle.format.specs.declared.Fault.TheVariants.{WireType}
 use Rattle.format.specs.Result.{Res}
 use Rattle.format.specs.Format.{Verdict}
-use Rattle.format.specs.Message.{mostRow}
+use Rattle.format.specs.Message.{most_row}
 use Rattle.steps.specs.declared.Stage.TheVariants.{Row}
-use Rattle.steps.specs.State.{State, atStage}
+use Rattle.steps.specs.State.{State, at_stage}
 use Rattle.steps.specs.Plans.{also, test}
-use Rattle.steps.specs.Steps.{answerAt}
+use Rattle.steps.specs.Steps.{answer_at}
 
-abbrev pub cellAnswer : State → ℕ → Verdict → ℕ → ℕ → Res ℕ
-cellAnswer st t fault bytes size =
+abbrev pub cell_answer : State → ℕ → Verdict → ℕ → ℕ → Res ℕ
+cell_answer st t fault bytes size =
     let i = st.inner in
-    answerAt (atStage Row st size && ltb i.count (length st.outer.types))
+    answer_at (at_stage Row st size && ltb i.count (length st.outer.types))
     (also (test (eqb t (get_or st.outer.types i.count 0)) WireType st.position) fault)
-    (leb (st.position + bytes) (i.at + 4 + mostRow)) st.position bytes size
+    (leb (st.position + bytes) (i.at + 4 + most_row)) st.position bytes size

@@ -3,10 +3,10 @@ ghost use Rattle.std.specs.Prelude.{◌≡◌, ◌+◌, ◌*◌, ◌^◌, get_or
 ghost use Rattle.format.specs.Value.{fixed, body};
 ghost use Rattle.put.specs.Put.{optional};
 ghost use Rattle.steps.specs.Plans.{answer_of};
-ghost use Rattle.steps.specs.Steps.{plan, openRow, cell, closeRow, closeTable};
-ghost use Rattle.write.specs.Shown.{seen, types_in, shownAnswer, Stepped};
-ghost use Rattle.write.specs.Shared.{verdictOf};
-ghost use Rattle.rows.specs.Asked.{cellAnswer};
+ghost use Rattle.steps.specs.Steps.{plan, open_row, cell, close_row, close_table};
+ghost use Rattle.write.specs.Shown.{seen, types_in, shown_answer, Stepped};
+ghost use Rattle.write.specs.Shared.{verdict_of};
+ghost use Rattle.rows.specs.Asked.{cell_answer};
 
 use format::{Answer, Fault};
 use steps::Stage;
@@ -14,7 +14,7 @@ use write::{COLUMNS, Check, Outcome, State};
 
 // Opens a row; its length holds zeros until it is closed.
 pub fn open_row(out: &mut [u8], st: State, types: &[u8; COLUMNS]) -> Outcome
-    ensures { Stepped openRow st types.now out.old result out.new }
+    ensures { Stepped open_row st types.now out.old result out.new }
 {
     // as a slice, so that its length is known from here on
     let lent: &[u8] = types;
@@ -93,7 +93,7 @@ pub fn body_cell(
 
 // Closes the open row, which has a cell for each column, and fills its length.
 pub fn close_row(out: &mut [u8], st: State, types: &[u8; COLUMNS]) -> Outcome
-    ensures { Stepped closeRow st types.now out.old result out.new }
+    ensures { Stepped close_row st types.now out.old result out.new }
 {
     // as a slice, so that its length is known from here on
     let lent: &[u8] = types;
@@ -119,7 +119,7 @@ pub fn close_row(out: &mut [u8], st: State, types: &[u8; COLUMNS]) -> Outcome
 
 // Closes the open table, and fills its length and its row count.
 pub fn close_table(out: &mut [u8], st: State, types: &[u8; COLUMNS]) -> Outcome
-    ensures { Stepped closeTable st types.now out.old result out.new }
+    ensures { Stepped close_table st types.now out.old result out.new }
 {
     let a = ask_close_table(st, types, out.len());
     let Answer::Is(n) = a else {
@@ -144,7 +144,7 @@ pub fn close_table(out: &mut [u8], st: State, types: &[u8; COLUMNS]) -> Outcome
 
 // What each step is answered, in a buffer of so many bytes.
 fn ask_open_row(st: State, types: &[u8; COLUMNS], size: usize) -> Answer
-    ensures { result ≡ shownAnswer (answer_of (plan openRow (seen st types.now) size) size) }
+    ensures { result ≡ shown_answer (answer_of (plan open_row (seen st types.now) size) size) }
 {
     let permitted = write::at_table(st, types, size);
     let more = write::one_more(st.rows, write::MOST_ROWS);
@@ -152,7 +152,7 @@ fn ask_open_row(st: State, types: &[u8; COLUMNS], size: usize) -> Answer
 }
 
 fn ask_close_row(st: State, types: &[u8; COLUMNS], size: usize) -> Answer
-    ensures { result ≡ shownAnswer (answer_of (plan closeRow (seen st types.now) size) size) }
+    ensures { result ≡ shown_answer (answer_of (plan close_row (seen st types.now) size) size) }
 {
     // as a slice, so that its length is known from here on
     let lent: &[u8] = types;
@@ -164,7 +164,7 @@ fn ask_close_row(st: State, types: &[u8; COLUMNS], size: usize) -> Answer
 }
 
 fn ask_close_table(st: State, types: &[u8; COLUMNS], size: usize) -> Answer
-    ensures { result ≡ shownAnswer (answer_of (plan closeTable (seen st types.now) size) size) }
+    ensures { result ≡ shown_answer (answer_of (plan close_table (seen st types.now) size) size) }
 {
     let permitted = write::at_table(st, types, size);
     write::judge(permitted, Check::Fine, true, st.position, 0, size)
@@ -179,7 +179,7 @@ pub fn ask_cell(
     bytes: usize,
     size: usize,
 ) -> Answer
-    ensures { result ≡ shownAnswer (cellAnswer (seen st types.now) t (verdictOf fault) bytes size) }
+    ensures { result ≡ shown_answer (cell_answer (seen st types.now) t (verdict_of fault) bytes size) }
 {
     // as a slice, so that its length is known from here on
     let lent: &[u8] = types;

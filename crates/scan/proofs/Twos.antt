@@ -23,8 +23,8 @@ down w m l = ap (λ (z : ℤ). negsuc 0 -ℤ z) (to_z_pos w m l) ∙ minus_one m
 pub down_fits : (w : Width) (m : ℕ) → m < 2 ^ hbits w → SFits w (negsuc 0 -ℤ to_z w m)
 down_fits w m l = subst (SFits w) (sym (down w m l)) (record { sfits = l })
 
-pub down-back : (w : Width) (m : ℕ) → m < 2 ^ hbits w → to_z w (of_z w (negsuc 0 -ℤ to_z w m)) ≡ negsuc m
-down-back w m l = to_z-of_z w (negsuc 0 -ℤ to_z w m) (down_fits w m l) ∙ down w m l
+pub down_back : (w : Width) (m : ℕ) → m < 2 ^ hbits w → to_z w (of_z w (negsuc 0 -ℤ to_z w m)) ≡ negsuc m
+down_back w m l = to_z-of_z w (negsuc 0 -ℤ to_z w m) (down_fits w m l) ∙ down w m l
 
 -- 8 bytes are all that a number of 64 bits has
 pub whole : (n : ℕ) → n < 2 ^ 64 → n % 256 ^ 8 ≡ n

@@ -29,45 +29,45 @@ module _ (z : ℤ) (fits : SFits w64 z) where
   below_half = record { sfits = fits.sfits }
 
   module _ (less : lt_z (to_z w64 (of_z w64 z)) (pos 0) ≡ true) where
-    is-less : z ≡ negsuc (mag z)
-    is-less = negative z (ap (λ (y : ℤ). lt_z y (pos 0)) (sym (to_z-of_z w64 z fits)) ∙ less)
+    is_less : z ≡ negsuc (mag z)
+    is_less = negative z (ap (λ (y : ℤ). lt_z y (pos 0)) (sym (to_z-of_z w64 z fits)) ∙ less)
 
     turned : negsuc 0 -ℤ to_z w64 (of_z w64 z) ≡ pos (mag z)
-    turned = ap (λ (y : ℤ). negsuc 0 -ℤ y) (to_z-of_z w64 z fits ∙ is-less) ∙ flipped (mag z)
+    turned = ap (λ (y : ℤ). negsuc 0 -ℤ y) (to_z-of_z w64 z fits ∙ is_less) ∙ flipped (mag z)
 
-    read-turned : to_z w64 (of_z w64 (negsuc 0 -ℤ to_z w64 (of_z w64 z))) ≡ pos (mag z)
-    read-turned = ap (λ (y : ℤ). to_z w64 (of_z w64 y)) turned ∙ to_z-of_z w64 (pos (mag z)) below_half
+    read_turned : to_z w64 (of_z w64 (negsuc 0 -ℤ to_z w64 (of_z w64 z))) ≡ pos (mag z)
+    read_turned = ap (λ (y : ℤ). to_z w64 (of_z w64 y)) turned ∙ to_z-of_z w64 (pos (mag z)) below_half
 
-    pub less-fits : SFits w64 (negsuc 0 -ℤ to_z w64 (of_z w64 z))
-    less-fits = subst (SFits w64) (sym turned) below_half
+    pub less_fits : SFits w64 (negsuc 0 -ℤ to_z w64 (of_z w64 z))
+    less_fits = subst (SFits w64) (sym turned) below_half
 
-    pub less-cast : let y = to_z w64 (of_z w64 (negsuc 0 -ℤ to_z w64 (of_z w64 z))) in T (non_neg y) × Fits w64 (nat_abs y)
-    less-cast =
+    pub less_cast : let y = to_z w64 (of_z w64 (negsuc 0 -ℤ to_z w64 (of_z w64 z))) in T (non_neg y) × Fits w64 (nat_abs y)
+    less_cast =
         let l : mag z < 2 ^ 63 = fits.sfits in
-        subst (λ (y : ℤ). T (non_neg y) × Fits w64 (nat_abs y)) (sym read-turned) (tt, record { fits = omega arith })
+        subst (λ (y : ℤ). T (non_neg y) × Fits w64 (nat_abs y)) (sym read_turned) (tt, record { fits = omega arith })
 
-    pub less-room : nat_abs (to_z w64 (of_z w64 (negsuc 0 -ℤ to_z w64 (of_z w64 z)))) ≤ 18446744073709551615
-    less-room =
+    pub less_room : nat_abs (to_z w64 (of_z w64 (negsuc 0 -ℤ to_z w64 (of_z w64 z)))) ≤ 18446744073709551615
+    less_room =
         let l : mag z < 2 ^ 63 = fits.sfits in
-        subst (λ (y : ℤ). nat_abs y ≤ 18446744073709551615) (sym read-turned) (omega arith)
+        subst (λ (y : ℤ). nat_abs y ≤ 18446744073709551615) (sym read_turned) (omega arith)
 
-    pub less-bits : 18446744073709551615 - nat_abs (to_z w64 (of_z w64 (negsuc 0 -ℤ to_z w64 (of_z w64 z)))) ≡ unsigned 8 z
-    less-bits =
+    pub less_bits : 18446744073709551615 - nat_abs (to_z w64 (of_z w64 (negsuc 0 -ℤ to_z w64 (of_z w64 z)))) ≡ unsigned 8 z
+    less_bits =
         let l : mag z < 2 ^ 63 = fits.sfits in
         let same : 18446744073709551615 - mag z ≡ 18446744073709551616 - suc (mag z) = omega arith in
-        ap (λ (y : ℤ). 18446744073709551615 - nat_abs y) read-turned ∙ same ∙ sym (ap (unsigned 8) is-less)
+        ap (λ (y : ℤ). 18446744073709551615 - nat_abs y) read_turned ∙ same ∙ sym (ap (unsigned 8) is_less)
 
   module _ (more : lt_z (to_z w64 (of_z w64 z)) (pos 0) ≡ false) where
-    is-more : z ≡ pos (mag z)
-    is-more = positive z (ap (λ (y : ℤ). lt_z y (pos 0)) (sym (to_z-of_z w64 z fits)) ∙ more)
+    is_more : z ≡ pos (mag z)
+    is_more = positive z (ap (λ (y : ℤ). lt_z y (pos 0)) (sym (to_z-of_z w64 z fits)) ∙ more)
 
-    pub more-cast : T (non_neg (to_z w64 (of_z w64 z))) × Fits w64 (nat_abs (to_z w64 (of_z w64 z)))
-    more-cast =
+    pub more_cast : T (non_neg (to_z w64 (of_z w64 z))) × Fits w64 (nat_abs (to_z w64 (of_z w64 z)))
+    more_cast =
         let l : mag z < 2 ^ 63 = fits.sfits in
-        subst (λ (y : ℤ). T (non_neg y) × Fits w64 (nat_abs y)) (sym (to_z-of_z w64 z fits ∙ is-more)) (tt, record { fits = omega arith })
+        subst (λ (y : ℤ). T (non_neg y) × Fits w64 (nat_abs y)) (sym (to_z-of_z w64 z fits ∙ is_more)) (tt, record { fits = omega arith })
 
-    pub more-bits : nat_abs (to_z w64 (of_z w64 z)) ≡ unsigned 8 z
-    more-bits = ap nat_abs (to_z-of_z w64 z fits ∙ is-more) ∙ sym (ap (unsigned 8) is-more)
+    pub more_bits : nat_abs (to_z w64 (of_z w64 z)) ≡ unsigned 8 z
+    more_bits = ap nat_abs (to_z-of_z w64 z fits ∙ is_more) ∙ sym (ap (unsigned 8) is_more)
 
 wrapped : (p q n : ℕ) → 0 < q → n < p → (q * p - suc n) % p ≡ p - suc n
 wrapped p zero n h l = absurd (omega arith)
@@ -84,6 +84,6 @@ module _ (w : Width) (z : ℤ) (fits : SFits w z) (small : mag z < 2 ^ 63) where
   pub wider : SFits w64 (to_z w (of_z w z))
   wider = subst (SFits w64) (sym (to_z-of_z w z fits)) (record { sfits = small })
 
-  pub low-bytes : (k q : ℕ) → 0 < q → 256 ^ 8 ≡ q * 256 ^ k → mag z < 256 ^ k → {n : ℕ} → n ≡ unsigned 8 (to_z w64 (of_z w64 (to_z w (of_z w z)))) → n % 256 ^ k ≡ unsigned k z
-  low-bytes k q h e l f =
+  pub low_bytes : (k q : ℕ) → 0 < q → 256 ^ 8 ≡ q * 256 ^ k → mag z < 256 ^ k → {n : ℕ} → n ≡ unsigned 8 (to_z w64 (of_z w64 (to_z w (of_z w z)))) → n % 256 ^ k ≡ unsigned k z
+  low_bytes k q h e l f =
       ap (λ (m : ℕ). m % 256 ^ k) (f ∙ ap (unsigned 8) (to_z-of_z w64 (to_z w (of_z w z)) wider ∙ to_z-of_z w z fits)) ∙ low k q h e z l

@@ -16,17 +16,17 @@ use Rattle.format.specs.Number.{half, null4}
 use Rattle.format.specs.Format.{number, counted, Verdict, fine, bad, judged}
 use Rattle.format.proofs.Results.{bound, spared, ok_same, no_ok}
 use Rattle.scan.specs.declared.Body.{Body}
-use Rattle.scan.specs.Shown.{shownBody, refusal}
+use Rattle.scan.specs.Shown.{shown_body, refusal}
 
-pub body-null : (at : ℕ) (r : Res (Option (List ℕ) × ℕ)) {b : Body} {next : ℕ} → b ≡ shownBody at r → b ≡ Body.Null next → r ≡ ok (none, next)
-body-null at (ok (none, next)) e told = ap (λ (n : ℕ). ok (none, n)) (cc)
-body-null at (ok (some bs, next)) e told = absurd (let z : ◌≡◌ {A = ℕ} 0 1 = cc in omega arith)
-body-null at (no f p) e told = absurd (let z : ◌≡◌ {A = ℕ} 0 1 = cc in omega arith)
+pub body_null : (at : ℕ) (r : Res (Option (List ℕ) × ℕ)) {b : Body} {next : ℕ} → b ≡ shown_body at r → b ≡ Body.Null next → r ≡ ok (none, next)
+body_null at (ok (none, next)) e told = ap (λ (n : ℕ). ok (none, n)) (cc)
+body_null at (ok (some bs, next)) e told = absurd (let z : ◌≡◌ {A = ℕ} 0 1 = cc in omega arith)
+body_null at (no f p) e told = absurd (let z : ◌≡◌ {A = ℕ} 0 1 = cc in omega arith)
 
-pub body-none : (at : ℕ) (r : Res (Option (List ℕ) × ℕ)) {b : Body} {x : Refusal} → b ≡ shownBody at r → b ≡ Body.No x → r ≡ no x.fault x.place
-body-none at (ok (none, next)) e told = absurd (let z : ◌≡◌ {A = ℕ} 0 1 = cc in omega arith)
-body-none at (ok (some bs, next)) e told = absurd (let z : ◌≡◌ {A = ℕ} 0 1 = cc in omega arith)
-body-none at (no f p) {x = x} e told = let same : x ≡ refusal f p = cc in rw same
+pub body_none : (at : ℕ) (r : Res (Option (List ℕ) × ℕ)) {b : Body} {x : Refusal} → b ≡ shown_body at r → b ≡ Body.No x → r ≡ no x.fault x.place
+body_none at (ok (none, next)) e told = absurd (let z : ◌≡◌ {A = ℕ} 0 1 = cc in omega arith)
+body_none at (ok (some bs, next)) e told = absurd (let z : ◌≡◌ {A = ℕ} 0 1 = cc in omega arith)
+body_none at (no f p) {x = x} e told = let same : x ≡ refusal f p = cc in rw same
 
 -- a body that was read, whatever its rule: its bytes stand after the length field, and end where the reading does
 pub record Stood (s : List ℕ) (at : ℕ) (bs : List ℕ) (end : ℕ) : Type 0 where
@@ -37,17 +37,17 @@ pub record Stood (s : List ℕ) (at : ℕ) (bs : List ℕ) (end : ℕ) : Type 0 
 some_same : {a b : List ℕ} → some a ≡ some b → a ≡ b
 some_same e = cc
 
-judged-some : (v : Verdict) (w : List ℕ × ℕ) (at : ℕ) (bs : List ℕ) (end : ℕ) → judged v w at ≡ ok (some bs, end) → (w.0 ≡ bs) × (w.1 ≡ end)
-judged-some fine w at bs end e = let same = ok_same e in (some_same (ap (λ (p : Option (List ℕ) × ℕ). p.0) same), ap (λ (p : Option (List ℕ) × ℕ). p.1) same)
-judged-some (bad f n) w at bs end e = absurd (no_ok e)
+judged_some : (v : Verdict) (w : List ℕ × ℕ) (at : ℕ) (bs : List ℕ) (end : ℕ) → judged v w at ≡ ok (some bs, end) → (w.0 ≡ bs) × (w.1 ≡ end)
+judged_some fine w at bs end e = let same = ok_same e in (some_same (ap (λ (p : Option (List ℕ) × ℕ). p.0) same), ap (λ (p : Option (List ℕ) × ℕ). p.1) same)
+judged_some (bad f n) w at bs end e = absurd (no_ok e)
 
 abbrev kind_of : Res (Option (List ℕ) × ℕ) → ℕ
 kind_of (ok (none, n)) = 0
 kind_of (ok (some bs, n)) = 1
 kind_of (no f p) = 2
 
-none-some : {n m : ℕ} {bs : List ℕ} → ◌≡◌ {A = Res (Option (List ℕ) × ℕ)} (ok (none, n)) (ok (some bs, m)) → ⊥
-none-some e = let z : ◌≡◌ {A = ℕ} 0 1 = ap kind_of e in omega arith
+none_some : {n m : ℕ} {bs : List ℕ} → ◌≡◌ {A = Res (Option (List ℕ) × ℕ)} (ok (none, n)) (ok (some bs, m)) → ⊥
+none_some e = let z : ◌≡◌ {A = ℕ} 0 1 = ap kind_of e in omega arith
 
 module _ (nullable : Bool) (most : ℕ) (rule : List ℕ → Verdict) (l b : ℕ) (s : List ℕ) (at : ℕ) {bs : List ℕ} {end : ℕ} where
   pub stood : (counted nullable most rule l b).read s at ≡ ok (some bs, end) → Stood s at bs end
@@ -55,22 +55,22 @@ module _ (nullable : Bool) (most : ℕ) (rule : List ℕ → Verdict) (l b : ℕ
   stood e =
       let r = bound ((number 4 l).read s at) e in
       let n = r.0.0 in
-      by-null n (nullable && eqb n null4) r.2
+      by_null n (nullable && eqb n null4) r.2
     where
-      by-null : (n : ℕ) (t : Bool)
+      by_null : (n : ℕ) (t : Bool)
           → pick t (ok (none, at + 4))
           (pick (leb (half 4) n) (no Negative at)
           (pick (ltb most n) (no Limit at)
           (pick (ltb (length s) (at + 4 + n)) (no Short at)
           (judged (rule (take n (drop (at + 4) s))) (take n (drop (at + 4) s), at + 4 + n) at)))) ≡ ok (some bs, end)
           → Stood s at bs end
-      by-null n true h = absurd (none-some h)
-      by-null n false h =
+      by_null n true h = absurd (none_some h)
+      by_null n false h =
           let t₁ = spared (leb (half 4) n) _ _ h in
           let t₂ = spared (ltb most n) _ _ t₁.1 in
           let t₃ = spared (ltb (length s) (at + 4 + n)) _ _ t₂.1 in
           let room : at + 4 + n ≤ length s = ltb-false (length s) (at + 4 + n) t₃.0 in
-          let w = judged-some (rule (take n (drop (at + 4) s))) _ at bs end t₃.1 in
+          let w = judged_some (rule (take n (drop (at + 4) s))) _ at bs end t₃.1 in
           let fit : n ≤ length (drop (at + 4) s) = simp length-drop (omega arith) in
           let size : length bs ≡ n = sym (ap length w.0) ∙ length-take-le n (drop (at + 4) s) fit in
           record { far = rw size (sym w.1); fit = omega (arith, w.1); bytes = rw size w.0 }

@@ -12,113 +12,113 @@ use borrow.Author.Tests.{leb-true, eqb-true}
 use Rattle.format.specs.declared.Fault.TheVariants.{Decimal, Point}
 use Rattle.format.specs.Result.{Res, ok, no, bind, pick}
 use Rattle.format.specs.Format.{Format, number, ruled, into}
-use Rattle.format.specs.Value.{Value, fixed, body, number_of, body_of, value, string, anything, ruleOf, mostBytes, isCounted, width_of, fixedFine, decimalFine, degrees360, isPosition, isNullPoint, pointFine, within}
-use Rattle.format.proofs.Results.{and-true-both, or-true, bound}
-use Rattle.format.proofs.Texts.{counted-unruled}
-use Rattle.scan.proofs.Steps.{ruled-any}
-use Rattle.scan.proofs.Values.{value-fields}
+use Rattle.format.specs.Value.{Value, fixed, body, number_of, body_of, value, string, anything, rule_of, most_bytes, is_counted, width_of, fixed_fine, decimal_fine, degrees360, is_position, is_null_point, point_fine, within}
+use Rattle.format.proofs.Results.{and_true_both, or_true, bound}
+use Rattle.format.proofs.Texts.{counted_unruled}
+use Rattle.scan.proofs.Steps.{ruled_any}
+use Rattle.scan.proofs.Values.{value_fields}
 use Rattle.show.specs.declared.Cell.{Cell}
 use Rattle.show.specs.declared.Shown.{Shown}
 use Rattle.scan.specs.Signed.{signed}
-use Rattle.show.specs.Cells.{plainCell, decimalCell, positionCell, pointCell, fixedCell, bodyCell, cell_of, unruled, shownAs}
+use Rattle.show.specs.Cells.{plain_cell, decimal_cell, position_cell, point_cell, fixed_cell, body_cell, cell_of, unruled, shown_as}
 use Rattle.show.proofs.Floats.{no_nan}
 
 -- a reading put into a value is shown as the value is
 module _ {A B : Type 0} (to : A → B) (from : B → A) (f : Format A) (s : List ℕ) (at : ℕ) (show : B → Cell) where
-  into-shown : shownAs show ((into to from f).read s at) ≡ shownAs (λ a. show (to a)) (f.read s at)
+  into_shown : shown_as show ((into to from f).read s at) ≡ shown_as (λ a. show (to a)) (f.read s at)
   unfolding into
-  into-shown = same (f.read s at)
+  into_shown = same (f.read s at)
     where
-      same : (r : Res (A × ℕ)) → shownAs show (bind r (λ p. ok (to p.0, p.1))) ≡ shownAs (λ a. show (to a)) r
+      same : (r : Res (A × ℕ)) → shown_as show (bind r (λ p. ok (to p.0, p.1))) ≡ shown_as (λ a. show (to a)) r
       same (ok p) = refl
       same (no g p) = refl
 
 -- the types with no rule, and their widths; of a type that is none, 0 bytes
 abbrev pub Plain : ℕ → ℕ → Type 0
-Plain t k = (width_of t ≡ k) × (isCounted t ≡ false) × (eqb t 22 ≡ false) × (eqb t 26 ≡ false)
+Plain t k = (width_of t ≡ k) × (is_counted t ≡ false) × (eqb t 22 ≡ false) × (eqb t 26 ≡ false)
 
-pub plain-key : {t key : ℕ} (k : ℕ) → t ≡ key → Plain key k → Plain t k
-plain-key k e p = rw e p
+pub plain_key : {t key : ℕ} (k : ℕ) → t ≡ key → Plain key k → Plain t k
+plain_key k e p = rw e p
 
 module _ (s : List ℕ) (at : ℕ) where
   abbrev Shows : ℕ → Shown → Type 0
-  Shows t x = x ≡ shownAs (cell_of t at) ((unruled t).read s at)
+  Shows t x = x ≡ shown_as (cell_of t at) ((unruled t).read s at)
 
-  pub decimal-shows : (t : ℕ) → t ≡ 22 → Shows t (shownAs decimalCell ((ruled decimalFine Decimal (number 16 0)).read s at))
+  pub decimal_shows : (t : ℕ) → t ≡ 22 → Shows t (shown_as decimal_cell ((ruled decimal_fine Decimal (number 16 0)).read s at))
   unfolding unruled value
-  decimal-shows t e = rw e (sym (into-shown fixed number_of (ruled decimalFine Decimal (number 16 0)) s at (cell_of 22 at)))
+  decimal_shows t e = rw e (sym (into_shown fixed number_of (ruled decimal_fine Decimal (number 16 0)) s at (cell_of 22 at)))
 
-  pub point-shows : (t : ℕ) → t ≡ 26 → Shows t (shownAs pointCell ((ruled pointFine Point (number 16 0)).read s at))
+  pub point_shows : (t : ℕ) → t ≡ 26 → Shows t (shown_as point_cell ((ruled point_fine Point (number 16 0)).read s at))
   unfolding unruled value
-  point-shows t e = rw e (sym (into-shown fixed number_of (ruled pointFine Point (number 16 0)) s at (cell_of 26 at)))
+  point_shows t e = rw e (sym (into_shown fixed number_of (ruled point_fine Point (number 16 0)) s at (cell_of 26 at)))
 
-  pub counted-shows : (t : ℕ) → (t ≡ 9) ⊎ ((t ≡ 25) ⊎ (t ≡ 27)) → Shows t (shownAs (bodyCell t at) ((string true anything 0 0).read s at))
+  pub counted_shows : (t : ℕ) → (t ≡ 9) ⊎ ((t ≡ 25) ⊎ (t ≡ 27)) → Shows t (shown_as (body_cell t at) ((string true anything 0 0).read s at))
   unfolding unruled
-  counted-shows t is =
+  counted_shows t is =
       ⊎_elim (λ e. rw e (go 9)) (λ w. ⊎_elim (λ e. rw e (go 25)) (λ e. rw e (go 27)) w) is
     where
-      go : (t : ℕ) → shownAs (bodyCell t at) ((string true anything 0 0).read s at) ≡ shownAs (cell_of t at) ((into body body_of (string true anything 0 0)).read s at)
-      go t = sym (into-shown body body_of (string true anything 0 0) s at (cell_of t at))
+      go : (t : ℕ) → shown_as (body_cell t at) ((string true anything 0 0).read s at) ≡ shown_as (cell_of t at) ((into body body_of (string true anything 0 0)).read s at)
+      go t = sym (into_shown body body_of (string true anything 0 0) s at (cell_of t at))
 
-  pub plain-shows : (t k : ℕ) → Plain t k → Shows t (shownAs (plainCell t) ((number k 0).read s at))
+  pub plain_shows : (t k : ℕ) → Plain t k → Shows t (shown_as (plain_cell t) ((number k 0).read s at))
   unfolding unruled value
-  plain-shows t k p =
+  plain_shows t k p =
       let fault = pick (eqb t 22) Decimal Point in
-      let free = ruled-any (fixedFine t) fault (number k 0) s at (λ n. simp (p.2, p.3)) in
-      let cells : (n : ℕ) → fixedCell t n ≡ plainCell t n = λ n. simp (p.2, p.3) in
-      sym (rw (p.1, p.0) (into-shown fixed number_of (ruled (fixedFine t) fault (number k 0)) s at (cell_of t at) ∙ ap (shownAs (fixedCell t)) free ∙ same-shown cells ((number k 0).read s at)))
+      let free = ruled_any (fixed_fine t) fault (number k 0) s at (λ n. simp (p.2, p.3)) in
+      let cells : (n : ℕ) → fixed_cell t n ≡ plain_cell t n = λ n. simp (p.2, p.3) in
+      sym (rw (p.1, p.0) (into_shown fixed number_of (ruled (fixed_fine t) fault (number k 0)) s at (cell_of t at) ∙ ap (shown_as (fixed_cell t)) free ∙ same_shown cells ((number k 0).read s at)))
     where
-      same-shown : {f g : ℕ → Cell} → ((n : ℕ) → f n ≡ g n) → (r : Res (ℕ × ℕ)) → shownAs f r ≡ shownAs g r
-      same-shown all (ok p) = ap (λ (c : Cell). Shown.Is c p.1) (all p.0)
-      same-shown all (no f p) = refl
+      same_shown : {f g : ℕ → Cell} → ((n : ℕ) → f n ≡ g n) → (r : Res (ℕ × ℕ)) → shown_as f r ≡ shown_as g r
+      same_shown all (ok p) = ap (λ (c : Cell). Shown.Is c p.1) (all p.0)
+      same_shown all (no f p) = refl
 
   -- a value that was read by its rule is read without it; the fields' numbers play no part
-  pub unruled-reads : (l b t : ℕ) {w : Value × ℕ} → (value l b t).read s at ≡ ok w → (unruled t).read s at ≡ ok w
+  pub unruled_reads : (l b t : ℕ) {w : Value × ℕ} → (value l b t).read s at ≡ ok w → (unruled t).read s at ≡ ok w
   unfolding unruled value into
-  unruled-reads l b t {w} e = by_count (isCounted t) refl (sym (value-fields s at l b t) ∙ e)
+  unruled_reads l b t {w} e = by_count (is_counted t) refl (sym (value_fields s at l b t) ∙ e)
     where
-      by_count : (c : Bool) → isCounted t ≡ c → (value 0 0 t).read s at ≡ ok w → (unruled t).read s at ≡ ok w
+      by_count : (c : Bool) → is_counted t ≡ c → (value 0 0 t).read s at ≡ ok w → (unruled t).read s at ≡ ok w
       by_count false is e = rw is (rw is at e)
       by_count true is e =
-          let r = bound ((string true (ruleOf t) 0 0).read s at) (rw is at e) in
-          rw (is, counted-unruled true mostBytes (ruleOf t) 0 0 0 0 s at r.0 r.1) r.2
+          let r = bound ((string true (rule_of t) 0 0).read s at) (rw is at e) in
+          rw (is, counted_unruled true most_bytes (rule_of t) 0 0 0 0 s at r.0 r.1) r.2
 
 -- a number of 16 bytes by its halves
 module _ (hi lo : ℕ) (small : lo < 2 ^ 64) where
-  pub decimal-halves : decimalCell (hi * 2 ^ 64 + lo) ≡ Cell.Decimal (signed 8 hi) lo
-  decimal-halves = rw (digits_div hi small, digits_mod hi small)
+  pub decimal_halves : decimal_cell (hi * 2 ^ 64 + lo) ≡ Cell.Decimal (signed 8 hi) lo
+  decimal_halves = rw (digits_div hi small, digits_mod hi small)
 
-  pub position-halves : isNullPoint (hi * 2 ^ 64 + lo) ≡ false → pointCell (hi * 2 ^ 64 + lo) ≡ Cell.Point (of_bits binary64 hi) (of_bits binary64 lo)
-  position-halves other =
-      ap (λ (b : Bool). pick b Cell.NullPoint (positionCell (hi * 2 ^ 64 + lo))) other ∙ rw (digits_div hi small, digits_mod hi small)
+  pub position_halves : is_null_point (hi * 2 ^ 64 + lo) ≡ false → point_cell (hi * 2 ^ 64 + lo) ≡ Cell.Point (of_bits binary64 hi) (of_bits binary64 lo)
+  position_halves other =
+      ap (λ (b : Bool). pick b Cell.NullPoint (position_cell (hi * 2 ^ 64 + lo))) other ∙ rw (digits_div hi small, digits_mod hi small)
 
-pub null-cell : (n : ℕ) → isNullPoint n ≡ true → pointCell n ≡ Cell.NullPoint
-null-cell n null = ap (λ (b : Bool). pick b Cell.NullPoint (positionCell n)) null
+pub null_cell_lem : (n : ℕ) → is_null_point n ≡ true → point_cell n ≡ Cell.NullPoint
+null_cell_lem n null = ap (λ (b : Bool). pick b Cell.NullPoint (position_cell n)) null
 
 -- the numbers of a null point
-pub null-numbers : (n : ℕ) → isNullPoint n ≡ true → (n / 2 ^ 64 ≡ degrees360) × (n % 2 ^ 64 ≡ degrees360)
-null-numbers n null =
-    let w = and-true-both (eqb (n / 2 ^ 64) degrees360) (eqb (n % 2 ^ 64) degrees360) null in
+pub null_numbers : (n : ℕ) → is_null_point n ≡ true → (n / 2 ^ 64 ≡ degrees360) × (n % 2 ^ 64 ≡ degrees360)
+null_numbers n null =
+    let w = and_true_both (eqb (n / 2 ^ 64) degrees360) (eqb (n % 2 ^ 64) degrees360) null in
     (eqb-true _ _ w.0, eqb-true _ _ w.1)
 
 -- what lies within a range is a number
-within-number : (most b : ℕ) → most ≤ 0x7ff0000000000000 → within most b ≡ true → nan_bits binary64 b ≡ false
-within-number most b small is = let low : b % 2 ^ 63 ≤ most = leb-true _ _ is in no_nan b (omega arith)
+within_number : (most b : ℕ) → most ≤ 0x7ff0000000000000 → within most b ≡ true → nan_bits binary64 b ≡ false
+within_number most b small is = let low : b % 2 ^ 63 ≤ most = leb-true _ _ is in no_nan b (omega arith)
 
 -- the halves of a point are numbers
-pub point-numbers : (n : ℕ) → pointFine n ≡ true → (nan_bits binary64 (n / 2 ^ 64) ≡ false) × (nan_bits binary64 (n % 2 ^ 64) ≡ false)
-point-numbers n e = ⊎_elim position null (or-true (isPosition n) (isNullPoint n) e)
+pub point_numbers : (n : ℕ) → point_fine n ≡ true → (nan_bits binary64 (n / 2 ^ 64) ≡ false) × (nan_bits binary64 (n % 2 ^ 64) ≡ false)
+point_numbers n e = ⊎_elim position null (or_true (is_position n) (is_null_point n) e)
   where
     Numbers : Type 0
     Numbers = (nan_bits binary64 (n / 2 ^ 64) ≡ false) × (nan_bits binary64 (n % 2 ^ 64) ≡ false)
 
-    position : isPosition n ≡ true → Numbers
+    position : is_position n ≡ true → Numbers
     position is =
-        let w = and-true-both (within 0x4066800000000000 (n / 2 ^ 64)) (within 0x4056800000000000 (n % 2 ^ 64)) is in
-        (within-number _ (n / 2 ^ 64) (lit≤ tt) w.0, within-number _ (n % 2 ^ 64) (lit≤ tt) w.1)
+        let w = and_true_both (within 0x4066800000000000 (n / 2 ^ 64)) (within 0x4056800000000000 (n % 2 ^ 64)) is in
+        (within_number _ (n / 2 ^ 64) (lit≤ tt) w.0, within_number _ (n % 2 ^ 64) (lit≤ tt) w.1)
 
-    null : isNullPoint n ≡ true → Numbers
-    null is = let w = null-numbers n is in rw (w.0, w.1) (no_nan degrees360 (lit≤ tt), no_nan degrees360 (lit≤ tt))
+    null : is_null_point n ≡ true → Numbers
+    null is = let w = null_numbers n is in rw (w.0, w.1) (no_nan degrees360 (lit≤ tt), no_nan degrees360 (lit≤ tt))
 
-pub halves-numbers : (x y : ℕ) → y < 2 ^ 64 → pointFine (x * 2 ^ 64 + y) ≡ true → (nan_bits binary64 x ≡ false) × (nan_bits binary64 y ≡ false)
-halves-numbers x y small e = rw (digits_div x small, digits_mod x small) at (point-numbers (x * 2 ^ 64 + y) e)
+pub halves_numbers : (x y : ℕ) → y < 2 ^ 64 → point_fine (x * 2 ^ 64 + y) ≡ true → (nan_bits binary64 x ≡ false) × (nan_bits binary64 y ≡ false)
+halves_numbers x y small e = rw (digits_div x small, digits_mod x small) at (point_numbers (x * 2 ^ 64 + y) e)

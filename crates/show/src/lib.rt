@@ -4,8 +4,8 @@ ghost use Rattle.std.specs.Float.{binary64};
 ghost use Rattle.std.specs.Float.Ieee.{to_bits};
 ghost use Rattle.format.specs.declared.Fault.TheVariants.{Decimal, Point};
 ghost use Rattle.format.specs.Format.{number, ruled};
-ghost use Rattle.format.specs.Value.{string, anything, decimalFine, pointFine};
-ghost use Rattle.show.specs.Cells.{floatCell, plainCell, decimalCell, pointCell, partCell, nullCell, bodyCell, cell_of, unruled, shownAs, rawOf};
+ghost use Rattle.format.specs.Value.{string, anything, decimal_fine, point_fine};
+ghost use Rattle.show.specs.Cells.{float_cell, plain_cell, decimal_cell, point_cell, part_cell, null_cell, body_cell, cell_of, unruled, shown_as, raw_of};
 ghost use Rattle.show.specs.Parts.{IsPart};
 
 use format::{Fault, Refusal};
@@ -45,7 +45,7 @@ pub enum Shown {
 
 // A float by its bits.
 pub fn float_cell(bits: u64) -> Cell
-    ensures { result ≡ floatCell bits }
+    ensures { result ≡ float_cell bits }
 {
     if bits % 0x8000_0000_0000_0000 <= 0x7ff0_0000_0000_0000 {
         Cell::Float(f64::from_bits(bits))
@@ -56,7 +56,7 @@ pub fn float_cell(bits: u64) -> Cell
 
 // A value of at most 8 bytes, by its type and its number.
 fn plain_cell(t: u8, n: u64) -> Cell
-    ensures { result ≡ plainCell t n }
+    ensures { result ≡ plain_cell t n }
 {
     match t {
         format::TINYINT => Cell::Tinyint(scan::signed8(n)),
@@ -70,7 +70,7 @@ fn plain_cell(t: u8, n: u64) -> Cell
 
 // A value of so many bytes; of 8, if they are more.
 fn read_plain(s: &[u8], at: usize, t: u8, width: usize) -> Shown
-    ensures { result ≡ shownAs (plainCell t) ((number (min width 8) 0).read s.now at) }
+    ensures { result ≡ shown_as (plain_cell t) ((number (min width 8) 0).read s.now at) }
 {
     let number = scan::read_number(s, at, width);
     let Number::Is(n, next) = number else {
@@ -80,7 +80,7 @@ fn read_plain(s: &[u8], at: usize, t: u8, width: usize) -> Shown
 }
 
 fn read_decimal(s: &[u8], at: usize) -> Shown
-    ensures { result ≡ shownAs decimalCell ((ruled decimalFine Decimal (number 16 0)).read s.now at) }
+    ensures { result ≡ shown_as decimal_cell ((ruled decimal_fine Decimal (number 16 0)).read s.now at) }
 {
     let halves = scan::read_halves(s, at);
     let Halves::Is(high, lower, next) = halves else {
@@ -97,7 +97,7 @@ fn read_decimal(s: &[u8], at: usize) -> Shown
 }
 
 fn read_point(s: &[u8], at: usize) -> Shown
-    ensures { result ≡ shownAs pointCell ((ruled pointFine Point (number 16 0)).read s.now at) }
+    ensures { result ≡ shown_as point_cell ((ruled point_fine Point (number 16 0)).read s.now at) }
 {
     let halves = scan::read_halves(s, at);
     let Halves::Is(longitude, latitude, next) = halves else {
@@ -119,7 +119,7 @@ fn read_point(s: &[u8], at: usize) -> Shown
 }
 
 fn part_cell(t: u8, start: usize, size: usize) -> Cell
-    ensures { result ≡ partCell t start size }
+    ensures { result ≡ part_cell t start size }
 {
     match t {
         format::STRING => Cell::Text(start, size),
@@ -129,7 +129,7 @@ fn part_cell(t: u8, start: usize, size: usize) -> Cell
 }
 
 fn null_cell(t: u8) -> Cell
-    ensures { result ≡ nullCell t }
+    ensures { result ≡ null_cell t }
 {
     match t {
         format::STRING => Cell::NullText,
@@ -140,7 +140,7 @@ fn null_cell(t: u8) -> Cell
 
 // A counted value by its length alone, whatever its bytes.
 fn read_counted(s: &[u8], at: usize, t: u8) -> Shown
-    ensures { result ≡ shownAs (bodyCell t at) ((string true anything 0 0).read s.now at) }
+    ensures { result ≡ shown_as (body_cell t at) ((string true anything 0 0).read s.now at) }
 {
     let part = scan::read_body(s, at, true, format::MOST_BYTES);
     match part {
@@ -152,7 +152,7 @@ fn read_counted(s: &[u8], at: usize, t: u8) -> Shown
 
 // The value of a wire type that stands at a place of an accepted message, whose texts are not looked at again; of a type that has no values, no bytes.
 pub fn read_value(s: &[u8], at: usize, t: u8) -> Shown
-    ensures { result ≡ shownAs (cell_of t at) ((unruled t).read s.now at) }
+    ensures { result ≡ shown_as (cell_of t at) ((unruled t).read s.now at) }
 {
     match t {
         format::TINYINT => read_plain(s, at, t, 1),
@@ -177,7 +177,7 @@ pub enum Raw {
 
 // What a shown value is on the wire.
 pub fn raw_of(c: Cell) -> Raw
-    ensures { result ≡ rawOf c }
+    ensures { result ≡ raw_of c }
 {
     match c {
         Cell::Tinyint(z) => Raw::Bits(format::TINYINT, 0, scan::unsigned8(z)),

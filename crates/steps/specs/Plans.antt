@@ -3,7 +3,7 @@ use Rattle.std.specs.Prelude.{ℕ, ◌+◌, Bool, ◌&&◌, List, [], ◌∷◌,
 use Rattle.format.specs.declared.Fault.{Fault}
 use Rattle.format.specs.declared.Fault.TheVariants.{Limit, Output, Stage as WrongStage}
 use Rattle.format.specs.Result.{Res, ok, no, pick}
-use Rattle.format.specs.Number.{numBytes}
+use Rattle.format.specs.Number.{num_bytes}
 use Rattle.format.specs.Format.{Verdict, fine, bad}
 use Rattle.put.specs.Put.{put}
 
@@ -13,9 +13,9 @@ pub record Fill : Type 0 where
   pub width : ℕ
   pub number : ℕ
 
-abbrev pub fillAll : List Fill → List ℕ → List ℕ
-fillAll [] b = b
-fillAll (f ∷ fs) b = fillAll fs (put b f.at (numBytes f.width f.number))
+abbrev pub fill_all : List Fill → List ℕ → List ℕ
+fill_all [] b = b
+fill_all (f ∷ fs) b = fill_all fs (put b f.at (num_bytes f.width f.number))
 
 -- what a step asks and does, with the state after it
 pub record Plan (S : Type 0) : Type 0 where
@@ -39,8 +39,8 @@ judged fine r = r
 judged (bad f p) r = no f p
 
 -- 13, the argument's faults, the limits, then 8, for so many bytes at a place, where a position may be reached at most
-abbrev pub answerWithin : ℕ → Bool → Verdict → Bool → ℕ → ℕ → ℕ → Res ℕ
-answerWithin most permitted faults limits at taken size =
+abbrev pub answer_within : ℕ → Bool → Verdict → Bool → ℕ → ℕ → ℕ → Res ℕ
+answer_within most permitted faults limits at taken size =
     let reached = at + taken in
     pick permitted
     (judged faults
@@ -50,11 +50,11 @@ answerWithin most permitted faults limits at taken size =
     (no WrongStage at)
 
 abbrev pub answer_of : {S : Type 0} → Plan S → ℕ → Res ℕ
-answer_of p size = answerWithin p.most p.permitted p.faults p.limits p.at (length p.bytes) size
+answer_of p size = answer_within p.most p.permitted p.faults p.limits p.at (length p.bytes) size
 
 -- a refusal leaves state and buffer as they were
 abbrev pub out_of : {S : Type 0} → Res ℕ → Plan S → S → List ℕ → Out S
-out_of (ok n) p st b = record { answer = ok n; state = p.next n; buffer = fillAll p.fills (put b p.at p.bytes) }
+out_of (ok n) p st b = record { answer = ok n; state = p.next n; buffer = fill_all p.fills (put b p.at p.bytes) }
 out_of (no f n) p st b = record { answer = no f n; state = st; buffer = b }
 
 unfoldable pub carry : {S : Type 0} → Plan S → S → List ℕ → Out S

@@ -4,188 +4,188 @@ use Rattle.std.specs.Prelude.{ℕ, ◌+◌, ◌-◌, Bool, true, ◌&&◌, List,
 use Rattle.std.proofs.Math.Option.{some}
 use Rattle.format.specs.declared.Fault.TheVariants.{Limit, Version, WireType}
 use Rattle.format.specs.Result.{Res, ok}
-use Rattle.format.specs.Number.{numBytes}
+use Rattle.format.specs.Number.{num_bytes}
 use Rattle.format.specs.Format.{Verdict, fine}
 use Rattle.format.specs.Text.{utf8}
-use Rattle.format.specs.Value.{Value, value, anything, tNull, tTinyint, tArray}
-use Rattle.format.specs.Message.{Message, Content, anInvocation, aResponse, Param, null, one, array, bytes, values, param, metadata, message, mostItems, mostColumns, mostMessage, mostRow, unlimited}
+use Rattle.format.specs.Value.{Value, value, anything, t_null, t_tinyint, t_array}
+use Rattle.format.specs.Message.{Message, Content, an_invocation, a_response, Param, null, one, array, bytes, values, param, metadata, message, most_items, most_columns, most_message, most_row, unlimited}
 use Rattle.steps.specs.declared.Stage.{Stage}
 use Rattle.steps.specs.declared.Stage.TheVariants.{Call, Array, Reply, Table, Row}
-use Rattle.steps.specs.State.{State, noInner, closed, allColumns, isElement, atStage}
-use Rattle.steps.specs.Next.{begunAt, betweenAt, array_at, table_at}
-use Rattle.steps.specs.Plans.{Plan, Out, answerWithin, carry, after, also, test}
-use Rattle.steps.specs.Arguments.{Column, Opening, textFault, valueFault, nameFaults, openingFault, types_of, metadataOf, opened}
+use Rattle.steps.specs.State.{State, no_inner, closed, all_columns, is_element, at_stage}
+use Rattle.steps.specs.Next.{begun_at, between_at, array_at, table_at}
+use Rattle.steps.specs.Plans.{Plan, Out, answer_within, carry, after, also, test}
+use Rattle.steps.specs.Arguments.{Column, Opening, text_fault, value_fault, name_faults, opening_fault, types_of, metadata_of, opened}
 
 -- the steps, with their arguments
 pub data Step : Type 0 where
-  beginCall : ℕ → List ℕ → List ℕ → Step  -- version, procedure, client data
-  nullParam : Step
-  oneParam : ℕ → Value → Step  -- type, value
-  bytesParam : List ℕ → Step  -- a byte array
-  openArray : ℕ → Step  -- element type
+  begin_call : ℕ → List ℕ → List ℕ → Step  -- version, procedure, client data
+  null_param : Step
+  one_param : ℕ → Value → Step  -- type, value
+  bytes_param : List ℕ → Step  -- a byte array
+  open_array : ℕ → Step  -- element type
   element : ℕ → Value → Step  -- type, value
-  closeArray : Step
-  finishCall : Step
-  beginReply : ℕ → Opening → Step  -- version, fields before the table count
-  openTable : ℕ → List Column → Step  -- status, columns
-  openRow : Step
+  close_array : Step
+  finish_call : Step
+  begin_reply : ℕ → Opening → Step  -- version, fields before the table count
+  open_table : ℕ → List Column → Step  -- status, columns
+  open_row : Step
   cell : ℕ → Value → Step  -- type, value
-  closeRow : Step
-  closeTable : Step
-  finishReply : Step
+  close_row : Step
+  close_table : Step
+  finish_reply : Step
 
 -- where a message of the most bytes ends: its length counts what follows it
-abbrev pub messageEnd : ℕ
-messageEnd = 4 + mostMessage
+abbrev pub message_end : ℕ
+message_end = 4 + most_message
 
 -- what a step of a message answers
-abbrev pub answerAt : Bool → Verdict → Bool → ℕ → ℕ → ℕ → Res ℕ
-answerAt = answerWithin messageEnd
+abbrev pub answer_at : Bool → Verdict → Bool → ℕ → ℕ → ℕ → Res ℕ
+answer_at = answer_within message_end
 
 abbrev pub says : ℕ → Content → Message
 says version content = record { version = version; content = content }
 
 -- a message is begun: its length and its count, which is its last field, hold zeros
-abbrev pub beginPlan : Stage → Verdict → List ℕ → Plan State
-beginPlan stage faults bs = record {
+abbrev pub begin_plan : Stage → Verdict → List ℕ → Plan State
+begin_plan stage faults bs = record {
   permitted = true;
   faults = faults;
   limits = true;
-  most = messageEnd;
+  most = message_end;
   at = 0;
-  bytes = numBytes 4 0 ++ bs;
+  bytes = num_bytes 4 0 ++ bs;
   fills = [];
-  next = λ n. begunAt stage n;
+  next = λ n. begun_at stage n;
 }
 
 -- a parameter in one step
-abbrev pub paramPlan : Verdict → Param → State → ℕ → Plan State
-paramPlan faults p st size = record {
-  permitted = atStage Call st size;
+abbrev pub param_plan : Verdict → Param → State → ℕ → Plan State
+param_plan faults p st size = record {
+  permitted = at_stage Call st size;
   faults = faults;
-  limits = leb (st.count + 1) mostItems;
-  most = messageEnd;
+  limits = leb (st.count + 1) most_items;
+  most = message_end;
   at = st.position;
   bytes = param.bytes p;
   fills = [];
-  next = λ n. betweenAt Call n st.countAt (st.count + 1);
+  next = λ n. between_at Call n st.count_at (st.count + 1);
 }
 
 -- the message's length and its count are filled
-abbrev pub finishPlan : Stage → State → ℕ → Plan State
-finishPlan stage st size = record {
-  permitted = atStage stage st size;
+abbrev pub finish_plan : Stage → State → ℕ → Plan State
+finish_plan stage st size = record {
+  permitted = at_stage stage st size;
   faults = fine;
   limits = true;
-  most = messageEnd;
+  most = message_end;
   at = st.position;
   bytes = [];
-  fills = record { at = 0; width = 4; number = st.position - 4 } ∷ record { at = st.countAt; width = 2; number = st.count } ∷ [];
+  fills = record { at = 0; width = 4; number = st.position - 4 } ∷ record { at = st.count_at; width = 2; number = st.count } ∷ [];
   next = λ n. closed n;
 }
 
 abbrev pub plan : Step → State → ℕ → Plan State
-plan (beginCall version procedure client) st size =
-    beginPlan Call (also (test (leb version 1) Version 0) (textFault utf8 0 procedure))
-    ((message 3).bytes (says version (anInvocation (record { procedure = some procedure; client = client; params = [] }))))
-plan nullParam st size = paramPlan fine (record { type = tNull; argument = null }) st size
-plan (oneParam t v) st size = paramPlan (valueFault st.position t v) (record { type = t; argument = one v }) st size
-plan (bytesParam bs) st size = paramPlan (textFault anything st.position bs) (record { type = tArray; argument = array tTinyint (bytes (some bs)) }) st size
-plan (openArray t) st size = record {
-  permitted = atStage Call st size;
-  faults = test (isElement t) WireType st.position;
-  limits = leb (st.count + 1) mostItems;
-  most = messageEnd;
+plan (begin_call version procedure client) st size =
+    begin_plan Call (also (test (leb version 1) Version 0) (text_fault utf8 0 procedure))
+    ((message 3).bytes (says version (an_invocation (record { procedure = some procedure; client = client; params = [] }))))
+plan null_param st size = param_plan fine (record { type = t_null; argument = null }) st size
+plan (one_param t v) st size = param_plan (value_fault st.position t v) (record { type = t; argument = one v }) st size
+plan (bytes_param bs) st size = param_plan (text_fault anything st.position bs) (record { type = t_array; argument = array t_tinyint (bytes (some bs)) }) st size
+plan (open_array t) st size = record {
+  permitted = at_stage Call st size;
+  faults = test (is_element t) WireType st.position;
+  limits = leb (st.count + 1) most_items;
+  most = message_end;
   at = st.position;
-  bytes = param.bytes (record { type = tArray; argument = array t (values []) });
+  bytes = param.bytes (record { type = t_array; argument = array t (values []) });
   fills = [];
-  next = λ n. array_at Array n st.countAt (st.count + 1) (n - 2) t 0;
+  next = λ n. array_at Array n st.count_at (st.count + 1) (n - 2) t 0;
 }
 plan (element t v) st size =
     let i = st.inner in record {
-      permitted = atStage Array st size;
-      faults = also (test (eqb t i.type) WireType st.position) (valueFault st.position t v);
-      limits = leb (i.count + 1) mostItems;
-      most = messageEnd;
+      permitted = at_stage Array st size;
+      faults = also (test (eqb t i.type) WireType st.position) (value_fault st.position t v);
+      limits = leb (i.count + 1) most_items;
+      most = message_end;
       at = st.position;
       bytes = (value 27 28 t).bytes v;
       fills = [];
-      next = λ n. array_at Array n st.countAt st.count i.at i.type (i.count + 1);
+      next = λ n. array_at Array n st.count_at st.count i.at i.type (i.count + 1);
     }
-plan closeArray st size = record {
-  permitted = atStage Array st size;
+plan close_array st size = record {
+  permitted = at_stage Array st size;
   faults = fine;
   limits = true;
-  most = messageEnd;
+  most = message_end;
   at = st.position;
   bytes = [];
   fills = record { at = st.inner.at; width = 2; number = st.inner.count } ∷ [];
-  next = λ n. betweenAt Call n st.countAt st.count;
+  next = λ n. between_at Call n st.count_at st.count;
 }
-plan finishCall st size = finishPlan Call st size
-plan (beginReply version o) st size = beginPlan Reply (also (test (leb version 1) Version 0) (openingFault o)) ((message 4).bytes (says version (aResponse (opened o))))
-plan (openTable status cs) st size = record {
-  permitted = atStage Reply st size;
-  faults = also (test (leb (length cs) mostColumns) Limit st.position) (also (test (allColumns (types_of cs)) WireType st.position) (nameFaults st.position cs));
-  limits = leb (st.count + 1) mostItems;
-  most = messageEnd;
+plan finish_call st size = finish_plan Call st size
+plan (begin_reply version o) st size = begin_plan Reply (also (test (leb version 1) Version 0) (opening_fault o)) ((message 4).bytes (says version (a_response (opened o))))
+plan (open_table status cs) st size = record {
+  permitted = at_stage Reply st size;
+  faults = also (test (leb (length cs) most_columns) Limit st.position) (also (test (all_columns (types_of cs)) WireType st.position) (name_faults st.position cs));
+  limits = leb (st.count + 1) most_items;
+  most = message_end;
   at = st.position;
-  bytes = numBytes 4 0 ++ (metadata.bytes (metadataOf status cs) ++ numBytes 4 0);
+  bytes = num_bytes 4 0 ++ (metadata.bytes (metadata_of status cs) ++ num_bytes 4 0);
   fills = [];
   next = λ n. record {
     stage = Table;
     position = n;
-    countAt = st.countAt;
+    count_at = st.count_at;
     count = st.count + 1;
-    inner = noInner;
-    outer = record { at = st.position; rowsAt = n - 4; rows = 0; types = types_of cs };
+    inner = no_inner;
+    outer = record { at = st.position; rows_at = n - 4; rows = 0; types = types_of cs };
   };
 }
-plan openRow st size =
+plan open_row st size =
     let o = st.outer in record {
-      permitted = atStage Table st size;
+      permitted = at_stage Table st size;
       faults = fine;
       limits = leb (o.rows + 1) unlimited;
-      most = messageEnd;
+      most = message_end;
       at = st.position;
-      bytes = numBytes 4 0;
+      bytes = num_bytes 4 0;
       fills = [];
       next = λ n. table_at Row n st st.position 0 (o.rows + 1);
     }
 plan (cell t v) st size =
     let i = st.inner in record {
-      permitted = atStage Row st size && ltb i.count (length st.outer.types);
-      faults = also (test (eqb t (get_or st.outer.types i.count 0)) WireType st.position) (valueFault st.position t v);
-      limits = leb (st.position + length ((value 50 51 t).bytes v)) (i.at + 4 + mostRow);
-      most = messageEnd;
+      permitted = at_stage Row st size && ltb i.count (length st.outer.types);
+      faults = also (test (eqb t (get_or st.outer.types i.count 0)) WireType st.position) (value_fault st.position t v);
+      limits = leb (st.position + length ((value 50 51 t).bytes v)) (i.at + 4 + most_row);
+      most = message_end;
       at = st.position;
       bytes = (value 50 51 t).bytes v;
       fills = [];
       next = λ n. table_at Row n st i.at (i.count + 1) st.outer.rows;
     }
-plan closeRow st size =
+plan close_row st size =
     let i = st.inner in record {
-      permitted = atStage Row st size && eqb i.count (length st.outer.types);
+      permitted = at_stage Row st size && eqb i.count (length st.outer.types);
       faults = fine;
-      limits = leb st.position (i.at + 4 + mostRow);
-      most = messageEnd;
+      limits = leb st.position (i.at + 4 + most_row);
+      most = message_end;
       at = st.position;
       bytes = [];
       fills = record { at = i.at; width = 4; number = st.position - (i.at + 4) } ∷ [];
       next = λ n. table_at Table n st 0 0 st.outer.rows;
     }
-plan closeTable st size =
+plan close_table st size =
     let o = st.outer in record {
-      permitted = atStage Table st size;
+      permitted = at_stage Table st size;
       faults = fine;
       limits = true;
-      most = messageEnd;
+      most = message_end;
       at = st.position;
       bytes = [];
-      fills = record { at = o.at; width = 4; number = st.position - (o.at + 4) } ∷ record { at = o.rowsAt; width = 4; number = o.rows } ∷ [];
-      next = λ n. betweenAt Reply n st.countAt st.count;
+      fills = record { at = o.at; width = 4; number = st.position - (o.at + 4) } ∷ record { at = o.rows_at; width = 4; number = o.rows } ∷ [];
+      next = λ n. between_at Reply n st.count_at st.count;
     }
-plan finishReply st size = finishPlan Reply st size
+plan finish_reply st size = finish_plan Reply st size
 
 unfoldable pub step : Step → State → List ℕ → Out State
 step s st b = carry (plan s st (length b)) st b

@@ -3,68 +3,68 @@ use Rattle.std.specs.Prelude.{ℕ, ◌<◌, List, [], ◌∷◌, ◌++◌, lengt
 use Rattle.std.proofs.Math.Option.{Option, get_or}
 use Rattle.format.specs.Result.{ok, pick}
 use Rattle.format.specs.Number.{Bytes}
-use Rattle.format.specs.Message.{Server, noServer, Content, aLoginRequest, aLoginResponse, anInvocation, aResponse, Message}
+use Rattle.format.specs.Message.{Server, no_server, Content, a_login_request, a_login_response, an_invocation, a_response, Message}
 use Rattle.steps.specs.State.{State, closed}
 use Rattle.steps.specs.Plans.{Out}
 use Rattle.steps.specs.Arguments.{Opening, opened}
-use Rattle.steps.specs.Steps.{Step, beginCall, beginReply, run}
-use Rattle.steps.specs.Logins.{Welcome, loginRequest, loginResponse}
-use Rattle.steps.specs.Spells.{text_of, callRest, replyRest, openingOf, AllHeld, HeldClient, HeldOpening, HeldWelcome}
+use Rattle.steps.specs.Steps.{Step, begin_call, begin_reply, run}
+use Rattle.steps.specs.Logins.{Welcome, login_request, login_response}
+use Rattle.steps.specs.Spells.{text_of, call_rest, reply_rest, opening_of, All_held, Held_client, HeldOpening, HeldWelcome}
 
 pub data Writing : Type 0 where
-  requestCall : ℕ → ℕ → List ℕ → List ℕ → List ℕ → Writing  -- version, hash version, service, user, hash
-  responseCall : ℕ → ℕ → Welcome → Writing  -- version, result, what follows a result of 0
-  callSteps : ℕ → List ℕ → List ℕ → List Step → Writing  -- version, procedure, client data, the steps behind the begin
-  replySteps : ℕ → Opening → List Step → Writing  -- version, fields before the table count, the steps behind the begin
+  request_call : ℕ → ℕ → List ℕ → List ℕ → List ℕ → Writing  -- version, hash version, service, user, hash
+  response_call : ℕ → ℕ → Welcome → Writing  -- version, result, what follows a result of 0
+  call_steps : ℕ → List ℕ → List ℕ → List Step → Writing  -- version, procedure, client data, the steps behind the begin
+  reply_steps : ℕ → Opening → List Step → Writing  -- version, fields before the table count, the steps behind the begin
 
 abbrev pub kind_of : Writing → ℕ
-kind_of (requestCall version hashVersion service user hash) = 1
-kind_of (responseCall version result w) = 2
-kind_of (callSteps version procedure client ss) = 3
-kind_of (replySteps version o ss) = 4
+kind_of (request_call version hash_version service user hash) = 1
+kind_of (response_call version result w) = 2
+kind_of (call_steps version procedure client ss) = 3
+kind_of (reply_steps version o ss) = 4
 
 -- what comes of it; a login has no state
 abbrev pub written : Writing → State → List ℕ → Out State
-written (requestCall version hashVersion service user hash) st b = loginRequest version hashVersion service user hash b
-written (responseCall version result w) st b = loginResponse version result w b
-written (callSteps version procedure client ss) st b = run (beginCall version procedure client ∷ ss) st b
-written (replySteps version o ss) st b = run (beginReply version o ∷ ss) st b
+written (request_call version hash_version service user hash) st b = login_request version hash_version service user hash b
+written (response_call version result w) st b = login_response version result w b
+written (call_steps version procedure client ss) st b = run (begin_call version procedure client ∷ ss) st b
+written (reply_steps version o ss) st b = run (begin_reply version o ∷ ss) st b
 
 -- the buffer b with m laid over its front
 abbrev pub overlaid : List ℕ → List ℕ → List ℕ
 overlaid b m = m ++ drop (length m) b
 
 -- accepted, with the message m in front of the buffer b, and every other byte as it was
-abbrev pub inFront : List ℕ → List ℕ → Out State
-inFront b m = record { answer = ok (length m); state = closed (length m); buffer = overlaid b m }
+abbrev pub in_front : List ℕ → List ℕ → Out State
+in_front b m = record { answer = ok (length m); state = closed (length m); buffer = overlaid b m }
 
 -- the code's types hold its arguments
-abbrev pub HeldWriting : Writing → Type 0
-HeldWriting (requestCall version hashVersion service user hash) = (version < 256) × (hashVersion < 256) × Bytes service × Bytes user × Bytes hash
-HeldWriting (responseCall version result w) = (version < 256) × (result < 256) × HeldWelcome w
-HeldWriting (callSteps version procedure client ss) = (version < 256) × Bytes procedure × HeldClient client × AllHeld ss
-HeldWriting (replySteps version o ss) = (version < 256) × HeldOpening o × AllHeld ss
+abbrev pub Held_writing : Writing → Type 0
+Held_writing (request_call version hash_version service user hash) = (version < 256) × (hash_version < 256) × Bytes service × Bytes user × Bytes hash
+Held_writing (response_call version result w) = (version < 256) × (result < 256) × HeldWelcome w
+Held_writing (call_steps version procedure client ss) = (version < 256) × Bytes procedure × Held_client client × All_held ss
+Held_writing (reply_steps version o ss) = (version < 256) × HeldOpening o × All_held ss
 
 -- what a login response says after a result of 0
-abbrev pub welcomeOf : Option Server → Welcome
-welcomeOf o = let s = get_or o noServer in record { host = s.host; connection = s.connection; start = s.start; leader = s.leader; build = text_of s.build }
+abbrev pub welcome_of : Option Server → Welcome
+welcome_of o = let s = get_or o no_server in record { host = s.host; connection = s.connection; start = s.start; leader = s.leader; build = text_of s.build }
 
 -- the writing that a message spells
-abbrev pub contentWriting : ℕ → Content → Writing
-contentWriting version (aLoginRequest l) = requestCall version (get_or l.hashVersion 0) (text_of l.service) (text_of l.user) l.hash
-contentWriting version (aLoginResponse l) = responseCall version l.result (welcomeOf l.server)
-contentWriting version (anInvocation i) = callSteps version (text_of i.procedure) i.client (callRest i)
-contentWriting version (aResponse r) = replySteps version (openingOf r) (replyRest r)
+abbrev pub content_writing : ℕ → Content → Writing
+content_writing version (a_login_request l) = request_call version (get_or l.hash_version 0) (text_of l.service) (text_of l.user) l.hash
+content_writing version (a_login_response l) = response_call version l.result (welcome_of l.server)
+content_writing version (an_invocation i) = call_steps version (text_of i.procedure) i.client (call_rest i)
+content_writing version (a_response r) = reply_steps version (opening_of r) (reply_rest r)
 
-abbrev pub writingOf : Message → Writing
-writingOf r = contentWriting r.version r.content
+abbrev pub writing_of : Message → Writing
+writing_of r = content_writing r.version r.content
 
 -- without the arguments that the version, the result or the flags leave out
-abbrev pub noWelcome : Welcome
-noWelcome = record { host = 0; connection = 0; start = 0; leader = 0; build = [] }
+abbrev pub no_welcome : Welcome
+no_welcome = record { host = 0; connection = 0; start = 0; leader = 0; build = [] }
 
 abbrev pub trimmed : Writing → Writing
-trimmed (requestCall version hashVersion service user hash) = requestCall version (pick (eqb version 1) hashVersion 0) service user hash
-trimmed (responseCall version result w) = responseCall version result (pick (eqb result 0) w noWelcome)
-trimmed (callSteps version procedure client ss) = callSteps version procedure client ss
-trimmed (replySteps version o ss) = replySteps version (openingOf (opened o)) ss
+trimmed (request_call version hash_version service user hash) = request_call version (pick (eqb version 1) hash_version 0) service user hash
+trimmed (response_call version result w) = response_call version result (pick (eqb result 0) w no_welcome)
+trimmed (call_steps version procedure client ss) = call_steps version procedure client ss
+trimmed (reply_steps version o ss) = reply_steps version (opening_of (opened o)) ss

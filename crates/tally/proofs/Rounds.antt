@@ -9,7 +9,7 @@ use Rattle.scan.proofs.Loops.{formats, replicate-formats, map-formats}
 use Rattle.tally.specs.declared.Tour.{Tour}
 use Rattle.tally.specs.Task.{State, visited}
 use Rattle.tally.specs.Walks.{state_of, Walked}
-use Rattle.tally.proofs.Visits.{visited-both}
+use Rattle.tally.proofs.Visits.{visited_both}
 
 module _ {A : Type 0} (at-index : ℕ → Index → Index) (r : ℕ → Format A) (n : ℕ) where
   -- the values from the i-th on
@@ -25,12 +25,12 @@ module _ {A : Type 0} (at-index : ℕ → Index → Index) (r : ℕ → Format A
         → (bs : List A) × ((rest at-index r n i).read s tour.at ≡ ok (bs, end))
         × (visited (state_of tour out) ((rest at-index r n i).fields ix tour.at bs) ≡ visited (state_of from old) ((rest at-index r n 0).fields ix from.at all))
 
-  pub round-first : Round 0 from old
-  round-first = record { few = omega arith; long = refl; left = λ all end e. (all, e, refl) }
+  pub round_first : Round 0 from old
+  round_first = record { few = omega arith; long = refl; left = λ all end e. (all, e, refl) }
 
-  pub round-last : {i : ℕ} {tour : Tour} {out : List ℕ} → n ≤ i → Round i tour out → Walked (rest at-index r n 0) s ix from old tour out
+  pub round_last : {i : ℕ} {tour : Tour} {out : List ℕ} → n ≤ i → Round i tour out → Walked (rest at-index r n 0) s ix from old tour out
   unfolding each nothing formats visited
-  round-last {i} {tour} {out} h w = record {
+  round_last {i} {tour} {out} h w = record {
     goes = λ all end e.
         let none : n - i ≡ 0 = omega arith in
         let z = rw none at (w.left all end e) in
@@ -56,13 +56,13 @@ module _ {A : Type 0} (at-index : ℕ → Index → Index) (i : ℕ) {f : Format
       let q = bound ((each at-index (i + 1) fs).read s p.0.1) p.2 in
       let x = t.goes a p.0.1 p.1 in
       let far : after.at ≡ tour.at + length (f.bytes a) = x.0 ∙ (l.sound s b tour.at a p.0.1 p.1).1.far in
-      subst Onward (ok_same q.2) (λ h. (q.0.0, rw x.0 q.1, rw (x.1, far, ← visited-both) h))
+      subst Onward (ok_same q.2) (λ h. (q.0.0, rw x.0 q.1, rw (x.1, far, ← visited_both) h))
 
 module _ {A : Type 0} (at-index : ℕ → Index → Index) (r : ℕ → Format A) (l : (i : ℕ) → Lawful (r i)) (s : List ℕ) (b : Bytes s) (ix : Index) (n : ℕ) {from : Tour} {old : List ℕ} where
-  pub round-next : (i : ℕ) {tour : Tour} {out : List ℕ} {after : Tour} {written : List ℕ} → i < n → Round at-index r s ix n from old i tour out
+  pub round_next : (i : ℕ) {tour : Tour} {out : List ℕ} {after : Tour} {written : List ℕ} → i < n → Round at-index r s ix n from old i tour out
       → Walked (r i) s (at-index i ix) tour out after written → length written ≡ length out → Round at-index r s ix n from old (i + 1) after written
   unfolding formats
-  round-next i h w t long = record {
+  round_next i h w t long = record {
     few = omega (arith, w.few);
     long = long ∙ w.long;
     left = λ all end e.

@@ -7,14 +7,14 @@ use Rattle.format.specs.declared.Fault.TheVariants.{Short, Negative, Limit}
 use Rattle.format.specs.Result.{Res, ok, no, pick}
 use Rattle.format.specs.Number.{num_at, Bytes, half, null4}
 use Rattle.format.specs.Format.{Format, Index, number, block, nothing, ruled, into, both, counted, Verdict, fine, bad, judged}
-use Rattle.format.proofs.Results.{ok_same, no_ok, passed, spared, bound, and-true-both}
+use Rattle.format.proofs.Results.{ok_same, no_ok, passed, spared, bound, and_true_both}
 use Rattle.format.proofs.Laws.{Lawful}
 use Rattle.scan.proofs.Answers.{took}
 use Rattle.tally.specs.declared.Tour.{Tour}
 use Rattle.tally.specs.declared.Indices.{Indices}
 use Rattle.tally.specs.Task.{visited}
 use Rattle.tally.specs.Walks.{state_of, index_of, Stepped, Walked}
-use Rattle.tally.proofs.Visits.{visited-both}
+use Rattle.tally.proofs.Visits.{visited_both}
 
 module _ {A : Type 0} (f : Format A) (s : List ℕ) (ix : Index) (tour : Tour) (out : List ℕ) (after : Tour) (written : List ℕ) where
   -- what a walk does for the value and the end that a reading gave
@@ -35,19 +35,19 @@ module _ (s : List ℕ) {ix : Index} {tour : Tour} {out : List ℕ} {after : Tou
         shows (block n field) s ix tour out after written h.1 w;
   }
 
-  pub walked-ruled : {A : Type 0} (test : A → Bool) (fault : Fault) {f : Format A} → Walked f s ix tour out after written → Walked (ruled test fault f) s ix tour out after written
+  pub walked_ruled : {A : Type 0} (test : A → Bool) (fault : Fault) {f : Format A} → Walked f s ix tour out after written → Walked (ruled test fault f) s ix tour out after written
   unfolding ruled
-  walked-ruled test fault {f} t = record {
+  walked_ruled test fault {f} t = record {
     goes = λ a next e.
         let r = bound (f.read s tour.at) e in
         let h = passed (test r.0.0) _ _ r.2 in
         shows (ruled test fault f) s ix tour out after written h.1 (t.goes r.0.0 r.0.1 r.1);
   }
 
-  pub walked-into : {A B : Type 0} (to : A → B) (from : B → A) {f : Format A} → Bytes s → Lawful f → ((a : A) → f.Good a → from (to a) ≡ a)
+  pub walked_into : {A B : Type 0} (to : A → B) (from : B → A) {f : Format A} → Bytes s → Lawful f → ((a : A) → f.Good a → from (to a) ≡ a)
       → Walked f s ix tour out after written → Walked (into to from f) s ix tour out after written
   unfolding into
-  walked-into {A} {B} to from {f} b l back t = record {
+  walked_into {A} {B} to from {f} b l back t = record {
     goes = λ a next e.
         let r = bound (f.read s tour.at) e in
         let w = t.goes r.0.0 r.0.1 r.1 in
@@ -58,10 +58,10 @@ module _ (s : List ℕ) {ix : Index} {tour : Tour} {out : List ℕ} {after : Tou
 
 -- a number, to the place past its bytes
 module _ (s : List ℕ) {tour : Tour} {out : List ℕ} {after : Tour} {written : List ℕ} where
-  pub walked-number : (k field : ℕ) {ix : Indices} {end : ℕ} → (tour.at + k ≤ length s → end ≡ tour.at + k) → Stepped field ix tour out end after written
+  pub walked_number : (k field : ℕ) {ix : Indices} {end : ℕ} → (tour.at + k ≤ length s → end ≡ tour.at + k) → Stepped field ix tour out end after written
       → Walked (number k field) s (index_of ix) tour out after written
   unfolding number
-  walked-number k field {ix} {end} far l = record {
+  walked_number k field {ix} {end} far l = record {
     goes = λ a next e.
         let h = passed (leb (tour.at + k) (length s)) _ _ e in
         let there : end ≡ tour.at + k = far (leb-true _ _ h.0) in
@@ -71,9 +71,9 @@ module _ (s : List ℕ) {tour : Tour} {out : List ℕ} {after : Tour} {written :
 
 -- nothing, which leaves the tour as it is
 module _ (s : List ℕ) {ix : Index} (tour : Tour) (out : List ℕ) where
-  pub walked-nothing : {A : Type 0} (a : A) → Walked (nothing a) s ix tour out tour out
+  pub walked_nothing : {A : Type 0} (a : A) → Walked (nothing a) s ix tour out tour out
   unfolding nothing visited
-  walked-nothing a = record { goes = λ v next e. shows (nothing a) s ix tour out tour out e (refl, refl) }
+  walked_nothing a = record { goes = λ v next e. shows (nothing a) s ix tour out tour out e (refl, refl) }
 
 -- one value and then another
 module _ {s : List ℕ} (b : Bytes s) {ix : Index} {tour : Tour} {out : List ℕ} {mid : Tour} {half : List ℕ} {after : Tour} {written : List ℕ} where
@@ -88,12 +88,12 @@ module _ {s : List ℕ} (b : Bytes s) {ix : Index} {tour : Tour} {out : List ℕ
         let x = t.goes a r.0.1 r.1 in
         let y = (u a r.0.1 r.1).goes q.0.0 q.0.1 (rw x.0 q.1) in
         let far : mid.at ≡ tour.at + length (f.bytes a) = x.0 ∙ (l.sound s b tour.at a r.0.1 r.1).1.far in
-        shows (both f g) s ix tour out after written q.2 (y.0, rw (visited-both, ← far, ← x.1) y.1);
+        shows (both f g) s ix tour out after written q.2 (y.0, rw (visited_both, ← far, ← x.1) y.1);
   }
 
 -- a length and a body, read: null, or n bytes after the length
 pub record Null (s : List ℕ) (at : ℕ) (v : Option (List ℕ)) (next : ℕ) : Type 0 where
-  pub none-there : v ≡ none
+  pub none_there : v ≡ none
   pub end : next ≡ at + 4
 
 pub record Some (s : List ℕ) (at n : ℕ) (v : Option (List ℕ)) (next : ℕ) : Type 0 where
@@ -116,9 +116,9 @@ module _ (most : ℕ) (rule : List ℕ → Verdict) (s : List ℕ) (at n next : 
       (pick (ltb (length s) (at + 4 + n)) (no Short at)
       (judged (rule (take n (drop (at + 4) s))) (take n (drop (at + 4) s), at + 4 + n) at))))
 
-  is-null : (t : Bool) → n ≡ null4 → tests t ≡ ok (v, next) → Null s at v next
-  is-null true z e = record { none-there = sym (ap (λ (w : Option (List ℕ) × ℕ). w.0) (ok_same e)); end = sym (ap (λ (w : Option (List ℕ) × ℕ). w.1) (ok_same e)) }
-  is-null false z e =
+  is_null : (t : Bool) → n ≡ null4 → tests t ≡ ok (v, next) → Null s at v next
+  is_null true z e = record { none_there = sym (ap (λ (w : Option (List ℕ) × ℕ). w.0) (ok_same e)); end = sym (ap (λ (w : Option (List ℕ) × ℕ). w.1) (ok_same e)) }
+  is_null false z e =
       let h = spared (leb (half 4) n) _ _ e in
       absurd (omega (arith, leb-false (half 4) n h.0))
 
@@ -127,7 +127,7 @@ module _ (most : ℕ) (rule : List ℕ → Verdict) (s : List ℕ) (at n next : 
   not_null false never e z = let low = leb-false (half 4) n (spared (leb (half 4) n) _ _ e).0 in omega arith
 
   is_some : (nullable t : Bool) → nullable && eqb n null4 ≡ t → (n ≡ null4 → ⊥) → tests t ≡ ok (v, next) → Some s at n v next
-  is_some nullable true i z e = absurd (z (eqb-true n null4 (and-true-both nullable (eqb n null4) i).1))
+  is_some nullable true i z e = absurd (z (eqb-true n null4 (and_true_both nullable (eqb n null4) i).1))
   is_some nullable false i z e =
       let t₁ = spared (leb (half 4) n) _ _ e in
       let t₂ = spared (ltb most n) _ _ t₁.1 in
@@ -146,16 +146,16 @@ module _ (most : ℕ) (rule : List ℕ → Verdict) (s : List ℕ) (at n next : 
 -- a counted body, whether it may be null or not and whatever its rule: n is what stands for its length
 module _ (s : List ℕ) {ix : Index} {tour : Tour} {out : List ℕ} {mid : Tour} {written : List ℕ} (nullable : Bool) (most : ℕ) (rule : List ℕ → Verdict) (l b n : ℕ)
     (told : (m next : ℕ) → (number 4 0).read s tour.at ≡ ok (m, next) → n ≡ m) (t : Walked (number 4 l) s ix tour out mid written) where
-  pub walked-null : n ≡ null4 → Walked (counted nullable most rule l b) s ix tour out mid written
+  pub walked_null : n ≡ null4 → Walked (counted nullable most rule l b) s ix tour out mid written
   unfolding counted number
-  walked-null z = record {
+  walked_null z = record {
     goes = λ v next e.
         let r = bound ((number 4 l).read s tour.at) e in
         let same : n ≡ r.0.0 = told r.0.0 r.0.1 r.1 in
-        let w = is-null most rule s tour.at r.0.0 next v (nullable && eqb r.0.0 null4) (sym same ∙ z) r.2 in
+        let w = is_null most rule s tour.at r.0.0 next v (nullable && eqb r.0.0 null4) (sym same ∙ z) r.2 in
         let x = t.goes r.0.0 r.0.1 r.1 in
         let place = (took 4 l s tour.at r.0.0 r.0.1 r.1).place in
-        (x.0 ∙ place ∙ sym w.end, rw w.none-there x.1);
+        (x.0 ∙ place ∙ sym w.end, rw w.none_there x.1);
   }
 
   -- a null, and no bytes after it
@@ -165,17 +165,17 @@ module _ (s : List ℕ) {ix : Index} {tour : Tour} {out : List ℕ} {mid : Tour}
     goes = λ v next e.
         let r = bound ((number 4 l).read s tour.at) e in
         let same : n ≡ r.0.0 = told r.0.0 r.0.1 r.1 in
-        let w = is-null most rule s tour.at r.0.0 next v (nullable && eqb r.0.0 null4) (sym same ∙ z) r.2 in
+        let w = is_null most rule s tour.at r.0.0 next v (nullable && eqb r.0.0 null4) (sym same ∙ z) r.2 in
         let x = t.goes r.0.0 r.0.1 r.1 in
         let length-there = took 4 l s tour.at r.0.0 r.0.1 r.1 in
         let fit : mid.at + 0 ≤ length s = omega (arith, x.0, length-there.place, length-there.fit) in
         let y = u.goes (num_at 0 s mid.at) (mid.at + 0) (rw (le-leb _ _ fit)) in
-        (omega (arith, y.0, x.0, length-there.place, w.end), rw w.none-there (y.1 ∙ x.1));
+        (omega (arith, y.0, x.0, length-there.place, w.end), rw w.none_there (y.1 ∙ x.1));
   }
 
-  pub walked-some : {after : Tour} {more : List ℕ} → (n ≡ null4 → ⊥) → Walked (number n b) s ix mid written after more → Walked (counted nullable most rule l b) s ix tour out after more
+  pub walked_some : {after : Tour} {more : List ℕ} → (n ≡ null4 → ⊥) → Walked (number n b) s ix mid written after more → Walked (counted nullable most rule l b) s ix tour out after more
   unfolding counted number
-  walked-some {after} {more} z u = record {
+  walked_some {after} {more} z u = record {
     goes = λ v next e.
         let r = bound ((number 4 l).read s tour.at) e in
         let same : n ≡ r.0.0 = told r.0.0 r.0.1 r.1 in
@@ -185,17 +185,17 @@ module _ (s : List ℕ) {ix : Index} {tour : Tour} {out : List ℕ} {mid : Tour}
         let fit : mid.at + n ≤ length s = omega (arith, w.fit) in
         let y = u.goes (num_at n s mid.at) (mid.at + n) (rw (le-leb _ _ fit)) in
         let size : length w.body ≡ n = w.size ∙ sym same in
-        (omega (arith, y.0, w.end), rw (w.there, visited-both, size, ← place, ← x.1) y.1);
+        (omega (arith, y.0, w.end), rw (w.there, visited_both, size, ← place, ← x.1) y.1);
   }
 
   -- a body that can't be null
-  pub walked-there : {after : Tour} {more : List ℕ} → nullable ≡ false → Walked (number n b) s ix mid written after more → Walked (counted nullable most rule l b) s ix tour out after more
+  pub walked_there : {after : Tour} {more : List ℕ} → nullable ≡ false → Walked (number n b) s ix mid written after more → Walked (counted nullable most rule l b) s ix tour out after more
   unfolding counted number
-  walked-there {after} {more} never u = by-case (eqb n null4) refl
+  walked_there {after} {more} never u = by_case (eqb n null4) refl
     where
-      by-case : (null : Bool) → eqb n null4 ≡ null → Walked (counted nullable most rule l b) s ix tour out after more
-      by-case false z = walked-some (eqb-false n null4 z) u
-      by-case true z = record {
+      by_case : (null : Bool) → eqb n null4 ≡ null → Walked (counted nullable most rule l b) s ix tour out after more
+      by_case false z = walked_some (eqb-false n null4 z) u
+      by_case true z = record {
         goes = λ v next e.
             let r = bound ((number 4 l).read s tour.at) e in
             let same : n ≡ r.0.0 = told r.0.0 r.0.1 r.1 in
@@ -204,16 +204,16 @@ module _ (s : List ℕ) {ix : Index} {tour : Tour} {out : List ℕ} {mid : Tour}
 
   -- a null or not: as many bytes as there are
   pub walked_sized : {size : ℕ} {after : Tour} {more : List ℕ} → size ≡ pick (eqb n null4) 0 n → Walked (number size b) s ix mid written after more → Walked (counted nullable most rule l b) s ix tour out after more
-  walked_sized {size} {after} {more} is u = by-case (eqb n null4) refl is
+  walked_sized {size} {after} {more} is u = by_case (eqb n null4) refl is
     where
-      by-case : (null : Bool) → eqb n null4 ≡ null → size ≡ pick null 0 n → Walked (counted nullable most rule l b) s ix tour out after more
-      by-case true z m = walked_none (eqb-true n null4 z) (rw m at u)
-      by-case false z m = walked-some (eqb-false n null4 z) (rw m at u)
+      by_case : (null : Bool) → eqb n null4 ≡ null → size ≡ pick null 0 n → Walked (counted nullable most rule l b) s ix tour out after more
+      by_case true z m = walked_none (eqb-true n null4 z) (rw m at u)
+      by_case false z m = walked_some (eqb-false n null4 z) (rw m at u)
 
 -- a slice's bytes
-pub bytes-all : (s : List ℕ) → ((k : ℕ) → Fits w8 (get_or s k 0)) → Bytes s
-bytes-all [] every = tt
-bytes-all (b ∷ s) every = ((every 0).fits, bytes-all s (λ k. every (suc k)))
+pub bytes_all : (s : List ℕ) → ((k : ℕ) → Fits w8 (get_or s k 0)) → Bytes s
+bytes_all [] every = tt
+bytes_all (b ∷ s) every = ((every 0).fits, bytes_all s (λ k. every (suc k)))
 
 module _ (s : List ℕ) (by : Bytes s) {ix : Index} {tour : Tour} {out : List ℕ} {after : Tour} {written : List ℕ} where
   module _ {mid : Tour} {half : List ℕ} where

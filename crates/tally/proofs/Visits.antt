@@ -4,22 +4,22 @@ use Rattle.format.specs.Format.{Index, Entry, piece}
 use Rattle.tally.specs.Task.{State, acted, visited}
 
 -- one run of fields and then another
-pub visited-both : (st : State) (es fs : List Entry) → visited st (es ++ fs) ≡ visited (visited st es) fs
+pub visited_both : (st : State) (es fs : List Entry) → visited st (es ++ fs) ≡ visited (visited st es) fs
 unfolding visited
-visited-both st [] fs = refl
-visited-both st (e ∷ es) fs = visited-both (acted st e) es fs
+visited_both st [] fs = refl
+visited_both st (e ∷ es) fs = visited_both (acted st e) es fs
 
-piece-some : (n at field : ℕ) (ix : Index) → 0 < n → piece n at field ix ≡ record { at = at; size = n; field = field; index = ix } ∷ []
-piece-some zero at field ix h = absurd (omega arith)
-piece-some (suc n) at field ix h = refl
+piece_some : (n at field : ℕ) (ix : Index) → 0 < n → piece n at field ix ≡ record { at = at; size = n; field = field; index = ix } ∷ []
+piece_some zero at field ix h = absurd (omega arith)
+piece_some (suc n) at field ix h = refl
 
 -- a piece that has no byte is no field, and one that has some is one
 module _ (st : State) (at end field : ℕ) (ix : Index) where
-  pub visit-none : end ≤ at → st ≡ visited st (piece (end - at) at field ix)
+  pub visit_none : end ≤ at → st ≡ visited st (piece (end - at) at field ix)
   unfolding visited
-  visit-none h = let none : end - at ≡ 0 = omega arith in rw none
+  visit_none h = let none : end - at ≡ 0 = omega arith in rw none
 
-  pub visit-one : {after : State} → at < end → after ≡ acted st (record { at = at; size = end - at; field = field; index = ix })
+  pub visit_one : {after : State} → at < end → after ≡ acted st (record { at = at; size = end - at; field = field; index = ix })
       → after ≡ visited st (piece (end - at) at field ix)
   unfolding visited
-  visit-one h done = rw (piece-some (end - at) at field ix (omega arith)) done
+  visit_one h done = rw (piece_some (end - at) at field ix (omega arith)) done

@@ -14,8 +14,8 @@ abbrev pub doing : Task → List ℕ → State
 doing task out = record { task = task; out = out }
 
 -- the task that lists the fields from the first-th on that end past an offset, before any field
-abbrev pub listTask : ℕ → ℕ → Task
-listTask first offset = record { first = first; offset = offset; seen = 0; taken = 0; last = 0 }
+abbrev pub list_task : ℕ → ℕ → Task
+list_task first offset = record { first = first; offset = offset; seen = 0; taken = 0; last = 0 }
 
 -- whether a field that ends at a place is listed, in a list of so many numbers
 abbrev pub wanted : Task → ℕ → ℕ → Bool
@@ -47,8 +47,8 @@ visited st [] = st
 visited st (e ∷ es) = visited (acted st e) es
 
 -- a task after so many fields in all, if none more was listed
-abbrev pub seenTo : Task → ℕ → Task
-seenTo t n = record { first = t.first; offset = t.offset; seen = n; taken = t.taken; last = t.last }
+abbrev pub seen_to : Task → ℕ → Task
+seen_to t n = record { first = t.first; offset = t.offset; seen = n; taken = t.taken; last = t.last }
 
 -- no field up to end is wanted, of which there are at most n: the list is full, or each ends too early, or has too low a number
 abbrev pub Calm : Task → ℕ → ℕ → ℕ → Type 0

@@ -4,8 +4,8 @@ ghost use Rattle.format.specs.Format.{number, each, Verdict};
 ghost use Rattle.format.specs.Result.{ok, pick};
 ghost use Rattle.format.specs.Number.{null4};
 ghost use Rattle.format.specs.Value.{string, ascii, value, width_of};
-ghost use Rattle.format.specs.Message.{second, third, columnType, Metadata, metadata, row, table};
-ghost use Rattle.tally.specs.Tallies.{RoomEnd, counting, Tallied, mostFixed, FixedRow, Standing};
+ghost use Rattle.format.specs.Message.{second, third, column_type, Metadata, metadata, row, table};
+ghost use Rattle.tally.specs.Tallies.{Room_end, counting, Tallied, most_fixed, FixedRow, Standing};
 ghost use Rattle.tally.specs.declared.Indices.{Indices};
 ghost use Rattle.tally.specs.Walks.{Stepped};
 
@@ -61,7 +61,7 @@ fn length_at(s: &[u8], at: usize) -> u64
 
 // Where the room ends whose length stands at a place.
 pub fn room_end(s: &[u8], at: usize) -> usize
-    ensures { RoomEnd s.now at result }
+    ensures { Room_end s.now at result }
 {
     let n = length_at(s, at);
     let start = bytes_on(s, at, 4);
@@ -220,7 +220,7 @@ pub fn fixed_row(types: &[u8]) -> usize
 
 // Whether n rows, at least one, of so many bytes stand at a place.
 pub fn rows_stand(s: &[u8], at: usize, size: usize, n: usize) -> bool
-    requires { size ≤ mostFixed }
+    requires { size ≤ most_fixed }
     ensures { result ≡ true → Standing s.now at size n }
 {
     if size == 0 {
@@ -253,7 +253,7 @@ fn tally_rows(s: &[u8], tally: Tally, types: &[u8], n: usize) -> Tally
 
 // The types of n columns, each a field of one byte.
 fn tally_types(s: &[u8], tally: Tally, n: usize) -> Tally
-    ensures { Tallied (each third 0 (replicate n (columnType 45))) s.now tally result }
+    ensures { Tallied (each third 0 (replicate n (column_type 45))) s.now tally result }
 {
     let at = tally.at;
     let seen = tally.seen;

@@ -1,11 +1,11 @@
 // What the rules of names and texts ask of bytes: where the first one is that isn't ASCII, and where the first one is that begins no well-formed
 // sequence of UTF-8. Bytes that are ASCII are passed 8 or 16 at a time.
 ghost use Rattle.std.specs.Prelude.{◌≡◌, ℕ, ◌+◌, ◌-◌, ◌<◌, ◌≤◌, length, get_or, drop, true, ◌&&◌, ◌||◌};
-ghost use Rattle.format.specs.Value.{ascii, asciiFrom};
+ghost use Rattle.format.specs.Value.{ascii, ascii_from};
 ghost use Rattle.format.specs.Format.{fine};
-ghost use Rattle.format.specs.Text.{from-to, tail, sequence, utf8From};
-ghost use Rattle.text.specs.Shown.{LowRun, shownAt, sequenceAt, up_to, secondOfThree, secondOfFour};
-ghost use Rattle.text.specs.Windows.{unlike, goesOn, wrongPair, wrongAfter, RightRun, Between};
+ghost use Rattle.format.specs.Text.{from_to, tail, sequence, utf8_from};
+ghost use Rattle.text.specs.Shown.{Low_run, shown_at, sequence_at, up_to, second_of_three, second_of_four};
+ghost use Rattle.text.specs.Windows.{unlike, goes_on, wrong_pair, wrong_after, Right_run, Between};
 
 // Where something was found.
 #[derive(Drop)]
@@ -26,7 +26,7 @@ fn joined(a: u8, b: u8) -> u8
 // Whether none of the n bytes at a place is above 127.
 fn are_low(b: &[u8], i: usize, n: usize) -> bool
     requires { i + n ≤ length b.now }
-    ensures { result ≡ true → LowRun b.now i n }
+    ensures { result ≡ true → Low_run b.now i n }
 {
     let mut top = 0;
     let mut k = 0;
@@ -41,7 +41,7 @@ fn are_low(b: &[u8], i: usize, n: usize) -> bool
 // itself. No answer is that of the last test: the compiler would join it with those of other ways, and then makes no single test of several bytes.
 fn is_ascii_by(b: &[u8], step: usize) -> bool
     requires { (0 < step) × (step ≤ length b.now) }
-    ensures { result ≡ true → LowRun b.now 0 (length b.now) }
+    ensures { result ≡ true → Low_run b.now 0 (length b.now) }
 {
     let last = b.len() - step;
     if !are_low(b, last, step) {
@@ -59,7 +59,7 @@ fn is_ascii_by(b: &[u8], step: usize) -> bool
 
 // The first byte that no name has: one above 127. Eight are looked at together and not 16, as many names have fewer than 16.
 pub fn high_byte(b: &[u8]) -> Found
-    ensures { result ≡ shownAt (asciiFrom 0 b.now) }
+    ensures { result ≡ shown_at (ascii_from 0 b.now) }
 {
     if 8 <= b.len() {
         if is_ascii_by(b, 8) {
@@ -77,7 +77,7 @@ pub fn high_byte(b: &[u8]) -> Found
 }
 
 fn is_from_to(low: u8, high: u8, b: u8) -> bool
-    ensures { result ≡ from-to low high b }
+    ensures { result ≡ from_to low high b }
 {
     low <= b && b <= high
 }
@@ -98,7 +98,7 @@ fn byte_or_0(b: &[u8], i: usize) -> u8
 
 // Whether a byte may be the second one of three: not after 0xe0 if that were a longer form than is needed, nor after 0xed if that were a surrogate.
 fn is_second_of_three(a: u8, b: u8) -> bool
-    ensures { result ≡ secondOfThree a b }
+    ensures { result ≡ second_of_three a b }
 {
     if a == 0xe0 {
         return is_from_to(0xa0, 0xbf, b);
@@ -111,7 +111,7 @@ fn is_second_of_three(a: u8, b: u8) -> bool
 
 // Whether a byte may be the second one of four: not after 0xf0 if that were a longer form than is needed, nor past U+10FFFF, which 0xf4 0x8f begins.
 fn is_second_of_four(a: u8, b: u8) -> bool
-    ensures { result ≡ secondOfFour a b }
+    ensures { result ≡ second_of_four a b }
 {
     if a == 0xf0 {
         return is_from_to(0x90, 0xbf, b);
@@ -159,7 +159,7 @@ fn four(a: u8, b: u8, c: u8, d: u8) -> usize
 // How many bytes the sequence has that begins at a place; 0 where none does.
 fn sequence_at(b: &[u8], i: usize) -> usize
     requires { i < length b.now }
-    ensures { result ≡ sequenceAt b.now i }
+    ensures { result ≡ sequence_at b.now i }
 {
     let a = b[i];
     if a <= HIGHEST_ASCII {
@@ -182,7 +182,7 @@ fn sequence_at(b: &[u8], i: usize) -> usize
 // Past the well-formed sequences that begin from a place on and before another.
 fn passed(b: &[u8], from: usize, limit: usize) -> usize
     requires { limit ≤ length b.now }
-    ensures { (utf8From result 0 (drop result b.now) ≡ utf8From from 0 (drop from b.now)) × (result < limit → sequenceAt b.now result ≡ 0) }
+    ensures { (utf8_from result 0 (drop result b.now) ≡ utf8_from from 0 (drop from b.now)) × (result < limit → sequence_at b.now result ≡ 0) }
 {
     let mut i = from;
     while i < limit {
@@ -218,14 +218,14 @@ fn differ(a: bool, b: bool) -> bool
 
 // Whether a sequence goes on after three bytes, of which c is the last.
 fn goes_on(a: u8, b: u8, c: u8) -> bool
-    ensures { result ≡ goesOn a b c }
+    ensures { result ≡ goes_on a b c }
 {
     either(0xc0 <= c, either(0xe0 <= b, 0xf0 <= a))
 }
 
 // Whether no sequence has b after the first byte a, if b goes on in one.
 fn is_wrong_pair(a: u8, b: u8) -> bool
-    ensures { result ≡ wrongPair a b }
+    ensures { result ≡ wrong_pair a b }
 {
     let none = either(both(0xc0 <= a, a <= 0xc1), 0xf5 <= a);
     let three = either(both(a == 0xe0, b < 0xa0), both(a == 0xed, 0x9f < b));
@@ -235,7 +235,7 @@ fn is_wrong_pair(a: u8, b: u8) -> bool
 
 // Whether no text has d after a, b and c.
 fn is_wrong(a: u8, b: u8, c: u8, d: u8) -> bool
-    ensures { result ≡ wrongAfter a b c d }
+    ensures { result ≡ wrong_after a b c d }
 {
     let tail = both(0x80 <= d, d <= 0xbf);
     either(differ(goes_on(a, b, c), tail), is_wrong_pair(c, d))
@@ -244,7 +244,7 @@ fn is_wrong(a: u8, b: u8, c: u8, d: u8) -> bool
 // Whether each of 16 bytes may stand after the three before it, the first of which is at a place.
 fn are_right(b: &[u8], i: usize) -> bool
     requires { i + 19 ≤ length b.now }
-    ensures { result ≡ true → RightRun b.now i 16 }
+    ensures { result ≡ true → Right_run b.now i 16 }
 {
     let mut wrong = false;
     let mut k = 0;
@@ -267,7 +267,7 @@ fn is_between(b: &[u8], i: usize) -> bool
 // Whether each of the bytes that follow the three at a place, up to those at another place, may stand where it does.
 fn all_right(b: &[u8], start: usize, end: usize) -> bool
     requires { (start + 16 ≤ end) × (end + 3 ≤ length b.now) }
-    ensures { result ≡ true → RightRun b.now start (end - start) }
+    ensures { result ≡ true → Right_run b.now start (end - start) }
 {
     let mut i = start;
     while i + 16 <= end {
@@ -281,7 +281,7 @@ fn all_right(b: &[u8], start: usize, end: usize) -> bool
 
 // Whether all bytes from a place on, where a sequence begins, surely are text.
 fn is_surely_text(b: &[u8], from: usize) -> bool
-    ensures { result ≡ true → utf8From from 0 (drop from b.now) ≡ fine }
+    ensures { result ≡ true → utf8_from from 0 (drop from b.now) ≡ fine }
 {
     if from < 3 {
         return false;
@@ -305,7 +305,7 @@ fn is_surely_text(b: &[u8], from: usize) -> bool
 
 // How many bytes of a text are well-formed, or more where all are. It is short, or looked at from its fourth byte on.
 fn well_formed(b: &[u8]) -> usize
-    ensures { utf8From 0 0 b.now ≡ up_to (length b.now) result }
+    ensures { utf8_from 0 0 b.now ≡ up_to (length b.now) result }
 {
     if b.len() < 19 {
         return passed(b, 0, b.len());
@@ -321,7 +321,7 @@ fn well_formed(b: &[u8]) -> usize
 
 // Of fewer than 8 bytes.
 fn is_short_ascii(b: &[u8]) -> bool
-    ensures { result ≡ true → LowRun b.now 0 (length b.now) }
+    ensures { result ≡ true → Low_run b.now 0 (length b.now) }
 {
     let mut i = 0;
     while i < b.len() {
@@ -334,7 +334,7 @@ fn is_short_ascii(b: &[u8]) -> bool
 }
 
 fn is_ascii(b: &[u8]) -> bool
-    ensures { result ≡ true → LowRun b.now 0 (length b.now) }
+    ensures { result ≡ true → Low_run b.now 0 (length b.now) }
 {
     if b.len() < 8 {
         return is_short_ascii(b);
@@ -364,7 +364,7 @@ pub fn is_surely_name(b: &[u8]) -> bool
 // Where a text is torn: the first byte that begins no well-formed sequence, those before it being well-formed. What asks whether it is ASCII has this one
 // caller, so that the compiler puts it here: a slice that is handed on is written and read again.
 pub fn torn(b: &[u8]) -> Found
-    ensures { result ≡ shownAt (utf8From 0 0 b.now) }
+    ensures { result ≡ shown_at (utf8_from 0 0 b.now) }
 {
     if is_ascii(b) {
         return Found::Nothing;

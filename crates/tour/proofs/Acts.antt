@@ -1,7 +1,7 @@
 -- What a task has done after one field: counted it, and listed it where it is wanted. Only here does `acted` unfold; the walks know of it that it is done.
 use Rattle.std.proofs.Common.{◌≡◌, ℕ, suc, ◌+◌, ◌-◌, ◌*◌, ◌/◌, ◌%◌, ◌^◌, ◌<◌, Bool, true, false, ltb, leb, List, [], ◌∷◌, length, set, sym, ◌∙◌, arith, ltb-true}
 use lib.Seq.{sets}
-use Rattle.format.proofs.Results.{and-true-both}
+use Rattle.format.proofs.Results.{and_true_both}
 use Rattle.format.specs.Format.{Index, Entry}
 use Rattle.tally.specs.declared.Task.{Task}
 use Rattle.tally.specs.Task.{doing, wanted, six, acted}
@@ -23,24 +23,24 @@ module _ (task : Task) (out : List ℕ) (at end field : ℕ) (ix : Index) (h : a
   abbrev met : Entry
   met = record { at = at; size = end - at; field = field; index = ix }
 
-  pub act-skip : w ≡ false
+  pub act_skip : w ≡ false
       → doing (record { first = task.first; offset = task.offset; seen = seen; taken = task.taken; last = task.last }) out ≡ acted (doing task out) met
   unfolding acted
-  act-skip is =
+  act_skip is =
       let far : at + (end - at) ≡ end = omega arith in
       let no : wanted task end (length out) ≡ false = sym told ∙ is in
       rw (far, no, one)
 
-  pub act-take : {written : List ℕ} → w ≡ true → written ≡ sets out (6 * task.taken) (six met)
+  pub act_take : {written : List ℕ} → w ≡ true → written ≡ sets out (6 * task.taken) (six met)
       → doing (record { first = task.first; offset = task.offset; seen = seen; taken = task.taken + 1; last = task.seen }) written ≡ acted (doing task out) met
   unfolding acted
-  act-take is put =
+  act_take is put =
       let far : at + (end - at) ≡ end = omega arith in
       let yes : wanted task end (length out) ≡ true = sym told ∙ is in
       rw (far, yes, one, put)
 
   -- there is room for one more
-  pub act-room : w ≡ true → task.taken < length out / 6
-  act-room is =
-      let t = and-true-both (leb task.first task.seen) _ (sym told ∙ is) in
-      ltb-true _ _ (and-true-both (ltb task.offset end) _ t.1).1
+  pub act_room : w ≡ true → task.taken < length out / 6
+  act_room is =
+      let t = and_true_both (leb task.first task.seen) _ (sym told ∙ is) in
+      ltb-true _ _ (and_true_both (ltb task.offset end) _ t.1).1

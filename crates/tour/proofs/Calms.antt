@@ -10,33 +10,33 @@ use Rattle.tally.specs.Task.{State, Calm}
 use Rattle.tally.specs.Walks.{Walked}
 use Rattle.tally.specs.Tallies.{counting, Tallied}
 use Rattle.tally.proofs.Tables.{Ended}
-use Rattle.tally.proofs.Counts.{seenAfter, tiles-few, calm-fewer, visited-calm, fields-tile}
-use Rattle.tour.specs.Calms.{tally_of, resumed, CalmRoom}
+use Rattle.tally.proofs.Counts.{seen_after, tiles_few, calm_fewer, visited_calm, fields_tile}
+use Rattle.tour.specs.Calms.{tally_of, resumed, Calm_room}
 
 module _ {A : Type 0} {f : Format A} (l : Lawful f) (s : List ℕ) (by : Bytes s) {ix : Index} (tour : Tour) (out : List ℕ) where
   -- a walk whose fields aren't wanted, by a count of them
-  pub walked-calm : {after : Tally} → Tallied f s (tally_of tour) after → ((a : A) (next : ℕ) → f.read s tour.at ≡ ok (a, next) → Calm tour.task (length out) next (next - tour.at))
+  pub walked_calm : {after : Tally} → Tallied f s (tally_of tour) after → ((a : A) (next : ℕ) → f.read s tour.at ≡ ok (a, next) → Calm tour.task (length out) next (next - tour.at))
       → Walked f s ix tour out (resumed tour after) out
-  walked-calm {after} counted calm = record {
+  walked_calm {after} counted calm = record {
     goes = λ a next e.
         let es = f.fields ix tour.at a in
-        let tiles = fields-tile l s by ix tour.at a next e in
-        let few = tiles-few es tour.at next tiles in
+        let tiles = fields_tile l s by ix tour.at a next e in
+        let few = tiles_few es tour.at next tiles in
         let w = (counted.walks ix).goes a next e in
         let full : Calm (counting (tally_of tour)).task 0 next (length es) = inl (omega arith) in
-        let count = visited-calm es tour.at next (counting (tally_of tour)).task [] tiles full in
-        let same : after.seen ≡ seenAfter tour.task.seen (length es) = ap (λ (st : State). st.task.seen) (w.1 ∙ count) in
-        let none = visited-calm es tour.at next tour.task out tiles (calm-fewer tour.task (length out) (calm a next e) (omega arith) (omega arith)) in
+        let count = visited_calm es tour.at next (counting (tally_of tour)).task [] tiles full in
+        let same : after.seen ≡ seen_after tour.task.seen (length es) = ap (λ (st : State). st.task.seen) (w.1 ∙ count) in
+        let none = visited_calm es tour.at next tour.task out tiles (calm_fewer tour.task (length out) (calm a next e) (omega arith) (omega arith)) in
         (w.0, rw same (sym none));
   }
 
   -- the same of a room that is quiet by its length
-  pub walked-quiet : {r : Bool} {after : Tally} → CalmRoom s (length out) tour r → r ≡ true → ((a : A) (next : ℕ) → f.read s tour.at ≡ ok (a, next) → Ended s tour.at next)
+  pub walked_quiet : {r : Bool} {after : Tally} → Calm_room s (length out) tour r → r ≡ true → ((a : A) (next : ℕ) → f.read s tour.at ≡ ok (a, next) → Ended s tour.at next)
       → Tallied f s (tally_of tour) after → Walked f s ix tour out (resumed tour after) out
-  walked-quiet quiet is ends counted = walked-calm counted (λ a next e.
+  walked_quiet quiet is ends counted = walked_calm counted (λ a next e.
       let d = ends a next e in
       rw d.end (quiet is d.n (tour.at + 4) d.length-read d.fit))
 
 -- some of so many wholes fit where all of them do
-pub wholes-fit : (from to unit : ℕ) {r k : ℕ} → 0 < r → 0 < unit → r ≤ k → k * unit ≤ to - from → from + r * unit ≤ to
-wholes-fit from to unit some-wholes some-unit few fit = omega (arith, mul-pos some-wholes some-unit, mul-le-mul_right unit few)
+pub wholes_fit : (from to unit : ℕ) {r k : ℕ} → 0 < r → 0 < unit → r ≤ k → k * unit ≤ to - from → from + r * unit ≤ to
+wholes_fit from to unit some-wholes some-unit few fit = omega (arith, mul-pos some-wholes some-unit, mul-le-mul_right unit few)

@@ -4,15 +4,15 @@ ghost use Rattle.std.proofs.Math.Option.{none};
 ghost use Rattle.std.proofs.lemmas.List.Edits.{sets};
 ghost use Rattle.format.specs.Format.{number, each, present, Verdict};
 ghost use Rattle.format.specs.Value.{string, ascii, value};
-ghost use Rattle.format.specs.Message.{first, second, third, items, argument, param, invocation, loginRequest, server, loginResponse, columnType, metadata, row, table, trip, afterFlags, head, response, contentOf, mostColumns, unlimited};
+ghost use Rattle.format.specs.Message.{first, second, third, items, argument, param, invocation, login_request, server, login_response, column_type, metadata, row, table, trip, after_flags, head, response, content_of, most_columns, unlimited};
 ghost use Rattle.message.specs.Login.{login};
-ghost use Rattle.tally.specs.Task.{listTask, doing, acted, wanted, six, Calm};
-ghost use Rattle.tour.specs.Calms.{tally_of, resumed, CalmRoom, CalmRows, CalmRun};
-ghost use Rattle.tally.specs.Tallies.{mostFixed};
-ghost use Rattle.tour.specs.Tour.{fields_of, taskAfter, outAfter};
+ghost use Rattle.tally.specs.Task.{list_task, doing, acted, wanted, six, Calm};
+ghost use Rattle.tour.specs.Calms.{tally_of, resumed, Calm_room, Calm_rows, CalmRun};
+ghost use Rattle.tally.specs.Tallies.{most_fixed};
+ghost use Rattle.tour.specs.Tour.{fields_of, task_after, out_after};
 ghost use Rattle.tally.specs.Walks.{index_of, Stepped, Walked};
 ghost use Rattle.tour.specs.Whole.{Whole};
-ghost use Rattle.tour.specs.Told.{toldToured, touredNo};
+ghost use Rattle.tour.specs.Told.{told_toured, toured_no};
 
 use format::{Fault, Refusal};
 use tally::{Indices, Tally, Task, Tour};
@@ -26,7 +26,7 @@ pub enum Toured {
 
 // The task over all fields of a message of a layout, in wire order.
 pub fn visit_all(layout: u8, m: &[u8], out: &mut [u64], task: Task) -> Toured
-    ensures { (toldToured result ≡ taskAfter (fields_of layout m.now) (doing task out.old)) × (out.new ≡ outAfter (fields_of layout m.now) (doing task out.old)) }
+    ensures { (told_toured result ≡ task_after (fields_of layout m.now) (doing task out.old)) × (out.new ≡ out_after (fields_of layout m.now) (doing task out.old)) }
 {
     let verdict = message::accept_layout(layout, m);
     let message::Verdict::Fine = verdict else {
@@ -39,7 +39,7 @@ pub fn visit_all(layout: u8, m: &[u8], out: &mut [u64], task: Task) -> Toured
 
 // The refusal of an answer that is one.
 pub fn toured_refusal(a: Toured) -> Refusal
-    ensures { result ≡ touredNo a }
+    ensures { result ≡ toured_no a }
 {
     match a {
         Toured::Done(_) => Refusal {
@@ -52,7 +52,7 @@ pub fn toured_refusal(a: Toured) -> Refusal
 
 // The task that lists the fields from the first-th on that end past an offset.
 pub fn list_task(first: usize, offset: usize) -> Task
-    ensures { result ≡ listTask first offset }
+    ensures { result ≡ list_task first offset }
 {
     Task {
         first,
@@ -276,7 +276,7 @@ fn walk_login(s: &[u8], out: &mut [u64], tour: Tour, size: usize, ix: Indices) -
 
 // A login request, from its hash version on, if it has one.
 fn walk_login_request(s: &[u8], out: &mut [u64], tour: Tour, version: u8, ix: Indices) -> Tour
-    ensures { Walked (loginRequest version) s.now (index_of ix) tour out.old result out.new }
+    ensures { Walked (login_request version) s.now (index_of ix) tour out.old result out.new }
 {
     if version != 1 {
         return walk_login(s, out, tour, format::SHORT_HASH, ix);
@@ -302,7 +302,7 @@ fn walk_server(s: &[u8], out: &mut [u64], tour: Tour, ix: Indices) -> Tour
 
 // A login response, from its result on.
 fn walk_login_response(s: &[u8], out: &mut [u64], tour: Tour, ix: Indices) -> Tour
-    ensures { Walked loginResponse s.now (index_of ix) tour out.old result out.new }
+    ensures { Walked login_response s.now (index_of ix) tour out.old result out.new }
 {
     let result = scan::byte_at(s, tour.at);
     let server = walk_fixed(s, out, tour, 1, 10, ix);
@@ -314,7 +314,7 @@ fn walk_login_response(s: &[u8], out: &mut [u64], tour: Tour, ix: Indices) -> To
 
 // The types of n columns.
 fn walk_types(s: &[u8], out: &mut [u64], from: Tour, n: usize, ix: Indices) -> Tour
-    ensures { Walked (each third 0 (replicate n (columnType 45))) s.now (index_of ix) from out.old result out.new }
+    ensures { Walked (each third 0 (replicate n (column_type 45))) s.now (index_of ix) from out.old result out.new }
 {
     let mut tour = from;
     let mut k = 0;
@@ -505,7 +505,7 @@ fn walk_trip(s: &[u8], out: &mut [u64], tour: Tour, timed: bool, ix: Indices) ->
 
 // A response's head from its status on.
 fn walk_flagged(s: &[u8], out: &mut [u64], tour: Tour, timed: bool, flags: u8, ix: Indices) -> Tour
-    ensures { Walked (afterFlags timed flags) s.now (index_of ix) tour out.old result out.new }
+    ensures { Walked (after_flags timed flags) s.now (index_of ix) tour out.old result out.new }
 {
     let string = walk_fixed(s, out, tour, 1, 31, ix);
     let application = walk_optional(
@@ -561,7 +561,7 @@ fn walk_response(s: &[u8], out: &mut [u64], tour: Tour, timed: bool, ix: Indices
 
 // What stands after a message's version.
 fn walk_content(layout: u8, s: &[u8], out: &mut [u64], tour: Tour, version: u8, ix: Indices) -> Tour
-    ensures { Walked (contentOf layout version) s.now (index_of ix) tour out.old result out.new }
+    ensures { Walked (content_of layout version) s.now (index_of ix) tour out.old result out.new }
 {
     match layout {
         1 => walk_login_request(s, out, tour, version, ix),
@@ -602,7 +602,7 @@ fn is_calm(task: Task, room: usize, end: usize, n: usize) -> bool
 // Whether nothing is wanted of the room whose length stands at a tour's place: a field has a byte at least. Where even what ends here would be wanted,
 // as in a list of all fields, no more is asked.
 fn is_quiet(s: &[u8], room: usize, tour: Tour) -> bool
-    ensures { CalmRoom s.now room tour result }
+    ensures { Calm_room s.now room tour result }
 {
     let at = tour.at;
     let task = tour.task;
@@ -636,7 +636,7 @@ fn lesser(a: usize, b: usize) -> usize
 // How many of n rows, each of so many bytes and so many fields, surely aren't wanted from a place on.
 fn calm_rows(task: Task, room: usize, at: usize, size: usize, fields: usize, n: usize) -> usize
     requires { (0 < size) × (0 < fields) }
-    ensures { CalmRows task room at size fields n result }
+    ensures { Calm_rows task room at size fields n result }
 {
     if room / 6 <= task.taken {
         return n;
@@ -651,7 +651,7 @@ fn calm_rows(task: Task, room: usize, at: usize, size: usize, fields: usize, n: 
 
 // How many of n rows, if they have so many bytes by their columns, are passed by products: they stand at a tour's place, and surely aren't wanted.
 fn calm_run(s: &[u8], room: usize, tour: Tour, size: usize, columns: usize, n: usize) -> usize
-    requires { (size ≤ mostFixed) × (0 < size → columns ≤ mostColumns) }
+    requires { (size ≤ most_fixed) × (0 < size → columns ≤ most_columns) }
     ensures { CalmRun s.now room tour size (1 + columns) n result }
 {
     if size == 0 {
@@ -700,7 +700,7 @@ fn resume(tour: Tour, tally: Tally) -> Tour
 
 // Past k rows that aren't wanted, each of so many bytes and of so many columns.
 fn pass_even(tour: Tour, size: usize, columns: usize, k: usize) -> Tour
-    requires { (k ≤ unlimited) × (columns ≤ mostColumns) × (tour.at + k * size < 2 ^ 64) }
+    requires { (k ≤ unlimited) × (columns ≤ most_columns) × (tour.at + k * size < 2 ^ 64) }
     ensures { result ≡ resumed tour (record { at = tour.at + k * size; seen = (tour.task.seen + k * (1 + columns)) % 2 ^ 64 }) }
 {
     let from = tally_of(tour);

@@ -48,5 +48,5 @@ module _ {A : Type 0} (old new : A → List ℕ) (Fine : A → Type 0) where
     };
   }
 
-  pub first-left : {s target : List ℕ} {at left : ℕ} → Changing old new Fine s target at (suc left) → First s target at left
-  first-left c = first_of c.todo c.front c.back _ _ _ _ c.stands c.becomes c.place c.many c.fine
+  pub first_left : {s target : List ℕ} {at left : ℕ} → Changing old new Fine s target at (suc left) → First s target at left
+  first_left c = first_of c.todo c.front c.back _ _ _ _ c.stands c.becomes c.place c.many c.fine

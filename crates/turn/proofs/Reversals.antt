@@ -7,13 +7,13 @@ use lib.Seq.{take-append_seam, drop-append_seam}
 use native.Mathlib.Omega.{arith}
 use Rattle.bytes.specs.Bytes.{rev, slice}
 use Rattle.turn.specs.Turning.{Each, Changing, Block, itself}
-use Rattle.turn.proofs.Changes.{first-left}
+use Rattle.turn.proofs.Changes.{first_left}
 
 -- a part of a list, reversed in its place
-pub part-reversed : (s front c y : List ℕ) (from to : ℕ) → front ++ (c ++ y) ≡ s → length front ≡ from → length c + from ≡ to
+pub part_reversed : (s front c y : List ℕ) (from to : ℕ) → front ++ (c ++ y) ≡ s → length front ≡ from → length c + from ≡ to
     → take from s ++ (rev (slice from to s) ++ drop to s) ≡ front ++ (reverse c ++ y)
 unfolding rev slice
-part-reversed s front c y from to e f t =
+part_reversed s front c y from to e f t =
     let whole : front ++ c ++ y ≡ s = append_assoc front c y ∙ e in
     let long : length (front ++ c) ≡ to = length-append front c ∙ omega arith in
     let one : take from s ≡ front = rw (← e, ← f) (take-append_seam front (c ++ y)) in
@@ -26,9 +26,9 @@ part-reversed s front c y from to e f t =
 pub mended : (s target : List ℕ) (at left : ℕ) → Changing reverse itself Block s target at (suc left) → {s' : List ℕ} → s' ≡ take at s ++ (rev (slice at (at + 24) s) ++ drop (at + 24) s)
     → Changing reverse itself Block s' target (at + 24) left
 mended s target at left h {s'} e =
-    let f = first-left reverse itself Block h in
+    let f = first_left reverse itself Block h in
     let long : length (reverse f.one) + at ≡ at + 24 = omega (arith, length-reverse f.one, f.fine) in
-    let part = part-reversed s f.front (reverse f.one) f.rest at (at + 24) f.stands f.place long in
+    let part = part_reversed s f.front (reverse f.one) f.rest at (at + 24) f.stands f.place long in
     rw f.fine at (f.then s' (e ∙ part ∙ ap (λ (z : List ℕ). f.front ++ (z ++ f.rest)) (reverse-reverse f.one)))
 
 flat_append : (f : List ℕ → List ℕ) (l m : List (List ℕ)) → flat_map f (l ++ m) ≡ flat_map f l ++ flat_map f m
@@ -36,39 +36,39 @@ unfolding flat_map
 flat_append f [] m = refl
 flat_append f (a ∷ l) m = ap (λ (z : List ℕ). f a ++ z) (flat_append f l m) ∙ sym (append_assoc (f a) (flat_map f l) (flat_map f m))
 
-pub flat-reversed : (l : List (List ℕ)) → reverse (flat_map itself l) ≡ flat_map reverse (reverse l)
+pub flat_reversed : (l : List (List ℕ)) → reverse (flat_map itself l) ≡ flat_map reverse (reverse l)
 unfolding flat_map
-flat-reversed [] = refl
-flat-reversed (a ∷ l) =
+flat_reversed [] = refl
+flat_reversed (a ∷ l) =
     let last : flat_map reverse (a ∷ []) ≡ reverse a = append-nil (reverse a) in
-    reverse-append a (flat_map itself l) ∙ rw (flat-reversed l, reverse-cons a l, flat_append reverse (reverse l) (a ∷ []), last)
+    reverse-append a (flat_map itself l) ∙ rw (flat_reversed l, reverse-cons a l, flat_append reverse (reverse l) (a ∷ []), last)
 
 -- reversing keeps the blocks, and how many bytes they have
 each_aux : (l r : List (List ℕ)) → Each Block l → Each Block r → Each Block (reverse_aux l r)
 each_aux [] r p q = q
 each_aux (a ∷ l) r p q = each_aux l (a ∷ r) p.1 (p.0, q)
 
-pub each-reversed : (l : List (List ℕ)) → Each Block l → Each Block (reverse l)
-each-reversed l g = each_aux l [] g tt
+pub each_reversed : (l : List (List ℕ)) → Each Block l → Each Block (reverse l)
+each_reversed l g = each_aux l [] g tt
 
-pub flat-size : (l : List (List ℕ)) → Each Block l → length (flat_map itself l) ≡ 24 * length l
+pub flat_size : (l : List (List ℕ)) → Each Block l → length (flat_map itself l) ≡ 24 * length l
 unfolding flat_map
-flat-size [] g = refl
-flat-size (a ∷ l) g = rw (length-append, g.0, flat-size l g.1) (omega arith)
+flat_size [] g = refl
+flat_size (a ∷ l) g = rw (length-append, g.0, flat_size l g.1) (omega arith)
 
 -- what is left to mend when all bytes are reversed
-pub to-mend : (s front : List ℕ) (blocks : List (List ℕ)) (back : List ℕ) (from n to : ℕ) → front ++ (flat_map itself blocks ++ back) ≡ s → length front ≡ from → length blocks ≡ n
+pub to_mend : (s front : List ℕ) (blocks : List (List ℕ)) (back : List ℕ) (from n to : ℕ) → front ++ (flat_map itself blocks ++ back) ≡ s → length front ≡ from → length blocks ≡ n
     → Each Block blocks → to ≡ from + 24 * n
     → Changing reverse itself Block (take from s ++ (rev (slice from to s) ++ drop to s)) (front ++ (flat_map itself (reverse blocks) ++ back)) from n
-to-mend s front blocks back from n to e f m g t =
-    let size : length (flat_map itself blocks) + from ≡ to = omega (arith, flat-size blocks g, t, m) in
+to_mend s front blocks back from n to e f m g t =
+    let size : length (flat_map itself blocks) + from ≡ to = omega (arith, flat_size blocks g, t, m) in
     record {
       front = front;
       todo = reverse blocks;
       back = back;
-      stands = sym (part-reversed s front (flat_map itself blocks) back from to e f size ∙ ap (λ (z : List ℕ). front ++ (z ++ back)) (flat-reversed blocks));
+      stands = sym (part_reversed s front (flat_map itself blocks) back from to e f size ∙ ap (λ (z : List ℕ). front ++ (z ++ back)) (flat_reversed blocks));
       becomes = refl;
       place = f;
       many = length-reverse blocks ∙ m;
-      fine = each-reversed blocks g;
+      fine = each_reversed blocks g;
     }

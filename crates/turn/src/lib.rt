@@ -1,18 +1,18 @@
 // Turning the holes of an area in place: each ring after the first keeps its first vertex and has the others in reverse order.
 ghost use Rattle.std.specs.Prelude.{◌≡◌, ◌+◌, ◌*◌, ◌≤◌, length};
 ghost use mathlib.Core.List.{List, ◌++◌, flat_map, reverse};
-ghost use Rattle.format.specs.Result.{toldAnswer};
-ghost use Rattle.format.specs.Geography.{Ring, ring, turnedRing, turnedBody};
+ghost use Rattle.format.specs.Result.{told_answer};
+ghost use Rattle.format.specs.Geography.{Ring, ring, turned_ring, turned_body};
 ghost use Rattle.places.specs.Stands.{Stands};
-ghost use Rattle.areas.specs.Answers.{askRings};
-ghost use Rattle.turn.specs.Turning.{Reversed, Mended, TurnedRing, TurnedRings, SomeRing, SomeRings};
+ghost use Rattle.areas.specs.Answers.{ask_rings};
+ghost use Rattle.turn.specs.Turning.{Reversed, Mended, Turned_ring, Turned_rings, Some_ring, Some_rings};
 
 use areas::Surveyed;
 use format::Answer;
 
 // Turns the holes of a body, and answers how many rings it has. A body that is refused stays as it is.
 pub fn turn_holes(b: &mut [u8]) -> Answer
-    ensures { (toldAnswer result ≡ askRings b.old) × (b.new ≡ turnedBody b.old) }
+    ensures { (told_answer result ≡ ask_rings b.old) × (b.new ≡ turned_body b.old) }
 {
     let surveyed = areas::survey(b, 1);
     let Surveyed::Is(s) = surveyed else {
@@ -25,8 +25,8 @@ pub fn turn_holes(b: &mut [u8]) -> Answer
 
 // Turns n rings from a place on.
 fn turn_rings(b: &mut [u8], from: usize, n: usize)
-    requires { SomeRings b.old from n }
-    ensures { TurnedRings b.old from n b.new }
+    requires { Some_rings b.old from n }
+    ensures { Turned_rings b.old from n b.new }
 {
     let mut at = from;
     let mut i = 0;
@@ -41,8 +41,8 @@ const SECOND_VERTEX: usize = 5 + format::VERTEX;
 
 // Turns the ring at a place, and says where it ends.
 fn turn_ring(b: &mut [u8], at: usize) -> usize
-    requires { SomeRing b.old at }
-    ensures { TurnedRing b.old at result b.new }
+    requires { Some_ring b.old at }
+    ensures { Turned_ring b.old at result b.new }
 {
     let others = quick::four(b, at + 1) as usize - 1;
     let second = at + SECOND_VERTEX;

@@ -7,11 +7,11 @@ use lib.ListN.{take, drop}
 use Rattle.format.specs.Value.{Value, body}
 use Rattle.show.specs.declared.Cell.{Cell}
 use Rattle.show.specs.declared.Raw.{Raw}
-use Rattle.show.specs.Cells.{rawOf, typeIn, valueIn, type_of, value_of}
+use Rattle.show.specs.Cells.{raw_of, type_in, value_in, type_of, value_of}
 
-module _ (m : List ℕ) (c : Cell) (P : ℕ → Value → Type 0) {raw : Raw} (e : raw ≡ rawOf c) where
-  pub written : (is : Raw) → raw ≡ is → P (typeIn is) (valueIn m is) → P (type_of c) (value_of m c)
-  written is f p = subst (λ (r : Raw). P (typeIn r) (valueIn m r)) (sym f ∙ e) p
+module _ (m : List ℕ) (c : Cell) (P : ℕ → Value → Type 0) {raw : Raw} (e : raw ≡ raw_of c) where
+  pub written : (is : Raw) → raw ≡ is → P (type_in is) (value_in m is) → P (type_of c) (value_of m c)
+  written is f p = subst (λ (r : Raw). P (type_in r) (value_in m r)) (sym f ∙ e) p
 
-  pub written-body : (t start size : ℕ) {bs : List ℕ} → raw ≡ Raw.Body t start size → bs ≡ take size (drop start m) → P t (body (some bs)) → P (type_of c) (value_of m c)
-  written-body t start size f g p = written (Raw.Body t start size) f (subst (λ (l : List ℕ). P t (body (some l))) g p)
+  pub written_body : (t start size : ℕ) {bs : List ℕ} → raw ≡ Raw.Body t start size → bs ≡ take size (drop start m) → P t (body (some bs)) → P (type_of c) (value_of m c)
+  written_body t start size f g p = written (Raw.Body t start size) f (subst (λ (l : List ℕ). P t (body (some l))) g p)

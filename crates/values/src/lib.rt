@@ -2,7 +2,7 @@
 // varbinary and geographies stand there, and no other value looks at it.
 ghost use Rattle.std.specs.Prelude.{[]};
 ghost use Rattle.show.specs.Cells.{type_of, value_of};
-ghost use Rattle.steps.specs.Steps.{oneParam, element, cell};
+ghost use Rattle.steps.specs.Steps.{one_param, element, cell};
 ghost use Rattle.write.specs.Shown.{Stepped};
 
 use show::{Cell, Raw};
@@ -10,7 +10,7 @@ use write::{COLUMNS, Outcome, State};
 
 // Writes a shown value as a parameter.
 pub fn value_param(out: &mut [u8], st: State, m: &[u8], c: Cell) -> Outcome
-    ensures { Stepped (oneParam (type_of c) (value_of m.now c)) st [] out.old result out.new }
+    ensures { Stepped (one_param (type_of c) (value_of m.now c)) st [] out.old result out.new }
 {
     let raw = show::raw_of(c);
     match raw {

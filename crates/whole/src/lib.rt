@@ -3,17 +3,17 @@
 // binary cell where its bytes start among those that are lent, and how many they are.
 ghost use Rattle.std.specs.Prelude.{◌≡◌, ℕ, ◌+◌, ◌*◌, ◌/◌, ◌^◌, ◌<◌, ◌≤◌, true, length};
 ghost use Rattle.format.specs.Result.{ok, pick};
-ghost use Rattle.format.specs.Number.{numBytes};
-ghost use Rattle.format.specs.Value.{isCounted, width_of, fixedFine};
-ghost use Rattle.format.specs.Message.{mostColumns};
+ghost use Rattle.format.specs.Number.{num_bytes};
+ghost use Rattle.format.specs.Value.{is_counted, width_of, fixed_fine};
+ghost use Rattle.format.specs.Message.{most_columns};
 ghost use Rattle.put.specs.Put.{put};
-ghost use Rattle.steps.specs.Arguments.{isNumberOf};
+ghost use Rattle.steps.specs.Arguments.{is_number_of};
 ghost use Rattle.steps.specs.Plans.{answer_of};
-ghost use Rattle.steps.specs.Steps.{openRow, closeRow, plan, messageEnd};
-ghost use Rattle.write.specs.Shown.{seen, shownAnswer};
-ghost use Rattle.whole.specs.Rows.{valueIn, bodyIn, cellStep, WroteRow};
-ghost use Rattle.whole.specs.Asked.{asked, typeNow, rowAnswer, answersFrom, opens, Opened, EndOf, PastAll, Sure};
-ghost use Rattle.whole.specs.Laid.{upperOf, lowerOf, cellBytes, bodyBytes, Fits, Stands, laid, FitAll};
+ghost use Rattle.steps.specs.Steps.{open_row, close_row, plan, message_end};
+ghost use Rattle.write.specs.Shown.{seen, shown_answer};
+ghost use Rattle.whole.specs.Rows.{value_in, body_in, cell_step, Wrote_row};
+ghost use Rattle.whole.specs.Asked.{asked, type_now, row_answer, answers_from, opens, Opened, EndOf, PastAll, Sure};
+ghost use Rattle.whole.specs.Laid.{upper_of, lower_of, cell_bytes, body_bytes, Fits, Stands, laid, Fit_all};
 
 use format::{Answer, Fault, Refusal};
 use steps::Stage;
@@ -30,7 +30,7 @@ pub fn whole_row(
     cells: &[u64],
     bytes: &[u8],
 ) -> Outcome
-    ensures { WroteRow bytes.now cells.now st types.now out.old result out.new }
+    ensures { Wrote_row bytes.now cells.now st types.now out.old result out.new }
 {
     // as a slice, so that its length is known from here on
     let lent: &[u8] = types;
@@ -53,7 +53,7 @@ pub fn whole_row(
 
 // What a row is answered, in a buffer of so many bytes.
 fn ask_row(st: State, types: &[u8; COLUMNS], cells: &[u64], bytes: &[u8], size: usize) -> Answer
-    ensures { result ≡ shownAnswer (rowAnswer bytes.now cells.now (seen st types.now) size) }
+    ensures { result ≡ shown_answer (row_answer bytes.now cells.now (seen st types.now) size) }
 {
     let end = sure_end(st, types, cells, bytes, size);
     if end != 0 {
@@ -64,7 +64,7 @@ fn ask_row(st: State, types: &[u8; COLUMNS], cells: &[u64], bytes: &[u8], size: 
 
 // Where a row ends that is surely taken; 0 where that isn't sure. A cell that is taken has a column's type, so that the types aren't looked at before.
 fn sure_end(st: State, types: &[u8; COLUMNS], cells: &[u64], bytes: &[u8], size: usize) -> usize
-    ensures { 0 < result → rowAnswer bytes.now cells.now (seen st types.now) size ≡ ok result }
+    ensures { 0 < result → row_answer bytes.now cells.now (seen st types.now) size ≡ ok result }
 {
     if !opens(st, size) {
         return 0;
@@ -107,7 +107,7 @@ fn opens(st: State, size: usize) -> bool
 
 // Where a row may end whose first cell goes to a place: by its own limit, the message's and the buffer's.
 fn row_end(first: usize, size: usize) -> usize
-    requires { (first ≤ messageEnd) × (first ≤ size) }
+    requires { (first ≤ message_end) × (first ≤ size) }
     ensures { EndOf first size result }
 {
     least(
@@ -124,7 +124,7 @@ fn least(a: usize, b: usize) -> usize
 
 // Past all cells of a row, if each is surely taken; else 0.
 fn past_cells(from: usize, end: usize, types: &[u8; COLUMNS], cells: &[u64], bytes: &[u8]) -> usize
-    requires { (0 < from) × (from ≤ end) × (length cells.now / 2 ≤ mostColumns) }
+    requires { (0 < from) × (from ≤ end) × (length cells.now / 2 ≤ most_columns) }
     ensures { 0 < result → PastAll bytes.now cells.now types.now from end result }
 {
     // as a slice, so that its length is known from here on
@@ -159,7 +159,7 @@ fn sure_size(at: usize, t: u8, a: u64, b: u64, bytes: &[u8]) -> usize
 
 // The same of a value of a fixed size.
 fn sure_fixed(t: u8, upper: u64, lower: u64) -> usize
-    ensures { 0 < result → (result ≡ width_of t) × (isNumberOf t (upper * 2 ^ 64 + lower) ≡ true) × (fixedFine t (upper * 2 ^ 64 + lower) ≡ true) }
+    ensures { 0 < result → (result ≡ width_of t) × (is_number_of t (upper * 2 ^ 64 + lower) ≡ true) × (fixed_fine t (upper * 2 ^ 64 + lower) ≡ true) }
 {
     match t {
         format::TINYINT => if_so(write::both(upper == 0, lower <= 0xff), 1),
@@ -180,7 +180,7 @@ fn if_so(t: bool, n: usize) -> usize
 
 // The same of a text or binary value.
 fn sure_body(at: usize, t: u8, start: usize, size: u64, bytes: &[u8]) -> usize
-    requires { isCounted t ≡ true }
+    requires { is_counted t ≡ true }
     ensures { 0 < result → Sure bytes.now at t start size result }
 {
     if size == NULL_SIZE {
@@ -198,7 +198,7 @@ fn sure_body(at: usize, t: u8, start: usize, size: u64, bytes: &[u8]) -> usize
 
 // What a row is answered, each of its steps by itself.
 fn ask_each(st: State, types: &[u8; COLUMNS], cells: &[u64], bytes: &[u8], size: usize) -> Answer
-    ensures { result ≡ shownAnswer (rowAnswer bytes.now cells.now (seen st types.now) size) }
+    ensures { result ≡ shown_answer (row_answer bytes.now cells.now (seen st types.now) size) }
 {
     let opened = ask_open(st, types, size);
     let Answer::Is(first) = opened else {
@@ -210,7 +210,7 @@ fn ask_each(st: State, types: &[u8; COLUMNS], cells: &[u64], bytes: &[u8], size:
 // What opening and closing are answered. These are the tests of `rows`, made here once more: a function with two callers isn't put into the step that opens or
 // closes a row, which then takes up to twice as long.
 fn ask_open(st: State, types: &[u8; COLUMNS], size: usize) -> Answer
-    ensures { result ≡ shownAnswer (answer_of (plan openRow (seen st types.now) size) size) }
+    ensures { result ≡ shown_answer (answer_of (plan open_row (seen st types.now) size) size) }
 {
     let permitted = write::at_table(st, types, size);
     let more = write::one_more(st.rows, write::MOST_ROWS);
@@ -218,7 +218,7 @@ fn ask_open(st: State, types: &[u8; COLUMNS], size: usize) -> Answer
 }
 
 fn ask_close(st: State, types: &[u8; COLUMNS], size: usize) -> Answer
-    ensures { result ≡ shownAnswer (answer_of (plan closeRow (seen st types.now) size) size) }
+    ensures { result ≡ shown_answer (answer_of (plan close_row (seen st types.now) size) size) }
 {
     // as a slice, so that its length is known from here on
     let lent: &[u8] = types;
@@ -239,7 +239,7 @@ fn ask_cells(
     size: usize,
 ) -> Answer
     requires { Opened (seen st types.now) size first }
-    ensures { result ≡ shownAnswer (answersFrom bytes.now cells.now (seen st types.now) size 0 first) }
+    ensures { result ≡ shown_answer (answers_from bytes.now cells.now (seen st types.now) size 0 first) }
 {
     // as a slice, so that its length is known from here on
     let lent: &[u8] = types;
@@ -265,7 +265,7 @@ fn ask_cells(
 
 // What a cell is answered, by its two numbers.
 fn ask_cell(st: State, types: &[u8; COLUMNS], a: u64, b: u64, bytes: &[u8], size: usize) -> Answer
-    ensures { result ≡ shownAnswer (asked (cellStep (typeNow (seen st types.now)) (valueIn bytes.now (typeNow (seen st types.now)) a b)) (seen st types.now) size) }
+    ensures { result ≡ shown_answer (asked (cell_step (type_now (seen st types.now)) (value_in bytes.now (type_now (seen st types.now)) a b)) (seen st types.now) size) }
 {
     let t = rows::next_type(st.columns, types, st.inner_count);
     if write::is_counted(t) {
@@ -284,7 +284,7 @@ fn ask_body(
     bytes: &[u8],
     room: usize,
 ) -> Answer
-    ensures { result ≡ shownAnswer (asked (cellStep t (bodyIn bytes.now start size)) (seen st types.now) room) }
+    ensures { result ≡ shown_answer (asked (cell_step t (body_in bytes.now start size)) (seen st types.now) room) }
 {
     if size == NULL_SIZE {
         let null = write::body_fault(st.position, t, true, &bytes[0..0]);
@@ -303,7 +303,7 @@ fn ask_body(
 
 // Writes the cells of a row from a place on.
 fn put_cells(out: &mut [u8], from: usize, types: &[u8; COLUMNS], cells: &[u64], bytes: &[u8])
-    requires { (length cells.now / 2 ≤ mostColumns) × FitAll bytes.now types.now cells.now 0 (length cells.now / 2) from (length out.old) }
+    requires { (length cells.now / 2 ≤ most_columns) × Fit_all bytes.now types.now cells.now 0 (length cells.now / 2) from (length out.old) }
     ensures { out.new ≡ laid bytes.now types.now cells.now 0 (length cells.now / 2) from out.old }
 {
     // as a slice, so that its length is known from here on
@@ -319,7 +319,7 @@ fn put_cells(out: &mut [u8], from: usize, types: &[u8; COLUMNS], cells: &[u64], 
 // Writes a cell at a place, and says where it ends.
 fn put_cell(out: &mut [u8], at: usize, t: u8, a: u64, b: u64, bytes: &[u8]) -> usize
     requires { Fits bytes.now t a b at (length out.old) }
-    ensures { (result ≡ at + length (cellBytes bytes.now t a b)) × (out.new ≡ put out.old at (cellBytes bytes.now t a b)) }
+    ensures { (result ≡ at + length (cell_bytes bytes.now t a b)) × (out.new ≡ put out.old at (cell_bytes bytes.now t a b)) }
 {
     match t {
         format::STRING | format::VARBINARY | format::GEOGRAPHY => put_body(
@@ -332,7 +332,7 @@ fn put_cell(out: &mut [u8], at: usize, t: u8, a: u64, b: u64, bytes: &[u8]) -> u
 // The same of a value of a fixed size. Its two halves are written apart: the compiler makes one store of 8 bytes, and none of 16.
 fn put_fixed(out: &mut [u8], at: usize, t: u8, upper: u64, lower: u64) -> usize
     requires { at + width_of t ≤ length out.old }
-    ensures { (result ≡ at + width_of t) × (out.new ≡ put out.old at (numBytes (width_of t) (upper * 2 ^ 64 + lower))) }
+    ensures { (result ≡ at + width_of t) × (out.new ≡ put out.old at (num_bytes (width_of t) (upper * 2 ^ 64 + lower))) }
 {
     let middle = put_upper(out, at, t, upper);
     put_lower(out, middle, t, lower)
@@ -340,8 +340,8 @@ fn put_fixed(out: &mut [u8], at: usize, t: u8, upper: u64, lower: u64) -> usize
 
 // The upper half of a value that has one.
 fn put_upper(out: &mut [u8], at: usize, t: u8, upper: u64) -> usize
-    requires { at + upperOf t ≤ length out.old }
-    ensures { (result ≡ at + upperOf t) × (out.new ≡ put out.old at (numBytes (upperOf t) upper)) }
+    requires { at + upper_of t ≤ length out.old }
+    ensures { (result ≡ at + upper_of t) × (out.new ≡ put out.old at (num_bytes (upper_of t) upper)) }
 {
     match t {
         format::DECIMAL | format::POINT => put::number_at(out, at, upper, 8),
@@ -351,8 +351,8 @@ fn put_upper(out: &mut [u8], at: usize, t: u8, upper: u64) -> usize
 
 // The lower half.
 fn put_lower(out: &mut [u8], at: usize, t: u8, lower: u64) -> usize
-    requires { at + lowerOf t ≤ length out.old }
-    ensures { (result ≡ at + lowerOf t) × (out.new ≡ put out.old at (numBytes (lowerOf t) lower)) }
+    requires { at + lower_of t ≤ length out.old }
+    ensures { (result ≡ at + lower_of t) × (out.new ≡ put out.old at (num_bytes (lower_of t) lower)) }
 {
     match t {
         format::TINYINT => put::number_at(out, at, lower, 1),
@@ -365,8 +365,8 @@ fn put_lower(out: &mut [u8], at: usize, t: u8, lower: u64) -> usize
 }
 
 fn put_body(out: &mut [u8], at: usize, start: usize, size: u64, bytes: &[u8]) -> usize
-    requires { Stands bytes.now start size × (at + length (bodyBytes bytes.now start size) ≤ length out.old) }
-    ensures { (result ≡ at + length (bodyBytes bytes.now start size)) × (out.new ≡ put out.old at (bodyBytes bytes.now start size)) }
+    requires { Stands bytes.now start size × (at + length (body_bytes bytes.now start size) ≤ length out.old) }
+    ensures { (result ≡ at + length (body_bytes bytes.now start size)) × (out.new ≡ put out.old at (body_bytes bytes.now start size)) }
 {
     if size == NULL_SIZE {
         return put::text_at(out, at, true, &bytes[0..0]);

@@ -9,7 +9,7 @@ use native.Mathlib.Omega.{arith}
 use borrow.Author.Tests.{lt-ltb, le-ltb, eqb-true, eqb-false}
 use Rattle.format.specs.Result.{pick}
 use Rattle.format.specs.Value.{width_of}
-use Rattle.steps.specs.Arguments.{isNumberOf}
+use Rattle.steps.specs.Arguments.{is_number_of}
 use Rattle.put.proofs.Laws.{widths}
 
 module _ (upper lower : ℕ) where
@@ -25,25 +25,25 @@ module _ (upper lower : ℕ) where
       (pick (eqb w 8) (eqb upper 0) (eqb w 16))))
 
   -- a number whose upper half is 0 is its lower half, and any other has more than 8 bytes
-  by-upper : (b c : Bool) → (whole ≡ lower → b ≡ c) → (2 ^ 64 ≤ whole → false ≡ c) → eqb upper 0 && b ≡ c
-  by-upper b c f g = go (eqb upper 0) refl
+  by_upper : (b c : Bool) → (whole ≡ lower → b ≡ c) → (2 ^ 64 ≤ whole → false ≡ c) → eqb upper 0 && b ≡ c
+  by_upper b c f g = go (eqb upper 0) refl
     where
       go : (none : Bool) → eqb upper 0 ≡ none → none && b ≡ c
       go true e = f (ap (λ (u : ℕ). u * 2 ^ 64 + lower) (eqb-true upper 0 e) ∙ zero-add lower)
       go false e = let some : upper ≡ 0 → ⊥ = eqb-false upper 0 e in g (omega arith)
 
-  asked_is : upper < 2 ^ 64 → lower < 2 ^ 64 → (t : ℕ) → asked (width_of t) ≡ isNumberOf t whole
+  asked_is : upper < 2 ^ 64 → lower < 2 ^ 64 → (t : ℕ) → asked (width_of t) ≡ is_number_of t whole
   asked_is high low =
       let short : (m : ℕ) → m < 2 ^ 64 → eqb upper 0 && leb lower m ≡ ltb whole (suc m)
-      = λ m h. by-upper (leb lower m) (ltb whole (suc m)) (λ e. sym (ap (λ (n : ℕ). ltb n (suc m)) e ∙ leb-suc-suc lower m)) (λ e. sym (le-ltb whole (suc m) (omega arith))) in
+      = λ m h. by_upper (leb lower m) (ltb whole (suc m)) (λ e. sym (ap (λ (n : ℕ). ltb n (suc m)) e ∙ leb-suc-suc lower m)) (λ e. sym (le-ltb whole (suc m) (omega arith))) in
       let long : eqb upper 0 && true ≡ ltb whole (256 ^ 8)
-      = by-upper true (ltb whole (256 ^ 8)) (λ e. sym (ap (λ (n : ℕ). ltb n (256 ^ 8)) e ∙ lt-ltb lower (256 ^ 8) low)) (λ e. sym (le-ltb whole (256 ^ 8) e)) in
+      = by_upper true (ltb whole (256 ^ 8)) (λ e. sym (ap (λ (n : ℕ). ltb n (256 ^ 8)) e ∙ lt-ltb lower (256 ^ 8) low)) (λ e. sym (le-ltb whole (256 ^ 8) e)) in
       widths (λ w. asked w ≡ not (eqb w 0) && ltb whole (256 ^ w)) refl (short 0xff (omega arith)) (short 0xffff (omega arith)) (short 0xffffffff (omega arith))
-      (sym (and-true (eqb upper 0)) ∙ long) (sym (lt-ltb whole (256 ^ 16) (digits_lt high low)))
+      (sym (and_true (eqb upper 0)) ∙ long) (sym (lt-ltb whole (256 ^ 16) (digits_lt high low)))
     where
-      and-true : (b : Bool) → b && true ≡ b
-      and-true true = refl
-      and-true false = refl
+      and_true : (b : Bool) → b && true ≡ b
+      and_true true = refl
+      and_true false = refl
 
-  pub asked_of : upper < 2 ^ 64 → lower < 2 ^ 64 → (t w : ℕ) → width_of t ≡ w → asked w ≡ isNumberOf t whole
+  pub asked_of : upper < 2 ^ 64 → lower < 2 ^ 64 → (t w : ℕ) → width_of t ≡ w → asked w ≡ is_number_of t whole
   asked_of high low t w e = ap asked (sym e) ∙ asked_is high low t

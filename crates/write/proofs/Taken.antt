@@ -17,67 +17,67 @@ use Rattle.format.specs.declared.Answer.{Answer}
 use Rattle.format.specs.declared.Answer.TheVariants.{Is, No}
 use Rattle.write.specs.declared.Outcome.{Outcome}
 use Rattle.steps.specs.State.{State}
-use Rattle.steps.specs.Plans.{Plan, answerWithin, answer_of, carry, fillAll}
+use Rattle.steps.specs.Plans.{Plan, answer_within, answer_of, carry, fill_all}
 use Rattle.steps.specs.Steps.{Step, plan, step}
-use Rattle.write.specs.Shown.{seen, shown, shownAnswer, came, Stepped}
+use Rattle.write.specs.Shown.{seen, shown, shown_answer, came, Stepped}
 use Rattle.steps.proofs.Plans.{Accepted, answer_ok}
 
 -- what the tests of the code gave is what the plan asks; limits and length are asked only of a step that nothing else refuses
-pub answered : {S : Type 0} (p : Plan S) (size : ℕ) {permitted limits : Bool} {v : Verdict} {n : ℕ} {a : Answer} → a ≡ shownAnswer (answerWithin p.most permitted v limits p.at n size)
-    → permitted ≡ p.permitted → v ≡ p.faults → (p.permitted ≡ true → p.faults ≡ fine → (limits ≡ p.limits) × (n ≡ length p.bytes)) → a ≡ shownAnswer (answer_of p size)
+pub answered : {S : Type 0} (p : Plan S) (size : ℕ) {permitted limits : Bool} {v : Verdict} {n : ℕ} {a : Answer} → a ≡ shown_answer (answer_within p.most permitted v limits p.at n size)
+    → permitted ≡ p.permitted → v ≡ p.faults → (p.permitted ≡ true → p.faults ≡ fine → (limits ≡ p.limits) × (n ≡ length p.bytes)) → a ≡ shown_answer (answer_of p size)
 answered p size {permitted} {limits} {v} {n} {a} e f g h = e ∙ rw (f, g) (go p.permitted p.faults h)
   where
     go : (u : Bool) (w : Verdict) → (u ≡ true → w ≡ fine → (limits ≡ p.limits) × (n ≡ length p.bytes))
-        → shownAnswer (answerWithin p.most u w limits p.at n size) ≡ shownAnswer (answerWithin p.most u w p.limits p.at (length p.bytes) size)
+        → shown_answer (answer_within p.most u w limits p.at n size) ≡ shown_answer (answer_within p.most u w p.limits p.at (length p.bytes) size)
     go true fine h = let w = h refl refl in rw (w.0, w.1)
     go true (bad x q) h = refl
     go false w h = refl
 
 -- what the code was answered
-pub shown_ok : (r : Res ℕ) {a : Answer} {n : ℕ} → a ≡ shownAnswer r → a ≡ Is n → r ≡ ok n
+pub shown_ok : (r : Res ℕ) {a : Answer} {n : ℕ} → a ≡ shown_answer r → a ≡ Is n → r ≡ ok n
 shown_ok (ok m) e f = cc
 shown_ok (no g p) e f = let z : Is _ ≡ No _ = sym f ∙ e in cc
 
-pub shown-no : (r : Res ℕ) {a : Answer} {x : Refusal} → a ≡ shownAnswer r → a ≡ No x → r ≡ no x.fault x.place
-shown-no (ok m) e f = let z : No _ ≡ Is _ = sym f ∙ e in cc
-shown-no (no g p) e f = let z : No _ ≡ No _ = sym f ∙ e in cc
+pub shown_no : (r : Res ℕ) {a : Answer} {x : Refusal} → a ≡ shown_answer r → a ≡ No x → r ≡ no x.fault x.place
+shown_no (ok m) e f = let z : No _ ≡ Is _ = sym f ∙ e in cc
+shown_no (no g p) e f = let z : No _ ≡ No _ = sym f ∙ e in cc
 
 module _ (p : Plan State) (st : Code) (b : List ℕ) (types : List ℕ) where
   -- what comes of a plan that is refused
-  pub refused : {a : Answer} {x : Refusal} → a ≡ shownAnswer (answer_of p (length b)) → a ≡ No x
+  pub refused : {a : Answer} {x : Refusal} → a ≡ shown_answer (answer_of p (length b)) → a ≡ No x
       → (record { answer = a; state = st } ≡ came st (carry p (seen st types) b)) × (b ≡ (carry p (seen st types) b).buffer)
   unfolding carry
   refused {a} {x} e f =
-      let r = shown-no (answer_of p (length b)) e f in
+      let r = shown_no (answer_of p (length b)) e f in
       (sym (rw r (ap {B = Outcome} (λ (y : Answer). record { answer = y; state = st }) (sym f))), sym (rw r))
 
   -- what comes of one that is taken
   pub record Taken (n : ℕ) : Type 0 where
     pub accepted : Accepted p (length b) n
-    pub came-is : came st (carry p (seen st types) b) ≡ record { answer = Is n; state = shown (p.next n) }
-    pub wrote : (carry p (seen st types) b).buffer ≡ fillAll p.fills (put b p.at p.bytes)
+    pub came_is : came st (carry p (seen st types) b) ≡ record { answer = Is n; state = shown (p.next n) }
+    pub wrote : (carry p (seen st types) b).buffer ≡ fill_all p.fills (put b p.at p.bytes)
 
-  pub taken : {a : Answer} {n : ℕ} → a ≡ shownAnswer (answer_of p (length b)) → a ≡ Is n → Taken n
+  pub taken : {a : Answer} {n : ℕ} → a ≡ shown_answer (answer_of p (length b)) → a ≡ Is n → Taken n
   unfolding carry
   taken {a} {n} e f =
       let r = shown_ok (answer_of p (length b)) e f in
-      record { accepted = answer_ok p (length b) n r; came-is = rw r; wrote = rw r }
+      record { accepted = answer_ok p (length b) n r; came_is = rw r; wrote = rw r }
 
 -- the same of a step
 module _ (s : Step) (st : Code) (b : List ℕ) (types : List ℕ) where
-  pub step-refused : {a : Answer} {x : Refusal} → a ≡ shownAnswer (answer_of (plan s (seen st types) (length b)) (length b)) → a ≡ No x → Stepped s st types b (record { answer = a; state = st }) b
+  pub step_refused : {a : Answer} {x : Refusal} → a ≡ shown_answer (answer_of (plan s (seen st types) (length b)) (length b)) → a ≡ No x → Stepped s st types b (record { answer = a; state = st }) b
   unfolding step
-  step-refused e f = refused (plan s (seen st types) (length b)) st b types e f
+  step_refused e f = refused (plan s (seen st types) (length b)) st b types e f
 
-  pub step-accepted : {a : Answer} {n : ℕ} → let p = plan s (seen st types) (length b) in a ≡ shownAnswer (answer_of p (length b)) → a ≡ Is n → Accepted p (length b) n
-  step-accepted e f = (taken (plan s (seen st types) (length b)) st b types e f).accepted
+  pub step_accepted : {a : Answer} {n : ℕ} → let p = plan s (seen st types) (length b) in a ≡ shown_answer (answer_of p (length b)) → a ≡ Is n → Accepted p (length b) n
+  step_accepted e f = (taken (plan s (seen st types) (length b)) st b types e f).accepted
 
-  pub step-taken : {a : Answer} {n : ℕ} {next : Code} {c : List ℕ} → let p = plan s (seen st types) (length b) in a ≡ shownAnswer (answer_of p (length b)) → a ≡ Is n
-      → next ≡ shown (p.next n) → c ≡ fillAll p.fills (put b p.at p.bytes) → Stepped s st types b (record { answer = Is n; state = next }) c
+  pub step_taken : {a : Answer} {n : ℕ} {next : Code} {c : List ℕ} → let p = plan s (seen st types) (length b) in a ≡ shown_answer (answer_of p (length b)) → a ≡ Is n
+      → next ≡ shown (p.next n) → c ≡ fill_all p.fills (put b p.at p.bytes) → Stepped s st types b (record { answer = Is n; state = next }) c
   unfolding step
-  step-taken {a} {n} {next} e f g h =
+  step_taken {a} {n} {next} e f g h =
       let t = taken (plan s (seen st types) (length b)) st b types e f in
-      (rw g (sym t.came-is), h ∙ sym t.wrote)
+      (rw g (sym t.came_is), h ∙ sym t.wrote)
 
 -- what an accepted plan writes fits
 pub room : {S : Type 0} {p : Plan S} {size n k : ℕ} → Accepted p size n → length p.bytes ≡ k → p.at + k ≤ size

@@ -11,22 +11,22 @@ use borrow.Author.Tests.{le-leb, lt-leb, leb-true, leb-false}
 use Rattle.format.specs.declared.Fault.TheVariants.{Limit, Output}
 use Rattle.format.specs.Result.{ok, no, pick}
 use Rattle.format.specs.Format.{fine}
-use Rattle.format.specs.Value.{isColumn}
-use Rattle.format.specs.Message.{mostMessage}
-use Rattle.steps.specs.State.{allColumns}
-use Rattle.steps.specs.Steps.{answerAt}
+use Rattle.format.specs.Value.{is_column}
+use Rattle.format.specs.Message.{most_message}
+use Rattle.steps.specs.State.{all_columns}
+use Rattle.steps.specs.Steps.{answer_at}
 
-pub same-leb : (a b x y : ℕ) → (a ≤ b → x ≤ y) → (b < a → y < x) → leb a b ≡ leb x y
-same-leb a b x y f g = go (leb a b) refl
+pub same_leb : (a b x y : ℕ) → (a ≤ b → x ≤ y) → (b < a → y < x) → leb a b ≡ leb x y
+same_leb a b x y f g = go (leb a b) refl
   where
     go : (t : Bool) → leb a b ≡ t → leb a b ≡ leb x y
     go true e = e ∙ sym (le-leb x y (f (leb-true a b e)))
     go false e = e ∙ sym (lt-leb x y (g (leb-false a b e)))
 
 -- columns, one more at a time
-all_snoc : (l : List ℕ) (t : ℕ) → allColumns (l ++ (t ∷ [])) ≡ isColumn t && allColumns l
+all_snoc : (l : List ℕ) (t : ℕ) → all_columns (l ++ (t ∷ [])) ≡ is_column t && all_columns l
 all_snoc [] t = refl
-all_snoc (x ∷ l) t = ap (λ (b : Bool). isColumn x && b) (all_snoc l t) ∙ swap (isColumn x) (isColumn t) (allColumns l)
+all_snoc (x ∷ l) t = ap (λ (b : Bool). is_column x && b) (all_snoc l t) ∙ swap (is_column x) (is_column t) (all_columns l)
   where
     swap : (a b c : Bool) → a && (b && c) ≡ b && (a && c)
     swap true true c = refl
@@ -34,15 +34,15 @@ all_snoc (x ∷ l) t = ap (λ (b : Bool). isColumn x && b) (all_snoc l t) ∙ sw
     swap false true c = refl
     swap false false c = refl
 
-pub all-next : (l : List ℕ) (i : ℕ) → i < length l → isColumn (get_or l i 0) && allColumns (take i l) ≡ allColumns (take (i + 1) l)
-all-next l i h = sym (rw (add-one, take-suc l i 0 h) (all_snoc (take i l) (get_or l i 0)))
+pub all_next : (l : List ℕ) (i : ℕ) → i < length l → is_column (get_or l i 0) && all_columns (take i l) ≡ all_columns (take (i + 1) l)
+all_next l i h = sym (rw (add-one, take-suc l i 0 h) (all_snoc (take i l) (get_or l i 0)))
 
 -- past the message's limit, past the buffer, and there
-pub too_far : (at n size : ℕ) → 4 + mostMessage < at + n → answerAt true fine true at n size ≡ no Limit at
+pub too_far : (at n size : ℕ) → 4 + most_message < at + n → answer_at true fine true at n size ≡ no Limit at
 too_far at n size h = rw (lt-leb _ _ h)
 
-pub no_room : (at n size : ℕ) → at + n ≤ 4 + mostMessage → size < at + n → answerAt true fine true at n size ≡ no Output (at + n)
+pub no_room : (at n size : ℕ) → at + n ≤ 4 + most_message → size < at + n → answer_at true fine true at n size ≡ no Output (at + n)
 no_room at n size h k = rw (le-leb _ _ h, lt-leb _ _ k)
 
-pub there : (at n size : ℕ) → at + n ≤ 4 + mostMessage → at + n ≤ size → answerAt true fine true at n size ≡ ok (at + n)
+pub there : (at n size : ℕ) → at + n ≤ 4 + most_message → at + n ≤ size → answer_at true fine true at n size ≡ ok (at + n)
 there at n size h k = rw (le-leb _ _ h, le-leb _ _ k)

@@ -2,13 +2,13 @@
 -- last one left. Nothing here says that a call is accepted, and of its arguments no more is said than their types say.
 use Rattle.std.specs.Prelude.{ℕ, ◌≡◌, List, [], ◌∷◌, ◌++◌, length, take}
 use Rattle.format.specs.Result.{ok}
-use Rattle.format.specs.Message.{Message, readMessage, messageBytes, GoodMessage}
+use Rattle.format.specs.Message.{Message, read_message, message_bytes, GoodMessage}
 use Rattle.format.specs.declared.Answer.{Answer}
 use Rattle.format.specs.declared.Answer.TheVariants.{Is}
-use Rattle.steps.specs.Steps.{Step, beginCall, nullParam, oneParam, bytesParam, openArray, element, closeArray, finishCall, beginReply, openTable, openRow, cell, closeRow, closeTable, finishReply}
-use Rattle.steps.specs.Logins.{loginRequest, loginResponse}
+use Rattle.steps.specs.Steps.{Step, begin_call, null_param, one_param, bytes_param, open_array, element, close_array, finish_call, begin_reply, open_table, open_row, cell, close_row, close_table, finish_reply}
+use Rattle.steps.specs.Logins.{login_request, login_response}
 use Rattle.steps.specs.Spells.{Held}
-use Rattle.steps.specs.Writings.{Writing, requestCall, responseCall, callSteps, replySteps, kind_of, HeldWriting, writingOf, trimmed, overlaid}
+use Rattle.steps.specs.Writings.{Writing, request_call, response_call, call_steps, reply_steps, kind_of, Held_writing, writing_of, trimmed, overlaid}
 use Rattle.write.specs.declared.State.{State as Code}
 use Rattle.write.specs.declared.Outcome.{Outcome}
 use Rattle.write.specs.Shown.{zero, Stepped, Opened, Told}
@@ -26,21 +26,21 @@ pub data Loan : Type 0 where
   whole : Loan
 
 abbrev pub loan : Step → Loan
-loan (beginCall version procedure client) = nothing
-loan nullParam = nothing
-loan (oneParam t v) = nothing
-loan (bytesParam bs) = nothing
-loan (openArray t) = nothing
+loan (begin_call version procedure client) = nothing
+loan null_param = nothing
+loan (one_param t v) = nothing
+loan (bytes_param bs) = nothing
+loan (open_array t) = nothing
 loan (element t v) = nothing
-loan closeArray = nothing
-loan finishCall = nothing
-loan (beginReply version o) = nothing
-loan (openTable status cs) = whole
-loan openRow = look
+loan close_array = nothing
+loan finish_call = nothing
+loan (begin_reply version o) = nothing
+loan (open_table status cs) = whole
+loan open_row = look
 loan (cell t v) = look
-loan closeRow = look
-loan closeTable = look
-loan finishReply = nothing
+loan close_row = look
+loan close_table = look
+loan finish_reply = nothing
 
 -- a function's contract, by what it is lent, of what its call in a state, with types and on a buffer, leaves
 abbrev pub Meets : Loan → Step → Code → List ℕ → List ℕ → Left → Type 0
@@ -60,39 +60,39 @@ abbrev pub Accepted : Answer → Type 0
 Accepted a = (n : ℕ) × (a ≡ Is n)
 
 -- from a call that left l on each was accepted, and the last answered n and left the buffer b'
-abbrev pub ChainTo : (ss : List Step) (l : Left) → Chain ss l → ℕ → List ℕ → Type 0
-ChainTo [] l c n b' = (l.came.answer ≡ Is n) × (l.buffer ≡ b')
-ChainTo (s ∷ ss) l c n b' = Accepted l.came.answer × ChainTo ss c.1 c.3 n b'
+abbrev pub Chain_to : (ss : List Step) (l : Left) → Chain ss l → ℕ → List ℕ → Type 0
+Chain_to [] l c n b' = (l.came.answer ≡ Is n) × (l.buffer ≡ b')
+Chain_to (s ∷ ss) l c n b' = Accepted l.came.answer × Chain_to ss c.1 c.3 n b'
 
 -- the calls of a writing on a buffer b, with memory for a table's types; a login takes none. What is held of a begin's arguments is what is held of a writing without
 -- steps behind it
 abbrev pub Calls : Writing → List ℕ → List ℕ → Type 0
-Calls (requestCall version hashVersion service user hash) types b =
-    HeldWriting (requestCall version hashVersion service user hash) × (a : Answer) × (b' : List ℕ) × Told (loginRequest version hashVersion service user hash b) a b'
-Calls (responseCall version result w) types b = HeldWriting (responseCall version result w) × (a : Answer) × (b' : List ℕ) × Told (loginResponse version result w b) a b'
-Calls (callSteps version procedure client ss) types b =
-    HeldWriting (callSteps version procedure client []) × (l : Left) × Called (beginCall version procedure client) zero types b l × Chain ss l
-Calls (replySteps version o ss) types b = HeldWriting (replySteps version o []) × (l : Left) × Called (beginReply version o) zero types b l × Chain ss l
+Calls (request_call version hash_version service user hash) types b =
+    Held_writing (request_call version hash_version service user hash) × (a : Answer) × (b' : List ℕ) × Told (login_request version hash_version service user hash b) a b'
+Calls (response_call version result w) types b = Held_writing (response_call version result w) × (a : Answer) × (b' : List ℕ) × Told (login_response version result w b) a b'
+Calls (call_steps version procedure client ss) types b =
+    Held_writing (call_steps version procedure client []) × (l : Left) × Called (begin_call version procedure client) zero types b l × Chain ss l
+Calls (reply_steps version o ss) types b = Held_writing (reply_steps version o []) × (l : Left) × Called (begin_reply version o) zero types b l × Chain ss l
 
 -- each of them was accepted, and the last answered n and left the buffer b'
-abbrev pub CallsTo : (w : Writing) (types b : List ℕ) → Calls w types b → ℕ → List ℕ → Type 0
-CallsTo (requestCall version hashVersion service user hash) types b c n b' = (c.1 ≡ Is n) × (c.2 ≡ b')
-CallsTo (responseCall version result w) types b c n b' = (c.1 ≡ Is n) × (c.2 ≡ b')
-CallsTo (callSteps version procedure client ss) types b c n b' = ChainTo ss c.1 c.3 n b'
-CallsTo (replySteps version o ss) types b c n b' = ChainTo ss c.1 c.3 n b'
+abbrev pub Calls_to : (w : Writing) (types b : List ℕ) → Calls w types b → ℕ → List ℕ → Type 0
+Calls_to (request_call version hash_version service user hash) types b c n b' = (c.1 ≡ Is n) × (c.2 ≡ b')
+Calls_to (response_call version result w) types b c n b' = (c.1 ≡ Is n) × (c.2 ≡ b')
+Calls_to (call_steps version procedure client ss) types b c n b' = Chain_to ss c.1 c.3 n b'
+Calls_to (reply_steps version o ss) types b c n b' = Chain_to ss c.1 c.3 n b'
 
 -- the last of a writing's steps finishes it; a login is whole
 abbrev pub Finished : Writing → Type 0
-Finished (requestCall version hashVersion service user hash) = Unit
-Finished (responseCall version result w) = Unit
-Finished (callSteps version procedure client ss) = (before : List Step) × (ss ≡ before ++ (finishCall ∷ []))
-Finished (replySteps version o ss) = (before : List Step) × (ss ≡ before ++ (finishReply ∷ []))
+Finished (request_call version hash_version service user hash) = Unit
+Finished (response_call version result w) = Unit
+Finished (call_steps version procedure client ss) = (before : List Step) × (ss ≡ before ++ (finish_call ∷ []))
+Finished (reply_steps version o ss) = (before : List Step) × (ss ≡ before ++ (finish_reply ∷ []))
 
 -- what was written: a good message, which the writing spells, stands in front of the buffer b, with every byte behind it as it was; n is its length, and it is read
 pub record Wrote (w : Writing) (b : List ℕ) (n : ℕ) (b' : List ℕ) : Type 0 where
   pub message : Message
   pub good : GoodMessage (kind_of w) message
-  pub spelled : trimmed w ≡ writingOf message
-  pub size : n ≡ length (messageBytes (kind_of w) message)
-  pub buffer : b' ≡ overlaid b (messageBytes (kind_of w) message)
-  pub read : readMessage (kind_of w) (take n b') ≡ ok message
+  pub spelled : trimmed w ≡ writing_of message
+  pub size : n ≡ length (message_bytes (kind_of w) message)
+  pub buffer : b' ≡ overlaid b (message_bytes (kind_of w) message)
+  pub read : read_message (kind_of w) (take n b') ≡ ok message

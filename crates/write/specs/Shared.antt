@@ -2,20 +2,20 @@
 use Rattle.std.specs.Prelude.{ℕ, leb}
 use Rattle.format.specs.Result.{pick}
 use Rattle.format.specs.Format.{Verdict, fine, bad}
-use Rattle.format.specs.Message.{mostColumns}
+use Rattle.format.specs.Message.{most_columns}
 use Rattle.steps.specs.declared.Stage.{Stage}
 use Rattle.write.specs.declared.State.{State as Code}
 use Rattle.write.specs.declared.Check.{Check}
 use Rattle.write.specs.declared.Check.TheVariants.{Fine, Bad}
 
 -- what the code found of the arguments
-abbrev pub verdictOf : Check → Verdict
-verdictOf Fine = fine
-verdictOf (Bad r) = bad r.fault r.place
+abbrev pub verdict_of : Check → Verdict
+verdict_of Fine = fine
+verdict_of (Bad r) = bad r.fault r.place
 
 -- how many types are seen where a state has so many columns: as many as `types_in` gives
-abbrev pub countIn : ℕ → ℕ
-countIn n = pick (leb n mostColumns) n 1
+abbrev pub count_in : ℕ → ℕ
+count_in n = pick (leb n most_columns) n 1
 
 -- the numbers of `table_at`, whatever the types are
 abbrev pub tabled : Code → Stage → ℕ → ℕ → ℕ → ℕ → Code
@@ -30,5 +30,5 @@ tabled s stage n at cells rows = record {
   table_at = s.table_at;
   rows_at = s.rows_at;
   rows = rows;
-  columns = countIn s.columns;
+  columns = count_in s.columns;
 }

@@ -4,14 +4,14 @@
 ghost use Rattle.std.specs.Prelude.{◌+◌, ◌*◌, ◌^◌, []};
 ghost use Rattle.format.specs.Value.{fixed, body};
 ghost use Rattle.put.specs.Put.{optional};
-ghost use Rattle.steps.specs.Steps.{openTable, beginCall, beginReply, cell, nullParam, oneParam, bytesParam, openArray, element, closeArray, finishCall, openRow, closeRow, closeTable, finishReply};
-ghost use Rattle.steps.specs.Logins.{loginRequest, loginResponse};
+ghost use Rattle.steps.specs.Steps.{open_table, begin_call, begin_reply, cell, null_param, one_param, bytes_param, open_array, element, close_array, finish_call, open_row, close_row, close_table, finish_reply};
+ghost use Rattle.steps.specs.Logins.{login_request, login_response};
 ghost use Rattle.write.specs.Shown.{zero};
-ghost use Rattle.columns.specs.Entries.{columnsOf as entriesWith};
-ghost use Rattle.numbers.specs.Entries.{entriesOf};
-ghost use Rattle.writeexports.specs.Given.{opening, RowGave};
+ghost use Rattle.columns.specs.Entries.{columns_of as entries_with};
+ghost use Rattle.numbers.specs.Entries.{entries_of};
+ghost use Rattle.writeexports.specs.Given.{opening, Row_gave};
 ghost use Rattle.login.specs.Parts.{welcome};
-ghost use Rattle.numbers.specs.Stored.{WroteFrom, Wrote, WroteAll, WroteLogin};
+ghost use Rattle.numbers.specs.Stored.{Wrote_from, Wrote, Wrote_all, Wrote_login};
 
 use reply::Head;
 use write::COLUMNS;
@@ -27,7 +27,7 @@ pub extern "C" fn chaloenpik_begin_call(
     procedure: &[u8],
     client: &[u8; 8],
 ) -> u64
-    ensures { WroteFrom (beginCall version procedure.now client.now) zero state.old [] out.old result state.new out.new }
+    ensures { Wrote_from (begin_call version procedure.now client.now) zero state.old [] out.old result state.new out.new }
 {
     let step = call::begin_call(out, version, procedure, client);
     numbers::keep(state, step)
@@ -36,7 +36,7 @@ pub extern "C" fn chaloenpik_begin_call(
 // Writes a null parameter.
 #[unsafe(no_mangle)]
 pub extern "C" fn chaloenpik_null_param(out: &mut [u8], state: &mut [u64; 11]) -> u64
-    ensures { Wrote nullParam state.old [] out.old result state.new out.new }
+    ensures { Wrote null_param state.old [] out.old result state.new out.new }
 {
     let st = numbers::load(state);
     let step = call::null_param(out, st);
@@ -52,7 +52,7 @@ pub extern "C" fn chaloenpik_fixed_param(
     upper: u64,
     lower: u64,
 ) -> u64
-    ensures { Wrote (oneParam t (fixed (upper * 2 ^ 64 + lower))) state.old [] out.old result state.new out.new }
+    ensures { Wrote (one_param t (fixed (upper * 2 ^ 64 + lower))) state.old [] out.old result state.new out.new }
 {
     let st = numbers::load(state);
     let step = call::fixed_param(out, st, t, upper, lower);
@@ -68,7 +68,7 @@ pub extern "C" fn chaloenpik_body_param(
     null: bool,
     s: &[u8],
 ) -> u64
-    ensures { Wrote (oneParam t (body (optional null s.now))) state.old [] out.old result state.new out.new }
+    ensures { Wrote (one_param t (body (optional null s.now))) state.old [] out.old result state.new out.new }
 {
     let st = numbers::load(state);
     let step = call::body_param(out, st, t, null, s);
@@ -78,7 +78,7 @@ pub extern "C" fn chaloenpik_body_param(
 // Writes an array of bytes.
 #[unsafe(no_mangle)]
 pub extern "C" fn chaloenpik_bytes_param(out: &mut [u8], state: &mut [u64; 11], s: &[u8]) -> u64
-    ensures { Wrote (bytesParam s.now) state.old [] out.old result state.new out.new }
+    ensures { Wrote (bytes_param s.now) state.old [] out.old result state.new out.new }
 {
     let st = numbers::load(state);
     let step = call::bytes_param(out, st, s);
@@ -88,7 +88,7 @@ pub extern "C" fn chaloenpik_bytes_param(out: &mut [u8], state: &mut [u64; 11], 
 // Opens an array of elements of a type.
 #[unsafe(no_mangle)]
 pub extern "C" fn chaloenpik_open_array(out: &mut [u8], state: &mut [u64; 11], t: u8) -> u64
-    ensures { Wrote (openArray t) state.old [] out.old result state.new out.new }
+    ensures { Wrote (open_array t) state.old [] out.old result state.new out.new }
 {
     let st = numbers::load(state);
     let step = call::open_array(out, st, t);
@@ -130,7 +130,7 @@ pub extern "C" fn chaloenpik_body_element(
 // Closes the open array, and fills its count.
 #[unsafe(no_mangle)]
 pub extern "C" fn chaloenpik_close_array(out: &mut [u8], state: &mut [u64; 11]) -> u64
-    ensures { Wrote closeArray state.old [] out.old result state.new out.new }
+    ensures { Wrote close_array state.old [] out.old result state.new out.new }
 {
     let st = numbers::load(state);
     let step = call::close_array(out, st);
@@ -140,7 +140,7 @@ pub extern "C" fn chaloenpik_close_array(out: &mut [u8], state: &mut [u64; 11]) 
 // Finishes the invocation: its length and its parameter count are filled.
 #[unsafe(no_mangle)]
 pub extern "C" fn chaloenpik_finish_call(out: &mut [u8], state: &mut [u64; 11]) -> u64
-    ensures { Wrote finishCall state.old [] out.old result state.new out.new }
+    ensures { Wrote finish_call state.old [] out.old result state.new out.new }
 {
     let st = numbers::load(state);
     let step = call::finish_call(out, st);
@@ -164,7 +164,7 @@ pub extern "C" fn chaloenpik_begin_reply(
     roundtrip: u32,
     exception: &[u8],
 ) -> u64
-    ensures { WroteFrom (beginReply version (opening client.now flags status statusnull statustext.now appstatus appnull apptext.now roundtrip exception.now)) zero state.old [] out.old result state.new out.new }
+    ensures { Wrote_from (begin_reply version (opening client.now flags status statusnull statustext.now appstatus appnull apptext.now roundtrip exception.now)) zero state.old [] out.old result state.new out.new }
 {
     let h = Head {
         version,
@@ -189,7 +189,7 @@ pub extern "C" fn chaloenpik_open_table(
     list: &[u64],
     names: &[u8],
 ) -> u64
-    ensures { WroteAll (openTable status (entriesWith (entriesOf list.now) names.now)) state.old types.old out.old result state.new types.new out.new }
+    ensures { Wrote_all (open_table status (entries_with (entries_of list.now) names.now)) state.old types.old out.old result state.new types.new out.new }
 {
     let st = numbers::load(state);
     let step = numbers::open_listed(out, st, types, status, list, names);
@@ -203,7 +203,7 @@ pub extern "C" fn chaloenpik_open_row(
     state: &mut [u64; 11],
     types: &[u8; COLUMNS],
 ) -> u64
-    ensures { Wrote openRow state.old types.now out.old result state.new out.new }
+    ensures { Wrote open_row state.old types.now out.old result state.new out.new }
 {
     let st = numbers::load(state);
     let step = rows::open_row(out, st, types);
@@ -251,7 +251,7 @@ pub extern "C" fn chaloenpik_close_row(
     state: &mut [u64; 11],
     types: &[u8; COLUMNS],
 ) -> u64
-    ensures { Wrote closeRow state.old types.now out.old result state.new out.new }
+    ensures { Wrote close_row state.old types.now out.old result state.new out.new }
 {
     let st = numbers::load(state);
     let step = rows::close_row(out, st, types);
@@ -268,7 +268,7 @@ pub extern "C" fn chaloenpik_whole_row(
     cells: &[u64],
     bytes: &[u8],
 ) -> u64
-    ensures { RowGave bytes.now cells.now state.old types.now out.old result state.new out.new }
+    ensures { Row_gave bytes.now cells.now state.old types.now out.old result state.new out.new }
 {
     let st = numbers::load(state);
     let step = whole::whole_row(out, st, types, cells, bytes);
@@ -282,7 +282,7 @@ pub extern "C" fn chaloenpik_close_table(
     state: &mut [u64; 11],
     types: &[u8; COLUMNS],
 ) -> u64
-    ensures { Wrote closeTable state.old types.now out.old result state.new out.new }
+    ensures { Wrote close_table state.old types.now out.old result state.new out.new }
 {
     let st = numbers::load(state);
     let step = rows::close_table(out, st, types);
@@ -292,7 +292,7 @@ pub extern "C" fn chaloenpik_close_table(
 // Finishes the response: its length and its table count are filled.
 #[unsafe(no_mangle)]
 pub extern "C" fn chaloenpik_finish_reply(out: &mut [u8], state: &mut [u64; 11]) -> u64
-    ensures { Wrote finishReply state.old [] out.old result state.new out.new }
+    ensures { Wrote finish_reply state.old [] out.old result state.new out.new }
 {
     let st = numbers::load(state);
     let step = reply::finish_reply(out, st);
@@ -311,7 +311,7 @@ pub extern "C" fn chaloenpik_write_login_request(
     user: &[u8],
     hash: &[u8],
 ) -> u64
-    ensures { WroteLogin (loginRequest version hashing service.now user.now hash.now out.old) result out.new }
+    ensures { Wrote_login (login_request version hashing service.now user.now hash.now out.old) result out.new }
 {
     numbers::pack_answer(login::login_request(out, version, hashing, service, user, hash))
 }
@@ -328,7 +328,7 @@ pub extern "C" fn chaloenpik_write_login_response(
     leader: u32,
     build: &[u8],
 ) -> u64
-    ensures { WroteLogin (loginResponse version res (welcome host connection start leader build.now) out.old) result out.new }
+    ensures { Wrote_login (login_response version res (welcome host connection start leader build.now) out.old) result out.new }
 {
     numbers::pack_answer(login::login_response(
         out, version, res, host, connection, start, leader, build,

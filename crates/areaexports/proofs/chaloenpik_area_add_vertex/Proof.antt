@@ -1,5 +1,5 @@
 -- `areaexports::chaloenpik_area_add_vertex` meets its contract: the state is read from the numbers, and what the step leaves is kept in them.
-use Rattle.outline.specs.Steps.{addVertex}
+use Rattle.outline.specs.Steps.{add_vertex}
 use Rattle.areaexports.proofs.Kept.{wrote}
 use borrow.Author.Rules.{rules}
 use Rattle.areaexports.proofs.chaloenpik_area_add_vertex.Statement.{statement}
@@ -21,7 +21,7 @@ returns : tie.Need-returns
 returns c =
     let before-keep = c.before.before.before.before in
     let a = before-keep.before.before.before.before.before.args in
-    wrote (addVertex a.x a.y a.z) a.state.now a.out.now _ _ before-keep.before.before.load.ensures before-keep.add-vertex.ensures c.keep.ensures
+    wrote (add_vertex a.x a.y a.z) a.state.now a.out.now _ _ before-keep.before.before.load.ensures before-keep.add-vertex.ensures c.keep.ensures
 
 pub chaloenpik-area-add-vertex-spec : {M : Type 1} → statement M
 chaloenpik-area-add-vertex-spec =

@@ -1,5 +1,5 @@
 -- `areaexports::chaloenpik_area_close_ring` meets its contract: the state is read from the numbers, and what the step leaves is kept in them.
-use Rattle.outline.specs.Steps.{closeRing}
+use Rattle.outline.specs.Steps.{close_ring}
 use Rattle.areaexports.proofs.Kept.{wrote}
 use borrow.Author.Rules.{rules}
 use Rattle.areaexports.proofs.chaloenpik_area_close_ring.Statement.{statement}
@@ -21,7 +21,7 @@ returns : tie.Need-returns
 returns c =
     let before-keep = c.before.before.before.before in
     let a = before-keep.before.before.before.before.before.args in
-    wrote (closeRing a.kept.now) a.state.now a.out.now _ _ before-keep.before.before.load.ensures before-keep.close-ring.ensures c.keep.ensures
+    wrote (close_ring a.kept.now) a.state.now a.out.now _ _ before-keep.before.before.load.ensures before-keep.close-ring.ensures c.keep.ensures
 
 pub chaloenpik-area-close-ring-spec : {M : Type 1} → statement M
 chaloenpik-area-close-ring-spec =

@@ -1,5 +1,5 @@
 -- `areaexports::chaloenpik_area_finish` meets its contract: the state is read from the numbers, and what the step leaves is kept in them.
-use Rattle.outline.specs.Steps.{finishArea}
+use Rattle.outline.specs.Steps.{finish_area}
 use Rattle.areaexports.proofs.Kept.{wrote}
 use borrow.Author.Rules.{rules}
 use Rattle.areaexports.proofs.chaloenpik_area_finish.Statement.{statement}
@@ -21,7 +21,7 @@ returns : tie.Need-returns
 returns c =
     let before-keep = c.before.before.before.before in
     let a = before-keep.before.before.before.before.before.args in
-    wrote (finishArea a.kept.now) a.state.now a.out.now _ _ before-keep.before.before.load.ensures before-keep.finish.ensures c.keep.ensures
+    wrote (finish_area a.kept.now) a.state.now a.out.now _ _ before-keep.before.before.load.ensures before-keep.finish.ensures c.keep.ensures
 
 pub chaloenpik-area-finish-spec : {M : Type 1} → statement M
 chaloenpik-area-finish-spec =

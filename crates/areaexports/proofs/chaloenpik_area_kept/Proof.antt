@@ -1,6 +1,6 @@
 -- `areaexports::chaloenpik_area_kept` meets its contract: what the question answers, in the lent list.
-use Rattle.numbers.specs.Listed.{partNumbers}
-use Rattle.numbers.proofs.Lent.{lent-answer}
+use Rattle.numbers.specs.Listed.{part_numbers}
+use Rattle.numbers.proofs.Lent.{lent_answer}
 use borrow.Author.Rules.{rules}
 use Rattle.areaexports.proofs.chaloenpik_area_kept.Statement.{statement}
 use Rattle.areaexports.proofs.chaloenpik_area_kept.Tie as tie
@@ -12,7 +12,7 @@ lend-part-requires : tie.Need-lend-part-requires
 lend-part-requires c κs = search rules
 
 returns : tie.Need-returns
-returns c = lent-answer partNumbers c.before.before.before.before.args.list.now c.before.kept.ensures c.lend-part.ensures
+returns c = lent_answer part_numbers c.before.before.before.before.args.list.now c.before.kept.ensures c.lend-part.ensures
 
 pub chaloenpik-area-kept-spec : {M : Type 1} → statement M
 chaloenpik-area-kept-spec = tie.close (tie.spec kept-requires lend-part-requires returns)

@@ -1,5 +1,5 @@
 -- `areaexports::chaloenpik_area_open_ring` meets its contract: the state is read from the numbers, and what the step leaves is kept in them.
-use Rattle.outline.specs.Steps.{openRing}
+use Rattle.outline.specs.Steps.{open_ring}
 use Rattle.areaexports.proofs.Kept.{wrote}
 use borrow.Author.Rules.{rules}
 use Rattle.areaexports.proofs.chaloenpik_area_open_ring.Statement.{statement}
@@ -21,7 +21,7 @@ returns : tie.Need-returns
 returns c =
     let before-keep = c.before.before.before.before in
     let a = before-keep.before.before.before.before.before.args in
-    wrote (openRing a.mark) a.state.now a.out.now _ _ before-keep.before.before.load.ensures before-keep.open-ring.ensures c.keep.ensures
+    wrote (open_ring a.mark) a.state.now a.out.now _ _ before-keep.before.before.load.ensures before-keep.open-ring.ensures c.keep.ensures
 
 pub chaloenpik-area-open-ring-spec : {M : Type 1} → statement M
 chaloenpik-area-open-ring-spec =

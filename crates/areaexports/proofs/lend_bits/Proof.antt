@@ -1,7 +1,7 @@
 -- `areaexports::lend_bits` meets its contract, case by case.
 use mathlib.Core.Path.{sym, ap, ◌∙◌}
 use Rattle.areas.specs.declared.Bits.{Bits}
-use Rattle.areas.specs.Answers.{toldBits}
+use Rattle.areas.specs.Answers.{told_bits}
 use Rattle.numbers.specs.Packed.{packed, nothing}
 use Rattle.numbers.specs.Listed.{lent}
 use Rattle.areaexports.specs.Listed.{axes}
@@ -22,13 +22,13 @@ returns : tie.Need-returns
 returns c =
     let told = c.before.before.answer.given.1 in
     let before = c.before.before.before.before.args.list.now in
-    (sym (ap (λ (z : Bits). packed nothing (toldBits z)) told), sym (ap (λ (z : Bits). lent axes (toldBits z) before) told))
+    (sym (ap (λ (z : Bits). packed nothing (told_bits z)) told), sym (ap (λ (z : Bits). lent axes (told_bits z) before) told))
 
 returns-2 : tie.Need-returns-2
 returns-2 c =
     let told = c.before.before.answer2.given.1 in
     let before = c.before.before.before.before.args.list.now in
-    (c.refused.ensures ∙ sym (ap (λ (z : Bits). packed nothing (toldBits z)) told), sym (ap (λ (z : Bits). lent axes (toldBits z) before) told))
+    (c.refused.ensures ∙ sym (ap (λ (z : Bits). packed nothing (told_bits z)) told), sym (ap (λ (z : Bits). lent axes (told_bits z) before) told))
 
 pub lend-bits-spec : {M : Type 1} → statement M
 lend-bits-spec =

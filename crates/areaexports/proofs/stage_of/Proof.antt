@@ -1,15 +1,15 @@
 -- `areaexports::stage_of` meets its contract, case by case.
 use mathlib.Core.Path.{sym, ap}
 use borrow.Author.Tests.{ne_eqb}
-use Rattle.areaexports.specs.Stored.{stageOf}
+use Rattle.areaexports.specs.Stored.{stage_of}
 use Rattle.areaexports.proofs.stage_of.Statement.{statement}
 use Rattle.areaexports.proofs.stage_of.Tie as tie
 
 returns : tie.Need-returns
-returns c = sym (ap stageOf c.match.keys1)
+returns c = sym (ap stage_of c.match.keys1)
 
 returns-2 : tie.Need-returns-2
-returns-2 c = sym (ap stageOf c.match.keys2)
+returns-2 c = sym (ap stage_of c.match.keys2)
 
 returns-3 : tie.Need-returns-3
 returns-3 c =

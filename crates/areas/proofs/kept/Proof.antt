@@ -2,9 +2,9 @@
 use Rattle.std.proofs.Common.{◌≡◌, sym, ap, ◌∙◌, rules}
 use mathlib.Core.Option.{some}
 use Rattle.format.specs.Result.{ok}
-use Rattle.format.specs.Geography.{readPolygon, bodyKept}
+use Rattle.format.specs.Geography.{read_polygon, body_kept}
 use Rattle.areas.specs.declared.Seen.{Seen}
-use Rattle.areas.proofs.Answers.{survey-go, survey-halt}
+use Rattle.areas.proofs.Answers.{survey_go, survey_halt}
 use Rattle.areas.proofs.kept.Statement.{statement}
 use Rattle.areas.proofs.kept.Tie as tie
 
@@ -23,14 +23,14 @@ survey-refusal-requires c κs = search rules
 returns : tie.Need-returns
 returns c =
     let a = c.before.before.before.before.before.args in
-    let stop = survey-halt 0 (readPolygon a.b.now) c.before.before.before.survey.ensures c.before.enum_told.given.1 c.survey-refusal.ensures in
+    let stop = survey_halt 0 (read_polygon a.b.now) c.before.before.before.survey.ensures c.before.enum_told.given.1 c.survey-refusal.ensures in
     rw stop
 
 returns-2 : tie.Need-returns-2
 returns-2 c =
     let a = c.before.before.before.before.before.args in
-    let go = survey-go 0 (readPolygon a.b.now) c.before.before.before.survey.ensures c.before.surveyed.given.1 in
-    rw go.1 (ap (λ (s : Seen). ok (some (s.end, bodyKept))) go.2)
+    let go = survey_go 0 (read_polygon a.b.now) c.before.before.before.survey.ensures c.before.surveyed.given.1 in
+    rw go.1 (ap (λ (s : Seen). ok (some (s.end, body_kept))) go.2)
 
 pub kept-spec : {M : Type 1} → statement M
 kept-spec =

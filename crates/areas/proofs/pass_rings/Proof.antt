@@ -2,8 +2,8 @@
 use Rattle.std.proofs.Common.{◌≡◌, ◌+◌, ◌-◌, ◌<◌, ◌≤◌, ltb, sym, refl, ap, ◌∙◌, arith, rules, le-ltb, lt-ltb}
 use native.Mathlib.Decide.{dec_lt}
 use Rattle.format.specs.Result.{pick}
-use Rattle.message.proofs.Parts.{bytes-all}
-use Rattle.areas.proofs.Rounds.{Rest, rings-start, rings-done, rings-turn, rings-stop}
+use Rattle.message.proofs.Parts.{bytes_all}
+use Rattle.areas.proofs.Rounds.{Rest, rings_start, rings_done, rings_turn, rings_stop}
 use Rattle.areas.proofs.pass_rings.Statement.{statement}
 use Rattle.areas.proofs.pass_rings.Tie as tie
 
@@ -32,8 +32,8 @@ returns : tie.Need-returns invariant-loop decreases-loop
 returns c =
     let a = c.before.before.before.before.before.before.before.args in
     let l = c.before.before.before.before.before.loop in
-    let by = bytes-all a.b.now (λ k. (c.before.before.before.before.before.before.shared-slice-known.given k).fits) in
-    sym (rings-stop a.b.now a.sought by a.n l.i l.at l.found c.before.before.before.before.loop-test.true c.before.before.before.pass-ring.ensures c.before.enum_told.given.1 c.next-refusal.ensures) ∙ l.invariant.2 ∙ rings-start a.b.now a.sought a.n a.from
+    let by = bytes_all a.b.now (λ k. (c.before.before.before.before.before.before.shared-slice-known.given k).fits) in
+    sym (rings_stop a.b.now a.sought by a.n l.i l.at l.found c.before.before.before.before.loop-test.true c.before.before.before.pass-ring.ensures c.before.enum_told.given.1 c.next-refusal.ensures) ∙ l.invariant.2 ∙ rings_start a.b.now a.sought a.n a.from
 
 either-requires : tie.Need-either-requires invariant-loop decreases-loop
 either-requires c κs = search rules
@@ -48,15 +48,15 @@ loop-again : tie.Need-loop-preserved invariant-loop decreases-loop
 loop-again c =
     let a = c.before.before.before.before.before.before.before.before.args in
     let l = c.before.before.before.before.before.before.loop in
-    let by = bytes-all a.b.now (λ k. (c.before.before.before.before.before.before.before.shared-slice-known.given k).fits) in
-    let turn = rings-turn a.b.now a.sought by a.n l.i l.at l.found c.before.before.before.before.before.loop-test.true c.before.before.before.before.pass-ring.ensures c.before.before.step.given.1 l.invariant.1 in
+    let by = bytes_all a.b.now (λ k. (c.before.before.before.before.before.before.before.shared-slice-known.given k).fits) in
+    let turn = rings_turn a.b.now a.sought by a.n l.i l.at l.found c.before.before.before.before.before.loop-test.true c.before.before.before.before.pass-ring.ensures c.before.before.step.given.1 l.invariant.1 in
     (search rules, (λ h. c.either.ensures ∙ rw (lt-ltb l.i a.sought (omega arith))), rw c.either.ensures turn ∙ l.invariant.2)
 
 returns-2 : tie.Need-returns-2 invariant-loop decreases-loop
 returns-2 c =
     let a = c.before.before.before.args in
     let l = c.before.loop in
-    sym (rings-done a.b.now a.sought a.n l.i l.at l.found c.loop-test.false) ∙ l.invariant.2 ∙ rings-start a.b.now a.sought a.n a.from
+    sym (rings_done a.b.now a.sought a.n l.i l.at l.found c.loop-test.false) ∙ l.invariant.2 ∙ rings_start a.b.now a.sought a.n a.from
 
 pub pass-rings-spec : {M : Type 1} → statement M
 pass-rings-spec =

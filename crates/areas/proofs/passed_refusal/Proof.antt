@@ -1,6 +1,6 @@
 -- `areas::passed_refusal` meets its contract. Assumes nothing.
 use Rattle.std.proofs.Common.{sym, ap, rules}
-use Rattle.areas.specs.Passes.{passedNo}
+use Rattle.areas.specs.Passes.{passed_no}
 use Rattle.areas.proofs.passed_refusal.Statement.{statement}
 use Rattle.areas.proofs.passed_refusal.Tie as tie
 
@@ -11,7 +11,7 @@ enum-known-a : tie.Need-enum-known-a
 enum-known-a c = search rules
 
 returns : tie.Need-returns
-returns c = sym (ap passedNo c.enum_told.given.1)
+returns c = sym (ap passed_no c.enum_told.given.1)
 
 returns-2 : tie.Need-returns-2
 returns-2 c = search rules

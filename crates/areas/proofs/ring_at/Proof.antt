@@ -1,6 +1,6 @@
 -- `areas::ring_at` meets its contract. Assumes nothing.
 use Rattle.std.proofs.Common.{◌≡◌, sym, ap, ◌∙◌, rules}
-use Rattle.scan.proofs.Params.{byte-is}
+use Rattle.scan.proofs.Params.{byte_is}
 use Rattle.areas.proofs.ring_at.Statement.{statement}
 use Rattle.areas.proofs.ring_at.Tie as tie
 
@@ -16,7 +16,7 @@ four-requires c κs = search rules
 returns : tie.Need-returns
 returns c =
     let a = c.before.before.before.args in
-    rw (byte-is a.b.now a.at, c.four.ensures.0)
+    rw (byte_is a.b.now a.at, c.four.ensures.0)
 
 pub ring-at-spec : {M : Type 1} → statement M
 ring-at-spec = tie.close (tie.spec shared-slice-read-t4 add-four four-requires returns)

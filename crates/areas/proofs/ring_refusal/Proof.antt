@@ -1,6 +1,6 @@
 -- `areas::ring_refusal` meets its contract. Assumes nothing.
 use Rattle.std.proofs.Common.{sym, ap, rules}
-use Rattle.areas.specs.Answers.{ringNo}
+use Rattle.areas.specs.Answers.{ring_no}
 use Rattle.areas.proofs.ring_refusal.Statement.{statement}
 use Rattle.areas.proofs.ring_refusal.Tie as tie
 
@@ -11,7 +11,7 @@ enum-known-a : tie.Need-enum-known-a
 enum-known-a c = search rules
 
 returns : tie.Need-returns
-returns c = sym (ap ringNo c.enum_told.given.1)
+returns c = sym (ap ring_no c.enum_told.given.1)
 
 returns-2 : tie.Need-returns-2
 returns-2 c = search rules

@@ -1,9 +1,9 @@
 -- `areas::rings` meets its contract: one pass says it. Assumes nothing.
 use Rattle.std.proofs.Common.{◌≡◌, sym, ap, ◌∙◌, rules}
 use Rattle.format.specs.Result.{ok, bind}
-use Rattle.format.specs.Geography.{readPolygon}
+use Rattle.format.specs.Geography.{read_polygon}
 use Rattle.areas.specs.declared.Seen.{Seen}
-use Rattle.areas.proofs.Answers.{survey-go, survey-halt}
+use Rattle.areas.proofs.Answers.{survey_go, survey_halt}
 use Rattle.areas.proofs.rings.Statement.{statement}
 use Rattle.areas.proofs.rings.Tie as tie
 
@@ -22,13 +22,13 @@ survey-refusal-requires c κs = search rules
 returns : tie.Need-returns
 returns c =
     let a = c.before.before.before.before.before.args in
-    let stop = survey-halt 0 (readPolygon a.b.now) c.before.before.before.survey.ensures c.before.enum_told.given.1 c.survey-refusal.ensures in
+    let stop = survey_halt 0 (read_polygon a.b.now) c.before.before.before.survey.ensures c.before.enum_told.given.1 c.survey-refusal.ensures in
     rw stop
 
 returns-2 : tie.Need-returns-2
 returns-2 c =
     let a = c.before.before.before.before.before.args in
-    let go = survey-go 0 (readPolygon a.b.now) c.before.before.before.survey.ensures c.before.surveyed.given.1 in
+    let go = survey_go 0 (read_polygon a.b.now) c.before.before.before.survey.ensures c.before.surveyed.given.1 in
     rw go.1 (ap ok (ap (λ (s : Seen). s.rings) go.2))
 
 pub rings-spec : {M : Type 1} → statement M

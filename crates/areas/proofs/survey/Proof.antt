@@ -2,14 +2,14 @@
 use Rattle.std.proofs.Common.{◌≡◌, ◌+◌, ◌<◌, ◌≤◌, List, length, replicate, sym, ap, ◌∙◌, arith, rules}
 use Rattle.format.specs.Format.{each, block}
 use Rattle.format.specs.Message.{first}
-use Rattle.format.specs.Geography.{ring, bodyKept}
-use Rattle.scan.specs.Shown.{shownNext}
-use Rattle.scan.proofs.Answers.{next-go, next-stop}
-use Rattle.scan.proofs.Steps.{block-ends}
-use Rattle.message.proofs.Parts.{bytes-all}
-use Rattle.areas.specs.Passes.{head, shownSurvey}
-use Rattle.areas.proofs.Answers.{head-go, head-halt, rings-go, rings-halt}
-use Rattle.areas.proofs.Surveys.{head-refuses, rings-refuse, kept-refuses, left_over, surveyed}
+use Rattle.format.specs.Geography.{ring, body_kept}
+use Rattle.scan.specs.Shown.{shown_next}
+use Rattle.scan.proofs.Answers.{next_go, next_stop}
+use Rattle.scan.proofs.Steps.{block_ends}
+use Rattle.message.proofs.Parts.{bytes_all}
+use Rattle.areas.specs.Passes.{head, shown_survey}
+use Rattle.areas.proofs.Answers.{head_go, head_halt, rings_go, rings_halt}
+use Rattle.areas.proofs.Surveys.{head_refuses, rings_refuse, kept_refuses, left_over, surveyed}
 use Rattle.areas.proofs.survey.Statement.{statement}
 use Rattle.areas.proofs.survey.Tie as tie
 
@@ -28,8 +28,8 @@ number-refusal-requires c κs = search rules
 returns : tie.Need-returns
 returns c =
     let a = c.before.before.before.before.before.args in
-    let stop = head-halt (head.read a.b.now 0) c.before.before.before.read_head.ensures c.before.enum_told.given.1 c.number-refusal.ensures in
-    sym (ap (shownSurvey a.sought) (head-refuses a.b.now stop))
+    let stop = head_halt (head.read a.b.now 0) c.before.before.before.read_head.ensures c.before.enum_told.given.1 c.number-refusal.ensures in
+    sym (ap (shown_survey a.sought) (head_refuses a.b.now stop))
 
 pass-rings-requires : tie.Need-pass-rings-requires
 pass-rings-requires c κs = search rules
@@ -46,9 +46,9 @@ passed-refusal-requires c κs = search rules
 returns-2 : tie.Need-returns-2
 returns-2 c =
     let a = c.before.before.before.before.before.before.before.before.before.args in
-    let h = head-go (head.read a.b.now 0) c.before.before.before.before.before.before.before.read_head.ensures c.before.before.before.before.before.head.given.1 in
-    let stop = rings-halt _ a.sought ((each first 0 (replicate h.0.1.1.1 ring)).read a.b.now _) (rw h.1 at c.before.before.before.pass-rings.ensures) c.before.enum-told2.given.1 c.passed-refusal.ensures in
-    sym (ap (shownSurvey a.sought) (rings-refuse a.b.now h.0 _ h.2 stop))
+    let h = head_go (head.read a.b.now 0) c.before.before.before.before.before.before.before.read_head.ensures c.before.before.before.before.before.head.given.1 in
+    let stop = rings_halt _ a.sought ((each first 0 (replicate h.0.1.1.1 ring)).read a.b.now _) (rw h.1 at c.before.before.before.pass-rings.ensures) c.before.enum-told2.given.1 c.passed-refusal.ensures in
+    sym (ap (shown_survey a.sought) (rings_refuse a.b.now h.0 _ h.2 stop))
 
 skip-fixed-requires : tie.Need-skip-fixed-requires
 skip-fixed-requires c κs = search rules
@@ -65,26 +65,26 @@ next-refusal-requires c κs = search rules
 returns-3 : tie.Need-returns-3
 returns-3 c =
     let a = c.before.before.before.before.before.before.before.before.before.before.before.before.before.args in
-    let h = head-go (head.read a.b.now 0) c.before.before.before.before.before.before.before.before.before.before.before.read_head.ensures c.before.before.before.before.before.before.before.before.before.head.given.1 in
-    let r = rings-go _ a.sought ((each first 0 (replicate h.0.1.1.1 ring)).read a.b.now _) (rw h.1 at c.before.before.before.before.before.before.before.pass-rings.ensures) c.before.before.before.before.before.passed.given.1 in
-    let stop = next-stop ((block bodyKept 68).read a.b.now _) (c.before.before.before.skip-fixed.ensures ∙ sym (block-ends bodyKept 68 a.b.now _)) c.before.enum-told3.given.1 c.next-refusal.ensures in
-    sym (ap (shownSurvey a.sought) (kept-refuses a.b.now h.0 _ h.2 r.0 _ r.1 stop))
+    let h = head_go (head.read a.b.now 0) c.before.before.before.before.before.before.before.before.before.before.before.read_head.ensures c.before.before.before.before.before.before.before.before.before.head.given.1 in
+    let r = rings_go _ a.sought ((each first 0 (replicate h.0.1.1.1 ring)).read a.b.now _) (rw h.1 at c.before.before.before.before.before.before.before.pass-rings.ensures) c.before.before.before.before.before.passed.given.1 in
+    let stop = next_stop ((block body_kept 68).read a.b.now _) (c.before.before.before.skip-fixed.ensures ∙ sym (block_ends body_kept 68 a.b.now _)) c.before.enum-told3.given.1 c.next-refusal.ensures in
+    sym (ap (shown_survey a.sought) (kept_refuses a.b.now h.0 _ h.2 r.0 _ r.1 stop))
 
 returns-4 : tie.Need-returns-4
 returns-4 c =
     let a = c.before.before.before.before.before.before.before.before.before.before.before.before.before.before.args in
-    let h = head-go (head.read a.b.now 0) c.before.before.before.before.before.before.before.before.before.before.before.before.read_head.ensures c.before.before.before.before.before.before.before.before.before.before.head.given.1 in
-    let r = rings-go _ a.sought ((each first 0 (replicate h.0.1.1.1 ring)).read a.b.now _) (rw h.1 at c.before.before.before.before.before.before.before.before.pass-rings.ensures) c.before.before.before.before.before.before.passed.given.1 in
-    let k = next-go ((block bodyKept 68).read a.b.now _) (c.before.before.before.before.skip-fixed.ensures ∙ sym (block-ends bodyKept 68 a.b.now _)) c.before.before.kept.given.1 in
-    sym (ap (shownSurvey a.sought) (left_over a.b.now h.0 _ h.2 r.0 _ r.1 k.0 _ k.1 c.if1.true))
+    let h = head_go (head.read a.b.now 0) c.before.before.before.before.before.before.before.before.before.before.before.before.read_head.ensures c.before.before.before.before.before.before.before.before.before.before.head.given.1 in
+    let r = rings_go _ a.sought ((each first 0 (replicate h.0.1.1.1 ring)).read a.b.now _) (rw h.1 at c.before.before.before.before.before.before.before.before.pass-rings.ensures) c.before.before.before.before.before.before.passed.given.1 in
+    let k = next_go ((block body_kept 68).read a.b.now _) (c.before.before.before.before.skip-fixed.ensures ∙ sym (block_ends body_kept 68 a.b.now _)) c.before.before.kept.given.1 in
+    sym (ap (shown_survey a.sought) (left_over a.b.now h.0 _ h.2 r.0 _ r.1 k.0 _ k.1 c.if1.true))
 
 returns-5 : tie.Need-returns-5
 returns-5 c =
     let a = c.before.before.before.before.before.before.before.before.before.before.before.before.before.before.args in
-    let by = bytes-all a.b.now (λ k. (c.before.before.before.before.before.before.before.before.before.before.before.before.before.shared-slice-known.given k).fits) in
-    let h = head-go (head.read a.b.now 0) c.before.before.before.before.before.before.before.before.before.before.before.before.read_head.ensures c.before.before.before.before.before.before.before.before.before.before.head.given.1 in
-    let r = rings-go _ a.sought ((each first 0 (replicate h.0.1.1.1 ring)).read a.b.now _) (rw h.1 at c.before.before.before.before.before.before.before.before.pass-rings.ensures) c.before.before.before.before.before.before.passed.given.1 in
-    let k = next-go ((block bodyKept 68).read a.b.now _) (c.before.before.before.before.skip-fixed.ensures ∙ sym (block-ends bodyKept 68 a.b.now _)) c.before.before.kept.given.1 in
+    let by = bytes_all a.b.now (λ k. (c.before.before.before.before.before.before.before.before.before.before.before.before.before.shared-slice-known.given k).fits) in
+    let h = head_go (head.read a.b.now 0) c.before.before.before.before.before.before.before.before.before.before.before.before.read_head.ensures c.before.before.before.before.before.before.before.before.before.before.head.given.1 in
+    let r = rings_go _ a.sought ((each first 0 (replicate h.0.1.1.1 ring)).read a.b.now _) (rw h.1 at c.before.before.before.before.before.before.before.before.pass-rings.ensures) c.before.before.before.before.before.before.passed.given.1 in
+    let k = next_go ((block body_kept 68).read a.b.now _) (c.before.before.before.before.skip-fixed.ensures ∙ sym (block_ends body_kept 68 a.b.now _)) c.before.before.kept.given.1 in
     rw (h.1, r.2) (sym (surveyed a.b.now h.0 _ h.2 r.0 _ r.1 k.0 _ k.1 by c.if1.false a.sought))
 
 pub survey-spec : {M : Type 1} → statement M

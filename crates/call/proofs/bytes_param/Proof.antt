@@ -6,24 +6,24 @@ use mathlib.Core.List.{List, [], ◌++◌}
 use native.Mathlib.Omega.{arith}
 use lib.ListN.{length}
 use Rattle.format.specs.declared.Fault.TheVariants.{WireType}
-use Rattle.format.specs.Number.{numBytes}
-use Rattle.format.specs.Message.{mostItems, unlimited}
-use Rattle.format.proofs.Numbers.{length-numBytes}
+use Rattle.format.specs.Number.{num_bytes}
+use Rattle.format.specs.Message.{most_items, unlimited}
+use Rattle.format.proofs.Numbers.{length-num_bytes}
 use Rattle.put.specs.Put.{put, optional, sized}
-use Rattle.put.proofs.Laws.{put-nothing, puts, puts-number, puts-both}
+use Rattle.put.proofs.Laws.{put_nothing, puts, puts_number, puts_both}
 use Rattle.steps.specs.declared.Stage.TheVariants.{Call, Array, Reply, Table, Row}
-use Rattle.steps.specs.State.{isElement}
+use Rattle.steps.specs.State.{is_element}
 use Rattle.write.specs.Shown.{seen}
-use Rattle.write.proofs.Taken.{step-refused, step-accepted, step-taken, room, counts}
-use Rattle.steps.proofs.Sound.{at_stage, between-call, between-reply, within, around, along, outer-places}
-use Rattle.format.specs.Value.{fixed, body, width_of, tArray, tTinyint}
-use Rattle.put.proofs.Laws.{width-most, sized-most}
+use Rattle.write.proofs.Taken.{step_refused, step_accepted, step_taken, room, counts}
+use Rattle.steps.proofs.Sound.{at_stage_lem, between_call, between_reply, within, around, along, outer_places}
+use Rattle.format.specs.Value.{fixed, body, width_of, t_array, t_tinyint}
+use Rattle.put.proofs.Laws.{width_most, sized_most}
 use Rattle.steps.specs.Plans.{also, test}
-use Rattle.steps.specs.Arguments.{valueFault}
-use Rattle.steps.specs.Steps.{oneParam, bytesParam, element}
-use Rattle.steps.proofs.Back.{also-fine}
-use Rattle.write.proofs.Bytes.{one-bytes, fixed-bytes, body_bytes, array-bytes}
-use Rattle.call.proofs.Answers.{fixed-size, body-size, array_size, fixed_answer, body-answer, bytes-answer, element-fixed, element-body}
+use Rattle.steps.specs.Arguments.{value_fault}
+use Rattle.steps.specs.Steps.{one_param, bytes_param, element}
+use Rattle.steps.proofs.Back.{also_fine}
+use Rattle.write.proofs.Bytes.{one_bytes, fixed_bytes, body_bytes_lem, array_bytes}
+use Rattle.call.proofs.Answers.{fixed_size, body_size, array_size, fixed_answer, body_answer, bytes_answer, element_fixed, element_body}
 use mathlib.Core.Bool.{false}
 use mathlib.Core.Option.{some}
 use borrow.Author.Rules.{rules}
@@ -43,7 +43,7 @@ text-size-requires : tie.Need-text-size-requires
 text-size-requires c κs = tt
 
 add-bytes : tie.Need-overflow-add-bytes
-add-bytes c = omega (arith, sized-most false c.before.before.before.before.before.before.args.s.now, c.text-size.ensures)
+add-bytes c = omega (arith, sized_most false c.before.before.before.before.before.before.args.s.now, c.text-size.ensures)
 
 judge-requires : tie.Need-judge-requires
 judge-requires c κs = tt
@@ -55,29 +55,29 @@ enum_told : tie.Need-enum-told
 enum_told c = search rules
 
 returns : tie.Need-returns
-returns c = step-refused (bytesParam c.before.before.before.before.before.before.before.before.before.args.s.now) c.before.before.before.before.before.before.before.before.before.args.st c.before.before.before.before.before.before.before.before.before.args.out.now [] (bytes-answer (seen c.before.before.before.before.before.before.before.before.before.args.st []) (length c.before.before.before.before.before.before.before.before.before.args.out.now) c.before.before.before.before.before.before.before.before.before.args.s.now c.before.before.before.before.before.before.at_call.ensures c.before.before.before.before.before.bytes-fault.ensures c.before.before.before.before.one_more.ensures c.before.before.before.text-size.ensures c.before.before.judge.ensures) c.enum_told.given.1
+returns c = step_refused (bytes_param c.before.before.before.before.before.before.before.before.before.args.s.now) c.before.before.before.before.before.before.before.before.before.args.st c.before.before.before.before.before.before.before.before.before.args.out.now [] (bytes_answer (seen c.before.before.before.before.before.before.before.before.before.args.st []) (length c.before.before.before.before.before.before.before.before.before.args.out.now) c.before.before.before.before.before.before.before.before.before.args.s.now c.before.before.before.before.before.before.at_call.ensures c.before.before.before.before.before.bytes-fault.ensures c.before.before.before.before.one_more.ensures c.before.before.before.text-size.ensures c.before.before.judge.ensures) c.enum_told.given.1
 
 number-at-requires : tie.Need-number-at-requires
 number-at-requires c κs =
-    let h : c.before.before.before.before.before.before.before.before.before.before.before.args.st.position + (2 + length (sized (some c.before.before.before.before.before.before.before.before.before.before.before.args.s.now))) ≤ (length c.before.before.before.before.before.before.before.before.before.before.before.args.out.now) = room (step-accepted (bytesParam c.before.before.before.before.before.before.before.before.before.before.before.args.s.now) c.before.before.before.before.before.before.before.before.before.before.before.args.st c.before.before.before.before.before.before.before.before.before.before.before.args.out.now [] (bytes-answer (seen c.before.before.before.before.before.before.before.before.before.before.before.args.st []) (length c.before.before.before.before.before.before.before.before.before.before.before.args.out.now) c.before.before.before.before.before.before.before.before.before.before.before.args.s.now c.before.before.before.before.before.before.before.before.at_call.ensures c.before.before.before.before.before.before.before.bytes-fault.ensures c.before.before.before.before.before.before.one_more.ensures c.before.before.before.before.before.text-size.ensures c.before.before.before.before.judge.ensures) c.before.before.a.given.1) (array_size c.before.before.before.before.before.before.before.before.before.before.before.args.s.now) in
+    let h : c.before.before.before.before.before.before.before.before.before.before.before.args.st.position + (2 + length (sized (some c.before.before.before.before.before.before.before.before.before.before.before.args.s.now))) ≤ (length c.before.before.before.before.before.before.before.before.before.before.before.args.out.now) = room (step_accepted (bytes_param c.before.before.before.before.before.before.before.before.before.before.before.args.s.now) c.before.before.before.before.before.before.before.before.before.before.before.args.st c.before.before.before.before.before.before.before.before.before.before.before.args.out.now [] (bytes_answer (seen c.before.before.before.before.before.before.before.before.before.before.before.args.st []) (length c.before.before.before.before.before.before.before.before.before.before.before.args.out.now) c.before.before.before.before.before.before.before.before.before.before.before.args.s.now c.before.before.before.before.before.before.before.before.at_call.ensures c.before.before.before.before.before.before.before.bytes-fault.ensures c.before.before.before.before.before.before.one_more.ensures c.before.before.before.before.before.text-size.ensures c.before.before.before.before.judge.ensures) c.before.before.a.given.1) (array_size c.before.before.before.before.before.before.before.before.before.before.before.args.s.now) in
     omega arith
 
 number-at-requires-2 : tie.Need-number-at-requires-2
 number-at-requires-2 c κs =
-    let h : c.before.before.before.before.before.before.before.before.before.before.before.before.before.before.before.args.st.position + (2 + length (sized (some c.before.before.before.before.before.before.before.before.before.before.before.before.before.before.before.args.s.now))) ≤ (length c.before.before.before.before.before.before.before.before.before.before.before.before.before.before.before.args.out.now) = room (step-accepted (bytesParam c.before.before.before.before.before.before.before.before.before.before.before.before.before.before.before.args.s.now) c.before.before.before.before.before.before.before.before.before.before.before.before.before.before.before.args.st c.before.before.before.before.before.before.before.before.before.before.before.before.before.before.before.args.out.now [] (bytes-answer (seen c.before.before.before.before.before.before.before.before.before.before.before.before.before.before.before.args.st []) (length c.before.before.before.before.before.before.before.before.before.before.before.before.before.before.before.args.out.now) c.before.before.before.before.before.before.before.before.before.before.before.before.before.before.before.args.s.now c.before.before.before.before.before.before.before.before.before.before.before.before.at_call.ensures c.before.before.before.before.before.before.before.before.before.before.before.bytes-fault.ensures c.before.before.before.before.before.before.before.before.before.before.one_more.ensures c.before.before.before.before.before.before.before.before.before.text-size.ensures c.before.before.before.before.before.before.before.before.judge.ensures) c.before.before.before.before.before.before.a.given.1) (array_size c.before.before.before.before.before.before.before.before.before.before.before.before.before.before.before.args.s.now) in
-    let p = puts-number c.before.before.before.before.before.before.before.before.before.before.before.before.before.before.before.args.out.now c.before.before.before.before.before.before.before.before.before.before.before.before.before.before.before.args.st.position 1 tArray (omega arith) c.before.before.before.number_at.ensures in
+    let h : c.before.before.before.before.before.before.before.before.before.before.before.before.before.before.before.args.st.position + (2 + length (sized (some c.before.before.before.before.before.before.before.before.before.before.before.before.before.before.before.args.s.now))) ≤ (length c.before.before.before.before.before.before.before.before.before.before.before.before.before.before.before.args.out.now) = room (step_accepted (bytes_param c.before.before.before.before.before.before.before.before.before.before.before.before.before.before.before.args.s.now) c.before.before.before.before.before.before.before.before.before.before.before.before.before.before.before.args.st c.before.before.before.before.before.before.before.before.before.before.before.before.before.before.before.args.out.now [] (bytes_answer (seen c.before.before.before.before.before.before.before.before.before.before.before.before.before.before.before.args.st []) (length c.before.before.before.before.before.before.before.before.before.before.before.before.before.before.before.args.out.now) c.before.before.before.before.before.before.before.before.before.before.before.before.before.before.before.args.s.now c.before.before.before.before.before.before.before.before.before.before.before.before.at_call.ensures c.before.before.before.before.before.before.before.before.before.before.before.bytes-fault.ensures c.before.before.before.before.before.before.before.before.before.before.one_more.ensures c.before.before.before.before.before.before.before.before.before.text-size.ensures c.before.before.before.before.before.before.before.before.judge.ensures) c.before.before.before.before.before.before.a.given.1) (array_size c.before.before.before.before.before.before.before.before.before.before.before.before.before.before.before.args.s.now) in
+    let p = puts_number c.before.before.before.before.before.before.before.before.before.before.before.before.before.before.before.args.out.now c.before.before.before.before.before.before.before.before.before.before.before.before.before.before.before.args.st.position 1 t_array (omega arith) c.before.before.before.number_at.ensures in
     omega arith
 
 text-at-requires : tie.Need-text-at-requires
 text-at-requires c κs =
-    let h : c.before.before.before.before.before.before.before.before.before.before.before.before.before.before.before.before.before.before.before.args.st.position + (2 + length (sized (some c.before.before.before.before.before.before.before.before.before.before.before.before.before.before.before.before.before.before.before.args.s.now))) ≤ (length c.before.before.before.before.before.before.before.before.before.before.before.before.before.before.before.before.before.before.before.args.out.now) = room (step-accepted (bytesParam c.before.before.before.before.before.before.before.before.before.before.before.before.before.before.before.before.before.before.before.args.s.now) c.before.before.before.before.before.before.before.before.before.before.before.before.before.before.before.before.before.before.before.args.st c.before.before.before.before.before.before.before.before.before.before.before.before.before.before.before.before.before.before.before.args.out.now [] (bytes-answer (seen c.before.before.before.before.before.before.before.before.before.before.before.before.before.before.before.before.before.before.before.args.st []) (length c.before.before.before.before.before.before.before.before.before.before.before.before.before.before.before.before.before.before.before.args.out.now) c.before.before.before.before.before.before.before.before.before.before.before.before.before.before.before.before.before.before.before.args.s.now c.before.before.before.before.before.before.before.before.before.before.before.before.before.before.before.before.at_call.ensures c.before.before.before.before.before.before.before.before.before.before.before.before.before.before.before.bytes-fault.ensures c.before.before.before.before.before.before.before.before.before.before.before.before.before.before.one_more.ensures c.before.before.before.before.before.before.before.before.before.before.before.before.before.text-size.ensures c.before.before.before.before.before.before.before.before.before.before.before.before.judge.ensures) c.before.before.before.before.before.before.before.before.before.before.a.given.1) (array_size c.before.before.before.before.before.before.before.before.before.before.before.before.before.before.before.before.before.before.before.args.s.now) in
-    let p = puts-number c.before.before.before.before.before.before.before.before.before.before.before.before.before.before.before.before.before.before.before.args.out.now c.before.before.before.before.before.before.before.before.before.before.before.before.before.before.before.before.before.before.before.args.st.position 1 tArray (omega arith) c.before.before.before.before.before.before.before.number_at.ensures in
-    let q = puts-number c.before.before.before.before.before.before.before.number_at.new.0 c.before.before.before.before.before.before.before.number_at.result 1 tTinyint (omega arith) c.before.before.before.number-at2.ensures in
+    let h : c.before.before.before.before.before.before.before.before.before.before.before.before.before.before.before.before.before.before.before.args.st.position + (2 + length (sized (some c.before.before.before.before.before.before.before.before.before.before.before.before.before.before.before.before.before.before.before.args.s.now))) ≤ (length c.before.before.before.before.before.before.before.before.before.before.before.before.before.before.before.before.before.before.before.args.out.now) = room (step_accepted (bytes_param c.before.before.before.before.before.before.before.before.before.before.before.before.before.before.before.before.before.before.before.args.s.now) c.before.before.before.before.before.before.before.before.before.before.before.before.before.before.before.before.before.before.before.args.st c.before.before.before.before.before.before.before.before.before.before.before.before.before.before.before.before.before.before.before.args.out.now [] (bytes_answer (seen c.before.before.before.before.before.before.before.before.before.before.before.before.before.before.before.before.before.before.before.args.st []) (length c.before.before.before.before.before.before.before.before.before.before.before.before.before.before.before.before.before.before.before.args.out.now) c.before.before.before.before.before.before.before.before.before.before.before.before.before.before.before.before.before.before.before.args.s.now c.before.before.before.before.before.before.before.before.before.before.before.before.before.before.before.before.at_call.ensures c.before.before.before.before.before.before.before.before.before.before.before.before.before.before.before.bytes-fault.ensures c.before.before.before.before.before.before.before.before.before.before.before.before.before.before.one_more.ensures c.before.before.before.before.before.before.before.before.before.before.before.before.before.text-size.ensures c.before.before.before.before.before.before.before.before.before.before.before.before.judge.ensures) c.before.before.before.before.before.before.before.before.before.before.a.given.1) (array_size c.before.before.before.before.before.before.before.before.before.before.before.before.before.before.before.before.before.before.before.args.s.now) in
+    let p = puts_number c.before.before.before.before.before.before.before.before.before.before.before.before.before.before.before.before.before.before.before.args.out.now c.before.before.before.before.before.before.before.before.before.before.before.before.before.before.before.before.before.before.before.args.st.position 1 t_array (omega arith) c.before.before.before.before.before.before.before.number_at.ensures in
+    let q = puts_number c.before.before.before.before.before.before.before.number_at.new.0 c.before.before.before.before.before.before.before.number_at.result 1 t_tinyint (omega arith) c.before.before.before.number-at2.ensures in
     omega arith
 
 add-between : tie.Need-overflow-add-between
 add-between c =
-    let h : c.before.before.before.before.before.before.before.before.before.before.before.before.before.before.before.before.before.before.before.before.before.before.before.args.st.count + 1 ≤ mostItems = counts c.before.before.before.before.before.before.before.before.before.before.before.before.before.before.before.before.before.before.before.before.before.before.before.args.st.count mostItems (step-accepted (bytesParam c.before.before.before.before.before.before.before.before.before.before.before.before.before.before.before.before.before.before.before.before.before.before.before.args.s.now) c.before.before.before.before.before.before.before.before.before.before.before.before.before.before.before.before.before.before.before.before.before.before.before.args.st c.before.before.before.before.before.before.before.before.before.before.before.before.before.before.before.before.before.before.before.before.before.before.before.args.out.now [] (bytes-answer (seen c.before.before.before.before.before.before.before.before.before.before.before.before.before.before.before.before.before.before.before.before.before.before.before.args.st []) (length c.before.before.before.before.before.before.before.before.before.before.before.before.before.before.before.before.before.before.before.before.before.before.before.args.out.now) c.before.before.before.before.before.before.before.before.before.before.before.before.before.before.before.before.before.before.before.before.before.before.before.args.s.now c.before.before.before.before.before.before.before.before.before.before.before.before.before.before.before.before.before.before.before.before.at_call.ensures c.before.before.before.before.before.before.before.before.before.before.before.before.before.before.before.before.before.before.before.bytes-fault.ensures c.before.before.before.before.before.before.before.before.before.before.before.before.before.before.before.before.before.before.one_more.ensures c.before.before.before.before.before.before.before.before.before.before.before.before.before.before.before.before.before.text-size.ensures c.before.before.before.before.before.before.before.before.before.before.before.before.before.before.before.before.judge.ensures) c.before.before.before.before.before.before.before.before.before.before.before.before.before.before.a.given.1) refl in
+    let h : c.before.before.before.before.before.before.before.before.before.before.before.before.before.before.before.before.before.before.before.before.before.before.before.args.st.count + 1 ≤ most_items = counts c.before.before.before.before.before.before.before.before.before.before.before.before.before.before.before.before.before.before.before.before.before.before.before.args.st.count most_items (step_accepted (bytes_param c.before.before.before.before.before.before.before.before.before.before.before.before.before.before.before.before.before.before.before.before.before.before.before.args.s.now) c.before.before.before.before.before.before.before.before.before.before.before.before.before.before.before.before.before.before.before.before.before.before.before.args.st c.before.before.before.before.before.before.before.before.before.before.before.before.before.before.before.before.before.before.before.before.before.before.before.args.out.now [] (bytes_answer (seen c.before.before.before.before.before.before.before.before.before.before.before.before.before.before.before.before.before.before.before.before.before.before.before.args.st []) (length c.before.before.before.before.before.before.before.before.before.before.before.before.before.before.before.before.before.before.before.before.before.before.before.args.out.now) c.before.before.before.before.before.before.before.before.before.before.before.before.before.before.before.before.before.before.before.before.before.before.before.args.s.now c.before.before.before.before.before.before.before.before.before.before.before.before.before.before.before.before.before.before.before.before.at_call.ensures c.before.before.before.before.before.before.before.before.before.before.before.before.before.before.before.before.before.before.before.bytes-fault.ensures c.before.before.before.before.before.before.before.before.before.before.before.before.before.before.before.before.before.before.one_more.ensures c.before.before.before.before.before.before.before.before.before.before.before.before.before.before.before.before.before.text-size.ensures c.before.before.before.before.before.before.before.before.before.before.before.before.before.before.before.before.judge.ensures) c.before.before.before.before.before.before.before.before.before.before.before.before.before.before.a.given.1) refl in
     omega arith
 
 between-requires : tie.Need-between-requires
@@ -88,11 +88,11 @@ same_length c = search rules
 
 returns-2 : tie.Need-returns-2
 returns-2 c =
-    let h : c.before.before.before.before.before.before.before.before.before.before.before.before.before.before.before.before.before.before.before.before.before.before.before.before.args.st.position + (2 + length (sized (some c.before.before.before.before.before.before.before.before.before.before.before.before.before.before.before.before.before.before.before.before.before.before.before.before.args.s.now))) ≤ (length c.before.before.before.before.before.before.before.before.before.before.before.before.before.before.before.before.before.before.before.before.before.before.before.before.args.out.now) = room (step-accepted (bytesParam c.before.before.before.before.before.before.before.before.before.before.before.before.before.before.before.before.before.before.before.before.before.before.before.before.args.s.now) c.before.before.before.before.before.before.before.before.before.before.before.before.before.before.before.before.before.before.before.before.before.before.before.before.args.st c.before.before.before.before.before.before.before.before.before.before.before.before.before.before.before.before.before.before.before.before.before.before.before.before.args.out.now [] (bytes-answer (seen c.before.before.before.before.before.before.before.before.before.before.before.before.before.before.before.before.before.before.before.before.before.before.before.before.args.st []) (length c.before.before.before.before.before.before.before.before.before.before.before.before.before.before.before.before.before.before.before.before.before.before.before.before.args.out.now) c.before.before.before.before.before.before.before.before.before.before.before.before.before.before.before.before.before.before.before.before.before.before.before.before.args.s.now c.before.before.before.before.before.before.before.before.before.before.before.before.before.before.before.before.before.before.before.before.before.at_call.ensures c.before.before.before.before.before.before.before.before.before.before.before.before.before.before.before.before.before.before.before.before.bytes-fault.ensures c.before.before.before.before.before.before.before.before.before.before.before.before.before.before.before.before.before.before.before.one_more.ensures c.before.before.before.before.before.before.before.before.before.before.before.before.before.before.before.before.before.before.text-size.ensures c.before.before.before.before.before.before.before.before.before.before.before.before.before.before.before.before.before.judge.ensures) c.before.before.before.before.before.before.before.before.before.before.before.before.before.before.before.a.given.1) (array_size c.before.before.before.before.before.before.before.before.before.before.before.before.before.before.before.before.before.before.before.before.before.before.before.before.args.s.now) in
-    let p = puts-number c.before.before.before.before.before.before.before.before.before.before.before.before.before.before.before.before.before.before.before.before.before.before.before.before.args.out.now c.before.before.before.before.before.before.before.before.before.before.before.before.before.before.before.before.before.before.before.before.before.before.before.before.args.st.position 1 tArray (omega arith) c.before.before.before.before.before.before.before.before.before.before.before.before.number_at.ensures in
-    let q = puts-number c.before.before.before.before.before.before.before.before.before.before.before.before.number_at.new.0 c.before.before.before.before.before.before.before.before.before.before.before.before.number_at.result 1 tTinyint (omega arith) c.before.before.before.before.before.before.before.before.number-at2.ensures in
+    let h : c.before.before.before.before.before.before.before.before.before.before.before.before.before.before.before.before.before.before.before.before.before.before.before.before.args.st.position + (2 + length (sized (some c.before.before.before.before.before.before.before.before.before.before.before.before.before.before.before.before.before.before.before.before.before.before.before.before.args.s.now))) ≤ (length c.before.before.before.before.before.before.before.before.before.before.before.before.before.before.before.before.before.before.before.before.before.before.before.before.args.out.now) = room (step_accepted (bytes_param c.before.before.before.before.before.before.before.before.before.before.before.before.before.before.before.before.before.before.before.before.before.before.before.before.args.s.now) c.before.before.before.before.before.before.before.before.before.before.before.before.before.before.before.before.before.before.before.before.before.before.before.before.args.st c.before.before.before.before.before.before.before.before.before.before.before.before.before.before.before.before.before.before.before.before.before.before.before.before.args.out.now [] (bytes_answer (seen c.before.before.before.before.before.before.before.before.before.before.before.before.before.before.before.before.before.before.before.before.before.before.before.before.args.st []) (length c.before.before.before.before.before.before.before.before.before.before.before.before.before.before.before.before.before.before.before.before.before.before.before.before.args.out.now) c.before.before.before.before.before.before.before.before.before.before.before.before.before.before.before.before.before.before.before.before.before.before.before.before.args.s.now c.before.before.before.before.before.before.before.before.before.before.before.before.before.before.before.before.before.before.before.before.before.at_call.ensures c.before.before.before.before.before.before.before.before.before.before.before.before.before.before.before.before.before.before.before.before.bytes-fault.ensures c.before.before.before.before.before.before.before.before.before.before.before.before.before.before.before.before.before.before.before.one_more.ensures c.before.before.before.before.before.before.before.before.before.before.before.before.before.before.before.before.before.before.text-size.ensures c.before.before.before.before.before.before.before.before.before.before.before.before.before.before.before.before.before.judge.ensures) c.before.before.before.before.before.before.before.before.before.before.before.before.before.before.before.a.given.1) (array_size c.before.before.before.before.before.before.before.before.before.before.before.before.before.before.before.before.before.before.before.before.before.before.before.before.args.s.now) in
+    let p = puts_number c.before.before.before.before.before.before.before.before.before.before.before.before.before.before.before.before.before.before.before.before.before.before.before.before.args.out.now c.before.before.before.before.before.before.before.before.before.before.before.before.before.before.before.before.before.before.before.before.before.before.before.before.args.st.position 1 t_array (omega arith) c.before.before.before.before.before.before.before.before.before.before.before.before.number_at.ensures in
+    let q = puts_number c.before.before.before.before.before.before.before.before.before.before.before.before.number_at.new.0 c.before.before.before.before.before.before.before.before.before.before.before.before.number_at.result 1 t_tinyint (omega arith) c.before.before.before.before.before.before.before.before.number-at2.ensures in
     let r = puts c.before.before.before.before.before.before.before.before.number-at2.new.0 c.before.before.before.before.before.before.before.before.number-at2.result (length (sized (some c.before.before.before.before.before.before.before.before.before.before.before.before.before.before.before.before.before.before.before.before.before.before.before.before.args.s.now))) (sized (some c.before.before.before.before.before.before.before.before.before.before.before.before.before.before.before.before.before.before.before.before.before.before.before.before.args.s.now)) refl (omega arith) c.before.before.before.before.text_at.ensures in
-    step-taken (bytesParam c.before.before.before.before.before.before.before.before.before.before.before.before.before.before.before.before.before.before.before.before.before.before.before.before.args.s.now) c.before.before.before.before.before.before.before.before.before.before.before.before.before.before.before.before.before.before.before.before.before.before.before.before.args.st c.before.before.before.before.before.before.before.before.before.before.before.before.before.before.before.before.before.before.before.before.before.before.before.before.args.out.now [] (bytes-answer (seen c.before.before.before.before.before.before.before.before.before.before.before.before.before.before.before.before.before.before.before.before.before.before.before.before.args.st []) (length c.before.before.before.before.before.before.before.before.before.before.before.before.before.before.before.before.before.before.before.before.before.before.before.before.args.out.now) c.before.before.before.before.before.before.before.before.before.before.before.before.before.before.before.before.before.before.before.before.before.before.before.before.args.s.now c.before.before.before.before.before.before.before.before.before.before.before.before.before.before.before.before.before.before.before.before.before.at_call.ensures c.before.before.before.before.before.before.before.before.before.before.before.before.before.before.before.before.before.before.before.before.bytes-fault.ensures c.before.before.before.before.before.before.before.before.before.before.before.before.before.before.before.before.before.before.before.one_more.ensures c.before.before.before.before.before.before.before.before.before.before.before.before.before.before.before.before.before.before.text-size.ensures c.before.before.before.before.before.before.before.before.before.before.before.before.before.before.before.before.before.judge.ensures) c.before.before.before.before.before.before.before.before.before.before.before.before.before.before.before.a.given.1 c.between.ensures ((puts-both p (puts-both q r)).is ∙ sym (ap (λ (bs : List ℕ). put c.before.before.before.before.before.before.before.before.before.before.before.before.before.before.before.before.before.before.before.before.before.before.before.before.args.out.now c.before.before.before.before.before.before.before.before.before.before.before.before.before.before.before.before.before.before.before.before.before.before.before.before.args.st.position bs) (array-bytes c.before.before.before.before.before.before.before.before.before.before.before.before.before.before.before.before.before.before.before.before.before.before.before.before.args.s.now)))
+    step_taken (bytes_param c.before.before.before.before.before.before.before.before.before.before.before.before.before.before.before.before.before.before.before.before.before.before.before.before.args.s.now) c.before.before.before.before.before.before.before.before.before.before.before.before.before.before.before.before.before.before.before.before.before.before.before.before.args.st c.before.before.before.before.before.before.before.before.before.before.before.before.before.before.before.before.before.before.before.before.before.before.before.before.args.out.now [] (bytes_answer (seen c.before.before.before.before.before.before.before.before.before.before.before.before.before.before.before.before.before.before.before.before.before.before.before.before.args.st []) (length c.before.before.before.before.before.before.before.before.before.before.before.before.before.before.before.before.before.before.before.before.before.before.before.before.args.out.now) c.before.before.before.before.before.before.before.before.before.before.before.before.before.before.before.before.before.before.before.before.before.before.before.before.args.s.now c.before.before.before.before.before.before.before.before.before.before.before.before.before.before.before.before.before.before.before.before.before.at_call.ensures c.before.before.before.before.before.before.before.before.before.before.before.before.before.before.before.before.before.before.before.before.bytes-fault.ensures c.before.before.before.before.before.before.before.before.before.before.before.before.before.before.before.before.before.before.before.one_more.ensures c.before.before.before.before.before.before.before.before.before.before.before.before.before.before.before.before.before.before.text-size.ensures c.before.before.before.before.before.before.before.before.before.before.before.before.before.before.before.before.before.judge.ensures) c.before.before.before.before.before.before.before.before.before.before.before.before.before.before.before.a.given.1 c.between.ensures ((puts_both p (puts_both q r)).is ∙ sym (ap (λ (bs : List ℕ). put c.before.before.before.before.before.before.before.before.before.before.before.before.before.before.before.before.before.before.before.before.before.before.before.before.args.out.now c.before.before.before.before.before.before.before.before.before.before.before.before.before.before.before.before.before.before.before.before.before.before.before.before.args.st.position bs) (array_bytes c.before.before.before.before.before.before.before.before.before.before.before.before.before.before.before.before.before.before.before.before.before.before.before.before.args.s.now)))
 
 pub bytes-param-spec : {M : Type 1} → statement M
 bytes-param-spec =

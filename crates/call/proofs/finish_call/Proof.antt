@@ -6,18 +6,18 @@ use mathlib.Core.List.{List, [], ◌++◌}
 use native.Mathlib.Omega.{arith}
 use lib.ListN.{length}
 use Rattle.format.specs.declared.Fault.TheVariants.{WireType}
-use Rattle.format.specs.Number.{numBytes}
-use Rattle.format.specs.Message.{mostItems, unlimited}
-use Rattle.format.proofs.Numbers.{length-numBytes}
+use Rattle.format.specs.Number.{num_bytes}
+use Rattle.format.specs.Message.{most_items, unlimited}
+use Rattle.format.proofs.Numbers.{length-num_bytes}
 use Rattle.put.specs.Put.{put, optional, sized}
-use Rattle.put.proofs.Laws.{put-nothing, puts, puts-number, puts-both}
+use Rattle.put.proofs.Laws.{put_nothing, puts, puts_number, puts_both}
 use Rattle.steps.specs.declared.Stage.TheVariants.{Call, Array, Reply, Table, Row}
-use Rattle.steps.specs.State.{isElement}
+use Rattle.steps.specs.State.{is_element}
 use Rattle.write.specs.Shown.{seen}
-use Rattle.write.proofs.Taken.{step-refused, step-accepted, step-taken, room, counts}
-use Rattle.steps.proofs.Sound.{at_stage, between-call, between-reply, within, around, along, outer-places}
-use Rattle.steps.specs.Steps.{finishCall}
-use Rattle.call.proofs.Answers.{finish-answer}
+use Rattle.write.proofs.Taken.{step_refused, step_accepted, step_taken, room, counts}
+use Rattle.steps.proofs.Sound.{at_stage_lem, between_call, between_reply, within, around, along, outer_places}
+use Rattle.steps.specs.Steps.{finish_call}
+use Rattle.call.proofs.Answers.{finish_answer}
 use borrow.Author.Rules.{rules}
 use Rattle.call.proofs.finish_call.Statement.{statement}
 use Rattle.call.proofs.finish_call.Tie as tie
@@ -35,11 +35,11 @@ enum_told : tie.Need-enum-told
 enum_told c = search rules
 
 returns : tie.Need-returns
-returns c = step-refused (finishCall) c.before.before.before.before.before.args.st c.before.before.before.before.before.args.out.now [] (finish-answer (seen c.before.before.before.before.before.args.st []) (length c.before.before.before.before.before.args.out.now) c.before.before.before.at_call.ensures c.before.before.judge.ensures) c.enum_told.given.1
+returns c = step_refused (finish_call) c.before.before.before.before.before.args.st c.before.before.before.before.before.args.out.now [] (finish_answer (seen c.before.before.before.before.before.args.st []) (length c.before.before.before.before.before.args.out.now) c.before.before.before.at_call.ensures c.before.before.judge.ensures) c.enum_told.given.1
 
 sub-number-at : tie.Need-overflow-sub-number-at
 sub-number-at c =
-    let o = between-call (seen c.before.before.before.before.before.before.before.args.st []) (length c.before.before.before.before.before.before.before.args.out.now) (at_stage Call (seen c.before.before.before.before.before.before.before.args.st []) (length c.before.before.before.before.before.before.before.args.out.now) (step-accepted (finishCall) c.before.before.before.before.before.before.before.args.st c.before.before.before.before.before.before.before.args.out.now [] (finish-answer (seen c.before.before.before.before.before.before.before.args.st []) (length c.before.before.before.before.before.before.before.args.out.now) c.before.before.before.before.before.at_call.ensures c.before.before.before.before.judge.ensures) c.before.before.a.given.1).fine.permitted) in
+    let o = between_call (seen c.before.before.before.before.before.before.before.args.st []) (length c.before.before.before.before.before.before.before.args.out.now) (at_stage_lem Call (seen c.before.before.before.before.before.before.before.args.st []) (length c.before.before.before.before.before.before.before.args.out.now) (step_accepted (finish_call) c.before.before.before.before.before.before.before.args.st c.before.before.before.before.before.before.before.args.out.now [] (finish_answer (seen c.before.before.before.before.before.before.before.args.st []) (length c.before.before.before.before.before.before.before.args.out.now) c.before.before.before.before.before.at_call.ensures c.before.before.before.before.judge.ensures) c.before.before.a.given.1).fine.permitted) in
     let f : 4 ≤ c.before.before.before.before.before.before.before.args.st.count_at = o.own.front in
     let g : c.before.before.before.before.before.before.before.args.st.count_at + 2 ≤ c.before.before.before.before.before.before.before.args.st.position = o.behind in
     let h : c.before.before.before.before.before.before.before.args.st.position ≤ (length c.before.before.before.before.before.before.before.args.out.now) = o.own.fits in
@@ -47,7 +47,7 @@ sub-number-at c =
 
 number-at-requires : tie.Need-number-at-requires
 number-at-requires c κs =
-    let o = between-call (seen c.before.before.before.before.before.before.before.args.st []) (length c.before.before.before.before.before.before.before.args.out.now) (at_stage Call (seen c.before.before.before.before.before.before.before.args.st []) (length c.before.before.before.before.before.before.before.args.out.now) (step-accepted (finishCall) c.before.before.before.before.before.before.before.args.st c.before.before.before.before.before.before.before.args.out.now [] (finish-answer (seen c.before.before.before.before.before.before.before.args.st []) (length c.before.before.before.before.before.before.before.args.out.now) c.before.before.before.before.before.at_call.ensures c.before.before.before.before.judge.ensures) c.before.before.a.given.1).fine.permitted) in
+    let o = between_call (seen c.before.before.before.before.before.before.before.args.st []) (length c.before.before.before.before.before.before.before.args.out.now) (at_stage_lem Call (seen c.before.before.before.before.before.before.before.args.st []) (length c.before.before.before.before.before.before.before.args.out.now) (step_accepted (finish_call) c.before.before.before.before.before.before.before.args.st c.before.before.before.before.before.before.before.args.out.now [] (finish_answer (seen c.before.before.before.before.before.before.before.args.st []) (length c.before.before.before.before.before.before.before.args.out.now) c.before.before.before.before.before.at_call.ensures c.before.before.before.before.judge.ensures) c.before.before.a.given.1).fine.permitted) in
     let f : 4 ≤ c.before.before.before.before.before.before.before.args.st.count_at = o.own.front in
     let g : c.before.before.before.before.before.before.before.args.st.count_at + 2 ≤ c.before.before.before.before.before.before.before.args.st.position = o.behind in
     let h : c.before.before.before.before.before.before.before.args.st.position ≤ (length c.before.before.before.before.before.before.before.args.out.now) = o.own.fits in
@@ -55,7 +55,7 @@ number-at-requires c κs =
 
 number-at-requires-2 : tie.Need-number-at-requires-2
 number-at-requires-2 c κs =
-    let o = between-call (seen c.before.before.before.before.before.before.before.before.before.before.before.args.st []) (length c.before.before.before.before.before.before.before.before.before.before.before.args.out.now) (at_stage Call (seen c.before.before.before.before.before.before.before.before.before.before.before.args.st []) (length c.before.before.before.before.before.before.before.before.before.before.before.args.out.now) (step-accepted (finishCall) c.before.before.before.before.before.before.before.before.before.before.before.args.st c.before.before.before.before.before.before.before.before.before.before.before.args.out.now [] (finish-answer (seen c.before.before.before.before.before.before.before.before.before.before.before.args.st []) (length c.before.before.before.before.before.before.before.before.before.before.before.args.out.now) c.before.before.before.before.before.before.before.before.before.at_call.ensures c.before.before.before.before.before.before.before.before.judge.ensures) c.before.before.before.before.before.before.a.given.1).fine.permitted) in
+    let o = between_call (seen c.before.before.before.before.before.before.before.before.before.before.before.args.st []) (length c.before.before.before.before.before.before.before.before.before.before.before.args.out.now) (at_stage_lem Call (seen c.before.before.before.before.before.before.before.before.before.before.before.args.st []) (length c.before.before.before.before.before.before.before.before.before.before.before.args.out.now) (step_accepted (finish_call) c.before.before.before.before.before.before.before.before.before.before.before.args.st c.before.before.before.before.before.before.before.before.before.before.before.args.out.now [] (finish_answer (seen c.before.before.before.before.before.before.before.before.before.before.before.args.st []) (length c.before.before.before.before.before.before.before.before.before.before.before.args.out.now) c.before.before.before.before.before.before.before.before.before.at_call.ensures c.before.before.before.before.before.before.before.before.judge.ensures) c.before.before.before.before.before.before.a.given.1).fine.permitted) in
     let f : 4 ≤ c.before.before.before.before.before.before.before.before.before.before.before.args.st.count_at = o.own.front in
     let g : c.before.before.before.before.before.before.before.before.before.before.before.args.st.count_at + 2 ≤ c.before.before.before.before.before.before.before.before.before.before.before.args.st.position = o.behind in
     let h : c.before.before.before.before.before.before.before.before.before.before.before.args.st.position ≤ (length c.before.before.before.before.before.before.before.before.before.before.before.args.out.now) = o.own.fits in
@@ -69,8 +69,8 @@ same_length c = search rules
 
 returns-2 : tie.Need-returns-2
 returns-2 c =
-    let there = c.before.before.before.before.before.before.before.number_at.ensures.1 ∙ sym (ap (λ (b : List ℕ). put b 0 (numBytes 4 (c.before.before.before.before.before.before.before.before.before.before.before.before.before.before.before.args.st.position - 4))) (put-nothing c.before.before.before.before.before.before.before.before.before.before.before.before.before.before.before.args.out.now c.before.before.before.before.before.before.before.before.before.before.before.before.before.before.before.args.st.position)) in
-    step-taken (finishCall) c.before.before.before.before.before.before.before.before.before.before.before.before.before.before.before.args.st c.before.before.before.before.before.before.before.before.before.before.before.before.before.before.before.args.out.now [] (finish-answer (seen c.before.before.before.before.before.before.before.before.before.before.before.before.before.before.before.args.st []) (length c.before.before.before.before.before.before.before.before.before.before.before.before.before.before.before.args.out.now) c.before.before.before.before.before.before.before.before.before.before.before.before.before.at_call.ensures c.before.before.before.before.before.before.before.before.before.before.before.before.judge.ensures) c.before.before.before.before.before.before.before.before.before.before.a.given.1 c.finished.ensures (c.before.before.before.number-at2.ensures.1 ∙ ap (λ (b : List ℕ). put b c.before.before.before.before.before.before.before.before.before.before.before.before.before.before.before.args.st.count_at (numBytes 2 c.before.before.before.before.before.before.before.before.before.before.before.before.before.before.before.args.st.count)) there)
+    let there = c.before.before.before.before.before.before.before.number_at.ensures.1 ∙ sym (ap (λ (b : List ℕ). put b 0 (num_bytes 4 (c.before.before.before.before.before.before.before.before.before.before.before.before.before.before.before.args.st.position - 4))) (put_nothing c.before.before.before.before.before.before.before.before.before.before.before.before.before.before.before.args.out.now c.before.before.before.before.before.before.before.before.before.before.before.before.before.before.before.args.st.position)) in
+    step_taken (finish_call) c.before.before.before.before.before.before.before.before.before.before.before.before.before.before.before.args.st c.before.before.before.before.before.before.before.before.before.before.before.before.before.before.before.args.out.now [] (finish_answer (seen c.before.before.before.before.before.before.before.before.before.before.before.before.before.before.before.args.st []) (length c.before.before.before.before.before.before.before.before.before.before.before.before.before.before.before.args.out.now) c.before.before.before.before.before.before.before.before.before.before.before.before.before.at_call.ensures c.before.before.before.before.before.before.before.before.before.before.before.before.judge.ensures) c.before.before.before.before.before.before.before.before.before.before.a.given.1 c.finished.ensures (c.before.before.before.number-at2.ensures.1 ∙ ap (λ (b : List ℕ). put b c.before.before.before.before.before.before.before.before.before.before.before.before.before.before.before.args.st.count_at (num_bytes 2 c.before.before.before.before.before.before.before.before.before.before.before.before.before.before.before.args.st.count)) there)
 
 pub finish-call-spec : {M : Type 1} → statement M
 finish-call-spec =

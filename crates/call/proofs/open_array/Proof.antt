@@ -6,21 +6,21 @@ use mathlib.Core.List.{List, [], ◌++◌}
 use native.Mathlib.Omega.{arith}
 use lib.ListN.{length}
 use Rattle.format.specs.declared.Fault.TheVariants.{WireType}
-use Rattle.format.specs.Number.{numBytes}
-use Rattle.format.specs.Message.{mostItems, unlimited}
-use Rattle.format.proofs.Numbers.{length-numBytes}
+use Rattle.format.specs.Number.{num_bytes}
+use Rattle.format.specs.Message.{most_items, unlimited}
+use Rattle.format.proofs.Numbers.{length-num_bytes}
 use Rattle.put.specs.Put.{put, optional, sized}
-use Rattle.put.proofs.Laws.{put-nothing, puts, puts-number, puts-both}
+use Rattle.put.proofs.Laws.{put_nothing, puts, puts_number, puts_both}
 use Rattle.steps.specs.declared.Stage.TheVariants.{Call, Array, Reply, Table, Row}
-use Rattle.steps.specs.State.{isElement}
+use Rattle.steps.specs.State.{is_element}
 use Rattle.write.specs.Shown.{seen}
-use Rattle.write.proofs.Taken.{step-refused, step-accepted, step-taken, room, counts}
-use Rattle.steps.proofs.Sound.{at_stage, between-call, between-reply, within, around, along, outer-places}
+use Rattle.write.proofs.Taken.{step_refused, step_accepted, step_taken, room, counts}
+use Rattle.steps.proofs.Sound.{at_stage_lem, between_call, between_reply, within, around, along, outer_places}
 use Rattle.steps.specs.Plans.{test}
-use Rattle.steps.specs.Steps.{openArray}
-use Rattle.steps.proofs.Params.{open-bytes}
-use Rattle.steps.proofs.Back.{test-fine}
-use Rattle.call.proofs.Answers.{open-answer, open-size, not-tiny}
+use Rattle.steps.specs.Steps.{open_array}
+use Rattle.steps.proofs.Params.{open_bytes}
+use Rattle.steps.proofs.Back.{test_fine}
+use Rattle.call.proofs.Answers.{open_answer, open_size, not_tiny}
 use borrow.Author.Rules.{rules}
 use Rattle.call.proofs.open_array.Statement.{statement}
 use Rattle.call.proofs.open_array.Tie as tie
@@ -47,39 +47,39 @@ enum_told : tie.Need-enum-told
 enum_told c = search rules
 
 returns : tie.Need-returns
-returns c = step-refused (openArray c.before.before.before.before.before.before.before.before.args.t) c.before.before.before.before.before.before.before.before.args.st c.before.before.before.before.before.before.before.before.args.out.now [] (open-answer (seen c.before.before.before.before.before.before.before.before.args.st []) (length c.before.before.before.before.before.before.before.before.args.out.now) c.before.before.before.before.before.before.before.before.args.t c.before.before.before.before.before.before.at_call.ensures (c.before.before.before.before.test.ensures ∙ ap (λ (b : Bool). test b WireType c.before.before.before.before.before.before.before.before.args.st.position) c.before.before.before.before.before.is-element.ensures) c.before.before.before.one_more.ensures c.before.before.judge.ensures) c.enum_told.given.1
+returns c = step_refused (open_array c.before.before.before.before.before.before.before.before.args.t) c.before.before.before.before.before.before.before.before.args.st c.before.before.before.before.before.before.before.before.args.out.now [] (open_answer (seen c.before.before.before.before.before.before.before.before.args.st []) (length c.before.before.before.before.before.before.before.before.args.out.now) c.before.before.before.before.before.before.before.before.args.t c.before.before.before.before.before.before.at_call.ensures (c.before.before.before.before.test.ensures ∙ ap (λ (b : Bool). test b WireType c.before.before.before.before.before.before.before.before.args.st.position) c.before.before.before.before.before.is-element.ensures) c.before.before.before.one_more.ensures c.before.before.judge.ensures) c.enum_told.given.1
 
 number-at-requires : tie.Need-number-at-requires
 number-at-requires c κs =
-    let a = step-accepted (openArray c.before.before.before.before.before.before.before.before.before.before.args.t) c.before.before.before.before.before.before.before.before.before.before.args.st c.before.before.before.before.before.before.before.before.before.before.args.out.now [] (open-answer (seen c.before.before.before.before.before.before.before.before.before.before.args.st []) (length c.before.before.before.before.before.before.before.before.before.before.args.out.now) c.before.before.before.before.before.before.before.before.before.before.args.t c.before.before.before.before.before.before.before.before.at_call.ensures (c.before.before.before.before.before.before.test.ensures ∙ ap (λ (b : Bool). test b WireType c.before.before.before.before.before.before.before.before.before.before.args.st.position) c.before.before.before.before.before.before.before.is-element.ensures) c.before.before.before.before.before.one_more.ensures c.before.before.before.before.judge.ensures) c.before.before.a.given.1 in
-    let h : c.before.before.before.before.before.before.before.before.before.before.args.st.position + 4 ≤ (length c.before.before.before.before.before.before.before.before.before.before.args.out.now) = room a (open-size c.before.before.before.before.before.before.before.before.before.before.args.t (test-fine (isElement c.before.before.before.before.before.before.before.before.before.before.args.t) _ c.before.before.before.before.before.before.before.before.before.before.args.st.position a.fine.faultless)) in
+    let a = step_accepted (open_array c.before.before.before.before.before.before.before.before.before.before.args.t) c.before.before.before.before.before.before.before.before.before.before.args.st c.before.before.before.before.before.before.before.before.before.before.args.out.now [] (open_answer (seen c.before.before.before.before.before.before.before.before.before.before.args.st []) (length c.before.before.before.before.before.before.before.before.before.before.args.out.now) c.before.before.before.before.before.before.before.before.before.before.args.t c.before.before.before.before.before.before.before.before.at_call.ensures (c.before.before.before.before.before.before.test.ensures ∙ ap (λ (b : Bool). test b WireType c.before.before.before.before.before.before.before.before.before.before.args.st.position) c.before.before.before.before.before.before.before.is-element.ensures) c.before.before.before.before.before.one_more.ensures c.before.before.before.before.judge.ensures) c.before.before.a.given.1 in
+    let h : c.before.before.before.before.before.before.before.before.before.before.args.st.position + 4 ≤ (length c.before.before.before.before.before.before.before.before.before.before.args.out.now) = room a (open_size c.before.before.before.before.before.before.before.before.before.before.args.t (test_fine (is_element c.before.before.before.before.before.before.before.before.before.before.args.t) _ c.before.before.before.before.before.before.before.before.before.before.args.st.position a.fine.faultless)) in
     omega arith
 
 number-at-requires-2 : tie.Need-number-at-requires-2
 number-at-requires-2 c κs =
-    let a = step-accepted (openArray c.before.before.before.before.before.before.before.before.before.before.before.before.before.before.args.t) c.before.before.before.before.before.before.before.before.before.before.before.before.before.before.args.st c.before.before.before.before.before.before.before.before.before.before.before.before.before.before.args.out.now [] (open-answer (seen c.before.before.before.before.before.before.before.before.before.before.before.before.before.before.args.st []) (length c.before.before.before.before.before.before.before.before.before.before.before.before.before.before.args.out.now) c.before.before.before.before.before.before.before.before.before.before.before.before.before.before.args.t c.before.before.before.before.before.before.before.before.before.before.before.before.at_call.ensures (c.before.before.before.before.before.before.before.before.before.before.test.ensures ∙ ap (λ (b : Bool). test b WireType c.before.before.before.before.before.before.before.before.before.before.before.before.before.before.args.st.position) c.before.before.before.before.before.before.before.before.before.before.before.is-element.ensures) c.before.before.before.before.before.before.before.before.before.one_more.ensures c.before.before.before.before.before.before.before.before.judge.ensures) c.before.before.before.before.before.before.a.given.1 in
-    let h : c.before.before.before.before.before.before.before.before.before.before.before.before.before.before.args.st.position + 4 ≤ (length c.before.before.before.before.before.before.before.before.before.before.before.before.before.before.args.out.now) = room a (open-size c.before.before.before.before.before.before.before.before.before.before.before.before.before.before.args.t (test-fine (isElement c.before.before.before.before.before.before.before.before.before.before.before.before.before.before.args.t) _ c.before.before.before.before.before.before.before.before.before.before.before.before.before.before.args.st.position a.fine.faultless)) in
-    let p = puts-number c.before.before.before.before.before.before.before.before.before.before.before.before.before.before.args.out.now c.before.before.before.before.before.before.before.before.before.before.before.before.before.before.args.st.position 1 157 (omega arith) c.before.before.before.number_at.ensures in
+    let a = step_accepted (open_array c.before.before.before.before.before.before.before.before.before.before.before.before.before.before.args.t) c.before.before.before.before.before.before.before.before.before.before.before.before.before.before.args.st c.before.before.before.before.before.before.before.before.before.before.before.before.before.before.args.out.now [] (open_answer (seen c.before.before.before.before.before.before.before.before.before.before.before.before.before.before.args.st []) (length c.before.before.before.before.before.before.before.before.before.before.before.before.before.before.args.out.now) c.before.before.before.before.before.before.before.before.before.before.before.before.before.before.args.t c.before.before.before.before.before.before.before.before.before.before.before.before.at_call.ensures (c.before.before.before.before.before.before.before.before.before.before.test.ensures ∙ ap (λ (b : Bool). test b WireType c.before.before.before.before.before.before.before.before.before.before.before.before.before.before.args.st.position) c.before.before.before.before.before.before.before.before.before.before.before.is-element.ensures) c.before.before.before.before.before.before.before.before.before.one_more.ensures c.before.before.before.before.before.before.before.before.judge.ensures) c.before.before.before.before.before.before.a.given.1 in
+    let h : c.before.before.before.before.before.before.before.before.before.before.before.before.before.before.args.st.position + 4 ≤ (length c.before.before.before.before.before.before.before.before.before.before.before.before.before.before.args.out.now) = room a (open_size c.before.before.before.before.before.before.before.before.before.before.before.before.before.before.args.t (test_fine (is_element c.before.before.before.before.before.before.before.before.before.before.before.before.before.before.args.t) _ c.before.before.before.before.before.before.before.before.before.before.before.before.before.before.args.st.position a.fine.faultless)) in
+    let p = puts_number c.before.before.before.before.before.before.before.before.before.before.before.before.before.before.args.out.now c.before.before.before.before.before.before.before.before.before.before.before.before.before.before.args.st.position 1 157 (omega arith) c.before.before.before.number_at.ensures in
     omega arith
 
 number-at-requires-3 : tie.Need-number-at-requires-3
 number-at-requires-3 c κs =
-    let a = step-accepted (openArray c.before.before.before.before.before.before.before.before.before.before.before.before.before.before.before.before.before.before.args.t) c.before.before.before.before.before.before.before.before.before.before.before.before.before.before.before.before.before.before.args.st c.before.before.before.before.before.before.before.before.before.before.before.before.before.before.before.before.before.before.args.out.now [] (open-answer (seen c.before.before.before.before.before.before.before.before.before.before.before.before.before.before.before.before.before.before.args.st []) (length c.before.before.before.before.before.before.before.before.before.before.before.before.before.before.before.before.before.before.args.out.now) c.before.before.before.before.before.before.before.before.before.before.before.before.before.before.before.before.before.before.args.t c.before.before.before.before.before.before.before.before.before.before.before.before.before.before.before.before.at_call.ensures (c.before.before.before.before.before.before.before.before.before.before.before.before.before.before.test.ensures ∙ ap (λ (b : Bool). test b WireType c.before.before.before.before.before.before.before.before.before.before.before.before.before.before.before.before.before.before.args.st.position) c.before.before.before.before.before.before.before.before.before.before.before.before.before.before.before.is-element.ensures) c.before.before.before.before.before.before.before.before.before.before.before.before.before.one_more.ensures c.before.before.before.before.before.before.before.before.before.before.before.before.judge.ensures) c.before.before.before.before.before.before.before.before.before.before.a.given.1 in
-    let h : c.before.before.before.before.before.before.before.before.before.before.before.before.before.before.before.before.before.before.args.st.position + 4 ≤ (length c.before.before.before.before.before.before.before.before.before.before.before.before.before.before.before.before.before.before.args.out.now) = room a (open-size c.before.before.before.before.before.before.before.before.before.before.before.before.before.before.before.before.before.before.args.t (test-fine (isElement c.before.before.before.before.before.before.before.before.before.before.before.before.before.before.before.before.before.before.args.t) _ c.before.before.before.before.before.before.before.before.before.before.before.before.before.before.before.before.before.before.args.st.position a.fine.faultless)) in
-    let p = puts-number c.before.before.before.before.before.before.before.before.before.before.before.before.before.before.before.before.before.before.args.out.now c.before.before.before.before.before.before.before.before.before.before.before.before.before.before.before.before.before.before.args.st.position 1 157 (omega arith) c.before.before.before.before.before.before.before.number_at.ensures in
-    let q = puts-number c.before.before.before.before.before.before.before.number_at.new.0 c.before.before.before.before.before.before.before.number_at.result 1 c.before.before.before.before.before.before.before.before.before.before.before.before.before.before.before.before.before.before.args.t (omega arith) c.before.before.before.number-at2.ensures in
+    let a = step_accepted (open_array c.before.before.before.before.before.before.before.before.before.before.before.before.before.before.before.before.before.before.args.t) c.before.before.before.before.before.before.before.before.before.before.before.before.before.before.before.before.before.before.args.st c.before.before.before.before.before.before.before.before.before.before.before.before.before.before.before.before.before.before.args.out.now [] (open_answer (seen c.before.before.before.before.before.before.before.before.before.before.before.before.before.before.before.before.before.before.args.st []) (length c.before.before.before.before.before.before.before.before.before.before.before.before.before.before.before.before.before.before.args.out.now) c.before.before.before.before.before.before.before.before.before.before.before.before.before.before.before.before.before.before.args.t c.before.before.before.before.before.before.before.before.before.before.before.before.before.before.before.before.at_call.ensures (c.before.before.before.before.before.before.before.before.before.before.before.before.before.before.test.ensures ∙ ap (λ (b : Bool). test b WireType c.before.before.before.before.before.before.before.before.before.before.before.before.before.before.before.before.before.before.args.st.position) c.before.before.before.before.before.before.before.before.before.before.before.before.before.before.before.is-element.ensures) c.before.before.before.before.before.before.before.before.before.before.before.before.before.one_more.ensures c.before.before.before.before.before.before.before.before.before.before.before.before.judge.ensures) c.before.before.before.before.before.before.before.before.before.before.a.given.1 in
+    let h : c.before.before.before.before.before.before.before.before.before.before.before.before.before.before.before.before.before.before.args.st.position + 4 ≤ (length c.before.before.before.before.before.before.before.before.before.before.before.before.before.before.before.before.before.before.args.out.now) = room a (open_size c.before.before.before.before.before.before.before.before.before.before.before.before.before.before.before.before.before.before.args.t (test_fine (is_element c.before.before.before.before.before.before.before.before.before.before.before.before.before.before.before.before.before.before.args.t) _ c.before.before.before.before.before.before.before.before.before.before.before.before.before.before.before.before.before.before.args.st.position a.fine.faultless)) in
+    let p = puts_number c.before.before.before.before.before.before.before.before.before.before.before.before.before.before.before.before.before.before.args.out.now c.before.before.before.before.before.before.before.before.before.before.before.before.before.before.before.before.before.before.args.st.position 1 157 (omega arith) c.before.before.before.before.before.before.before.number_at.ensures in
+    let q = puts_number c.before.before.before.before.before.before.before.number_at.new.0 c.before.before.before.before.before.before.before.number_at.result 1 c.before.before.before.before.before.before.before.before.before.before.before.before.before.before.before.before.before.before.args.t (omega arith) c.before.before.before.number-at2.ensures in
     omega arith
 
 add-in-array : tie.Need-overflow-add-in-array
 add-in-array c =
-    let h : c.before.before.before.before.before.before.before.before.before.before.before.before.before.before.before.before.before.before.before.before.before.before.args.st.count + 1 ≤ mostItems = counts c.before.before.before.before.before.before.before.before.before.before.before.before.before.before.before.before.before.before.before.before.before.before.args.st.count mostItems (step-accepted (openArray c.before.before.before.before.before.before.before.before.before.before.before.before.before.before.before.before.before.before.before.before.before.before.args.t) c.before.before.before.before.before.before.before.before.before.before.before.before.before.before.before.before.before.before.before.before.before.before.args.st c.before.before.before.before.before.before.before.before.before.before.before.before.before.before.before.before.before.before.before.before.before.before.args.out.now [] (open-answer (seen c.before.before.before.before.before.before.before.before.before.before.before.before.before.before.before.before.before.before.before.before.before.before.args.st []) (length c.before.before.before.before.before.before.before.before.before.before.before.before.before.before.before.before.before.before.before.before.before.before.args.out.now) c.before.before.before.before.before.before.before.before.before.before.before.before.before.before.before.before.before.before.before.before.before.before.args.t c.before.before.before.before.before.before.before.before.before.before.before.before.before.before.before.before.before.before.before.before.at_call.ensures (c.before.before.before.before.before.before.before.before.before.before.before.before.before.before.before.before.before.before.test.ensures ∙ ap (λ (b : Bool). test b WireType c.before.before.before.before.before.before.before.before.before.before.before.before.before.before.before.before.before.before.before.before.before.before.args.st.position) c.before.before.before.before.before.before.before.before.before.before.before.before.before.before.before.before.before.before.before.is-element.ensures) c.before.before.before.before.before.before.before.before.before.before.before.before.before.before.before.before.before.one_more.ensures c.before.before.before.before.before.before.before.before.before.before.before.before.before.before.before.before.judge.ensures) c.before.before.before.before.before.before.before.before.before.before.before.before.before.before.a.given.1) refl in
+    let h : c.before.before.before.before.before.before.before.before.before.before.before.before.before.before.before.before.before.before.before.before.before.before.args.st.count + 1 ≤ most_items = counts c.before.before.before.before.before.before.before.before.before.before.before.before.before.before.before.before.before.before.before.before.before.before.args.st.count most_items (step_accepted (open_array c.before.before.before.before.before.before.before.before.before.before.before.before.before.before.before.before.before.before.before.before.before.before.args.t) c.before.before.before.before.before.before.before.before.before.before.before.before.before.before.before.before.before.before.before.before.before.before.args.st c.before.before.before.before.before.before.before.before.before.before.before.before.before.before.before.before.before.before.before.before.before.before.args.out.now [] (open_answer (seen c.before.before.before.before.before.before.before.before.before.before.before.before.before.before.before.before.before.before.before.before.before.before.args.st []) (length c.before.before.before.before.before.before.before.before.before.before.before.before.before.before.before.before.before.before.before.before.before.before.args.out.now) c.before.before.before.before.before.before.before.before.before.before.before.before.before.before.before.before.before.before.before.before.before.before.args.t c.before.before.before.before.before.before.before.before.before.before.before.before.before.before.before.before.before.before.before.before.at_call.ensures (c.before.before.before.before.before.before.before.before.before.before.before.before.before.before.before.before.before.before.test.ensures ∙ ap (λ (b : Bool). test b WireType c.before.before.before.before.before.before.before.before.before.before.before.before.before.before.before.before.before.before.before.before.before.before.args.st.position) c.before.before.before.before.before.before.before.before.before.before.before.before.before.before.before.before.before.before.before.is-element.ensures) c.before.before.before.before.before.before.before.before.before.before.before.before.before.before.before.before.before.one_more.ensures c.before.before.before.before.before.before.before.before.before.before.before.before.before.before.before.before.judge.ensures) c.before.before.before.before.before.before.before.before.before.before.before.before.before.before.a.given.1) refl in
     omega arith
 
 sub-in-array : tie.Need-overflow-sub-in-array
 sub-in-array c =
-    let a = step-accepted (openArray c.before.before.before.before.before.before.before.before.before.before.before.before.before.before.before.before.before.before.before.before.before.before.args.t) c.before.before.before.before.before.before.before.before.before.before.before.before.before.before.before.before.before.before.before.before.before.before.args.st c.before.before.before.before.before.before.before.before.before.before.before.before.before.before.before.before.before.before.before.before.before.before.args.out.now [] (open-answer (seen c.before.before.before.before.before.before.before.before.before.before.before.before.before.before.before.before.before.before.before.before.before.before.args.st []) (length c.before.before.before.before.before.before.before.before.before.before.before.before.before.before.before.before.before.before.before.before.before.before.args.out.now) c.before.before.before.before.before.before.before.before.before.before.before.before.before.before.before.before.before.before.before.before.before.before.args.t c.before.before.before.before.before.before.before.before.before.before.before.before.before.before.before.before.before.before.before.before.at_call.ensures (c.before.before.before.before.before.before.before.before.before.before.before.before.before.before.before.before.before.before.test.ensures ∙ ap (λ (b : Bool). test b WireType c.before.before.before.before.before.before.before.before.before.before.before.before.before.before.before.before.before.before.before.before.before.before.args.st.position) c.before.before.before.before.before.before.before.before.before.before.before.before.before.before.before.before.before.before.before.is-element.ensures) c.before.before.before.before.before.before.before.before.before.before.before.before.before.before.before.before.before.one_more.ensures c.before.before.before.before.before.before.before.before.before.before.before.before.before.before.before.before.judge.ensures) c.before.before.before.before.before.before.before.before.before.before.before.before.before.before.a.given.1 in
-    let h : c.before.before.before.before.before.before.before.before.before.before.before.before.before.before.before.before.before.before.before.before.before.before.args.st.position + 4 ≤ (length c.before.before.before.before.before.before.before.before.before.before.before.before.before.before.before.before.before.before.before.before.before.before.args.out.now) = room a (open-size c.before.before.before.before.before.before.before.before.before.before.before.before.before.before.before.before.before.before.before.before.before.before.args.t (test-fine (isElement c.before.before.before.before.before.before.before.before.before.before.before.before.before.before.before.before.before.before.before.before.before.before.args.t) _ c.before.before.before.before.before.before.before.before.before.before.before.before.before.before.before.before.before.before.before.before.before.before.args.st.position a.fine.faultless)) in
-    let e : c.before.before.before.before.before.before.before.before.before.before.before.before.before.before.a.given.0.0 ≡ c.before.before.before.before.before.before.before.before.before.before.before.before.before.before.before.before.before.before.before.before.before.before.args.st.position + 4 = a.reached ∙ ap (λ (k : ℕ). c.before.before.before.before.before.before.before.before.before.before.before.before.before.before.before.before.before.before.before.before.before.before.args.st.position + k) (open-size c.before.before.before.before.before.before.before.before.before.before.before.before.before.before.before.before.before.before.before.before.before.before.args.t (test-fine (isElement c.before.before.before.before.before.before.before.before.before.before.before.before.before.before.before.before.before.before.before.before.before.before.args.t) _ c.before.before.before.before.before.before.before.before.before.before.before.before.before.before.before.before.before.before.before.before.before.before.args.st.position a.fine.faultless)) in
+    let a = step_accepted (open_array c.before.before.before.before.before.before.before.before.before.before.before.before.before.before.before.before.before.before.before.before.before.before.args.t) c.before.before.before.before.before.before.before.before.before.before.before.before.before.before.before.before.before.before.before.before.before.before.args.st c.before.before.before.before.before.before.before.before.before.before.before.before.before.before.before.before.before.before.before.before.before.before.args.out.now [] (open_answer (seen c.before.before.before.before.before.before.before.before.before.before.before.before.before.before.before.before.before.before.before.before.before.before.args.st []) (length c.before.before.before.before.before.before.before.before.before.before.before.before.before.before.before.before.before.before.before.before.before.before.args.out.now) c.before.before.before.before.before.before.before.before.before.before.before.before.before.before.before.before.before.before.before.before.before.before.args.t c.before.before.before.before.before.before.before.before.before.before.before.before.before.before.before.before.before.before.before.before.at_call.ensures (c.before.before.before.before.before.before.before.before.before.before.before.before.before.before.before.before.before.before.test.ensures ∙ ap (λ (b : Bool). test b WireType c.before.before.before.before.before.before.before.before.before.before.before.before.before.before.before.before.before.before.before.before.before.before.args.st.position) c.before.before.before.before.before.before.before.before.before.before.before.before.before.before.before.before.before.before.before.is-element.ensures) c.before.before.before.before.before.before.before.before.before.before.before.before.before.before.before.before.before.one_more.ensures c.before.before.before.before.before.before.before.before.before.before.before.before.before.before.before.before.judge.ensures) c.before.before.before.before.before.before.before.before.before.before.before.before.before.before.a.given.1 in
+    let h : c.before.before.before.before.before.before.before.before.before.before.before.before.before.before.before.before.before.before.before.before.before.before.args.st.position + 4 ≤ (length c.before.before.before.before.before.before.before.before.before.before.before.before.before.before.before.before.before.before.before.before.before.before.args.out.now) = room a (open_size c.before.before.before.before.before.before.before.before.before.before.before.before.before.before.before.before.before.before.before.before.before.before.args.t (test_fine (is_element c.before.before.before.before.before.before.before.before.before.before.before.before.before.before.before.before.before.before.before.before.before.before.args.t) _ c.before.before.before.before.before.before.before.before.before.before.before.before.before.before.before.before.before.before.before.before.before.before.args.st.position a.fine.faultless)) in
+    let e : c.before.before.before.before.before.before.before.before.before.before.before.before.before.before.a.given.0.0 ≡ c.before.before.before.before.before.before.before.before.before.before.before.before.before.before.before.before.before.before.before.before.before.before.args.st.position + 4 = a.reached ∙ ap (λ (k : ℕ). c.before.before.before.before.before.before.before.before.before.before.before.before.before.before.before.before.before.before.before.before.before.before.args.st.position + k) (open_size c.before.before.before.before.before.before.before.before.before.before.before.before.before.before.before.before.before.before.before.before.before.before.args.t (test_fine (is_element c.before.before.before.before.before.before.before.before.before.before.before.before.before.before.before.before.before.before.before.before.before.before.args.t) _ c.before.before.before.before.before.before.before.before.before.before.before.before.before.before.before.before.before.before.before.before.before.before.args.st.position a.fine.faultless)) in
     omega arith
 
 in-array-requires : tie.Need-in-array-requires
@@ -90,12 +90,12 @@ same_length c = search rules
 
 returns-2 : tie.Need-returns-2
 returns-2 c =
-    let a = step-accepted (openArray c.before.before.before.before.before.before.before.before.before.before.before.before.before.before.before.before.before.before.before.before.before.before.before.args.t) c.before.before.before.before.before.before.before.before.before.before.before.before.before.before.before.before.before.before.before.before.before.before.before.args.st c.before.before.before.before.before.before.before.before.before.before.before.before.before.before.before.before.before.before.before.before.before.before.before.args.out.now [] (open-answer (seen c.before.before.before.before.before.before.before.before.before.before.before.before.before.before.before.before.before.before.before.before.before.before.before.args.st []) (length c.before.before.before.before.before.before.before.before.before.before.before.before.before.before.before.before.before.before.before.before.before.before.before.args.out.now) c.before.before.before.before.before.before.before.before.before.before.before.before.before.before.before.before.before.before.before.before.before.before.before.args.t c.before.before.before.before.before.before.before.before.before.before.before.before.before.before.before.before.before.before.before.before.before.at_call.ensures (c.before.before.before.before.before.before.before.before.before.before.before.before.before.before.before.before.before.before.before.test.ensures ∙ ap (λ (b : Bool). test b WireType c.before.before.before.before.before.before.before.before.before.before.before.before.before.before.before.before.before.before.before.before.before.before.before.args.st.position) c.before.before.before.before.before.before.before.before.before.before.before.before.before.before.before.before.before.before.before.before.is-element.ensures) c.before.before.before.before.before.before.before.before.before.before.before.before.before.before.before.before.before.before.one_more.ensures c.before.before.before.before.before.before.before.before.before.before.before.before.before.before.before.before.before.judge.ensures) c.before.before.before.before.before.before.before.before.before.before.before.before.before.before.before.a.given.1 in
-    let h : c.before.before.before.before.before.before.before.before.before.before.before.before.before.before.before.before.before.before.before.before.before.before.before.args.st.position + 4 ≤ (length c.before.before.before.before.before.before.before.before.before.before.before.before.before.before.before.before.before.before.before.before.before.before.before.args.out.now) = room a (open-size c.before.before.before.before.before.before.before.before.before.before.before.before.before.before.before.before.before.before.before.before.before.before.before.args.t (test-fine (isElement c.before.before.before.before.before.before.before.before.before.before.before.before.before.before.before.before.before.before.before.before.before.before.before.args.t) _ c.before.before.before.before.before.before.before.before.before.before.before.before.before.before.before.before.before.before.before.before.before.before.before.args.st.position a.fine.faultless)) in
-    let p = puts-number c.before.before.before.before.before.before.before.before.before.before.before.before.before.before.before.before.before.before.before.before.before.before.before.args.out.now c.before.before.before.before.before.before.before.before.before.before.before.before.before.before.before.before.before.before.before.before.before.before.before.args.st.position 1 157 (omega arith) c.before.before.before.before.before.before.before.before.before.before.before.before.number_at.ensures in
-    let q = puts-number c.before.before.before.before.before.before.before.before.before.before.before.before.number_at.new.0 c.before.before.before.before.before.before.before.before.before.before.before.before.number_at.result 1 c.before.before.before.before.before.before.before.before.before.before.before.before.before.before.before.before.before.before.before.before.before.before.before.args.t (omega arith) c.before.before.before.before.before.before.before.before.number-at2.ensures in
-    let r = puts-number c.before.before.before.before.before.before.before.before.number-at2.new.0 c.before.before.before.before.before.before.before.before.number-at2.result 2 0 (omega arith) c.before.before.before.before.number-at3.ensures in
-    step-taken (openArray c.before.before.before.before.before.before.before.before.before.before.before.before.before.before.before.before.before.before.before.before.before.before.before.args.t) c.before.before.before.before.before.before.before.before.before.before.before.before.before.before.before.before.before.before.before.before.before.before.before.args.st c.before.before.before.before.before.before.before.before.before.before.before.before.before.before.before.before.before.before.before.before.before.before.before.args.out.now [] (open-answer (seen c.before.before.before.before.before.before.before.before.before.before.before.before.before.before.before.before.before.before.before.before.before.before.before.args.st []) (length c.before.before.before.before.before.before.before.before.before.before.before.before.before.before.before.before.before.before.before.before.before.before.before.args.out.now) c.before.before.before.before.before.before.before.before.before.before.before.before.before.before.before.before.before.before.before.before.before.before.before.args.t c.before.before.before.before.before.before.before.before.before.before.before.before.before.before.before.before.before.before.before.before.before.at_call.ensures (c.before.before.before.before.before.before.before.before.before.before.before.before.before.before.before.before.before.before.before.test.ensures ∙ ap (λ (b : Bool). test b WireType c.before.before.before.before.before.before.before.before.before.before.before.before.before.before.before.before.before.before.before.before.before.before.before.args.st.position) c.before.before.before.before.before.before.before.before.before.before.before.before.before.before.before.before.before.before.before.before.is-element.ensures) c.before.before.before.before.before.before.before.before.before.before.before.before.before.before.before.before.before.before.one_more.ensures c.before.before.before.before.before.before.before.before.before.before.before.before.before.before.before.before.before.judge.ensures) c.before.before.before.before.before.before.before.before.before.before.before.before.before.before.before.a.given.1 c.in_array.ensures ((puts-both p (puts-both q r)).is ∙ sym (ap (λ (bs : List ℕ). put c.before.before.before.before.before.before.before.before.before.before.before.before.before.before.before.before.before.before.before.before.before.before.before.args.out.now c.before.before.before.before.before.before.before.before.before.before.before.before.before.before.before.before.before.before.before.before.before.before.before.args.st.position bs) (open-bytes c.before.before.before.before.before.before.before.before.before.before.before.before.before.before.before.before.before.before.before.before.before.before.before.args.t (not-tiny c.before.before.before.before.before.before.before.before.before.before.before.before.before.before.before.before.before.before.before.before.before.before.before.args.t (test-fine (isElement c.before.before.before.before.before.before.before.before.before.before.before.before.before.before.before.before.before.before.before.before.before.before.before.args.t) _ c.before.before.before.before.before.before.before.before.before.before.before.before.before.before.before.before.before.before.before.before.before.before.before.args.st.position a.fine.faultless)))))
+    let a = step_accepted (open_array c.before.before.before.before.before.before.before.before.before.before.before.before.before.before.before.before.before.before.before.before.before.before.before.args.t) c.before.before.before.before.before.before.before.before.before.before.before.before.before.before.before.before.before.before.before.before.before.before.before.args.st c.before.before.before.before.before.before.before.before.before.before.before.before.before.before.before.before.before.before.before.before.before.before.before.args.out.now [] (open_answer (seen c.before.before.before.before.before.before.before.before.before.before.before.before.before.before.before.before.before.before.before.before.before.before.before.args.st []) (length c.before.before.before.before.before.before.before.before.before.before.before.before.before.before.before.before.before.before.before.before.before.before.before.args.out.now) c.before.before.before.before.before.before.before.before.before.before.before.before.before.before.before.before.before.before.before.before.before.before.before.args.t c.before.before.before.before.before.before.before.before.before.before.before.before.before.before.before.before.before.before.before.before.before.at_call.ensures (c.before.before.before.before.before.before.before.before.before.before.before.before.before.before.before.before.before.before.before.test.ensures ∙ ap (λ (b : Bool). test b WireType c.before.before.before.before.before.before.before.before.before.before.before.before.before.before.before.before.before.before.before.before.before.before.before.args.st.position) c.before.before.before.before.before.before.before.before.before.before.before.before.before.before.before.before.before.before.before.before.is-element.ensures) c.before.before.before.before.before.before.before.before.before.before.before.before.before.before.before.before.before.before.one_more.ensures c.before.before.before.before.before.before.before.before.before.before.before.before.before.before.before.before.before.judge.ensures) c.before.before.before.before.before.before.before.before.before.before.before.before.before.before.before.a.given.1 in
+    let h : c.before.before.before.before.before.before.before.before.before.before.before.before.before.before.before.before.before.before.before.before.before.before.before.args.st.position + 4 ≤ (length c.before.before.before.before.before.before.before.before.before.before.before.before.before.before.before.before.before.before.before.before.before.before.before.args.out.now) = room a (open_size c.before.before.before.before.before.before.before.before.before.before.before.before.before.before.before.before.before.before.before.before.before.before.before.args.t (test_fine (is_element c.before.before.before.before.before.before.before.before.before.before.before.before.before.before.before.before.before.before.before.before.before.before.before.args.t) _ c.before.before.before.before.before.before.before.before.before.before.before.before.before.before.before.before.before.before.before.before.before.before.before.args.st.position a.fine.faultless)) in
+    let p = puts_number c.before.before.before.before.before.before.before.before.before.before.before.before.before.before.before.before.before.before.before.before.before.before.before.args.out.now c.before.before.before.before.before.before.before.before.before.before.before.before.before.before.before.before.before.before.before.before.before.before.before.args.st.position 1 157 (omega arith) c.before.before.before.before.before.before.before.before.before.before.before.before.number_at.ensures in
+    let q = puts_number c.before.before.before.before.before.before.before.before.before.before.before.before.number_at.new.0 c.before.before.before.before.before.before.before.before.before.before.before.before.number_at.result 1 c.before.before.before.before.before.before.before.before.before.before.before.before.before.before.before.before.before.before.before.before.before.before.before.args.t (omega arith) c.before.before.before.before.before.before.before.before.number-at2.ensures in
+    let r = puts_number c.before.before.before.before.before.before.before.before.number-at2.new.0 c.before.before.before.before.before.before.before.before.number-at2.result 2 0 (omega arith) c.before.before.before.before.number-at3.ensures in
+    step_taken (open_array c.before.before.before.before.before.before.before.before.before.before.before.before.before.before.before.before.before.before.before.before.before.before.before.args.t) c.before.before.before.before.before.before.before.before.before.before.before.before.before.before.before.before.before.before.before.before.before.before.before.args.st c.before.before.before.before.before.before.before.before.before.before.before.before.before.before.before.before.before.before.before.before.before.before.before.args.out.now [] (open_answer (seen c.before.before.before.before.before.before.before.before.before.before.before.before.before.before.before.before.before.before.before.before.before.before.before.args.st []) (length c.before.before.before.before.before.before.before.before.before.before.before.before.before.before.before.before.before.before.before.before.before.before.before.args.out.now) c.before.before.before.before.before.before.before.before.before.before.before.before.before.before.before.before.before.before.before.before.before.before.before.args.t c.before.before.before.before.before.before.before.before.before.before.before.before.before.before.before.before.before.before.before.before.before.at_call.ensures (c.before.before.before.before.before.before.before.before.before.before.before.before.before.before.before.before.before.before.before.test.ensures ∙ ap (λ (b : Bool). test b WireType c.before.before.before.before.before.before.before.before.before.before.before.before.before.before.before.before.before.before.before.before.before.before.before.args.st.position) c.before.before.before.before.before.before.before.before.before.before.before.before.before.before.before.before.before.before.before.before.is-element.ensures) c.before.before.before.before.before.before.before.before.before.before.before.before.before.before.before.before.before.before.one_more.ensures c.before.before.before.before.before.before.before.before.before.before.before.before.before.before.before.before.before.judge.ensures) c.before.before.before.before.before.before.before.before.before.before.before.before.before.before.before.a.given.1 c.in_array.ensures ((puts_both p (puts_both q r)).is ∙ sym (ap (λ (bs : List ℕ). put c.before.before.before.before.before.before.before.before.before.before.before.before.before.before.before.before.before.before.before.before.before.before.before.args.out.now c.before.before.before.before.before.before.before.before.before.before.before.before.before.before.before.before.before.before.before.before.before.before.before.args.st.position bs) (open_bytes c.before.before.before.before.before.before.before.before.before.before.before.before.before.before.before.before.before.before.before.before.before.before.before.args.t (not_tiny c.before.before.before.before.before.before.before.before.before.before.before.before.before.before.before.before.before.before.before.before.before.before.before.args.t (test_fine (is_element c.before.before.before.before.before.before.before.before.before.before.before.before.before.before.before.before.before.before.before.before.before.before.before.args.t) _ c.before.before.before.before.before.before.before.before.before.before.before.before.before.before.before.before.before.before.before.before.before.before.before.args.st.position a.fine.faultless)))))
 
 pub open-array-spec : {M : Type 1} → statement M
 open-array-spec =

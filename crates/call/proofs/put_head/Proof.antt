@@ -6,9 +6,9 @@ use mathlib.Core.List.{List}
 use mathlib.Core.Option.{some}
 use lib.ListN.{length}
 use Rattle.put.specs.Put.{put, sized}
-use Rattle.put.proofs.Laws.{puts, puts-number, puts-both}
+use Rattle.put.proofs.Laws.{puts, puts_number, puts_both}
 use Rattle.steps.specs.State.{closed}
-use Rattle.call.proofs.Written.{begun-bytes}
+use Rattle.call.proofs.Written.{begun_bytes}
 use borrow.Author.Rules.{rules}
 use Rattle.call.proofs.put_head.Statement.{statement}
 use Rattle.call.proofs.put_head.Tie as tie
@@ -35,12 +35,12 @@ returns : tie.Need-returns
 returns c =
     let a = c.before.before.before.before.before.before.before.before.before.before.before.before.before.before.before.before.before.before.before.before.before.before.before.args in
     let text = sized (some a.procedure.now) in
-    let p = puts-number a.out.now 0 4 0 (omega arith) c.before.before.before.before.before.before.before.before.before.before.before.before.before.before.before.before.before.before.number_at.ensures in
-    let q = puts-number c.before.before.before.before.before.before.before.before.before.before.before.before.before.before.before.before.before.before.number_at.new.0 c.before.before.before.before.before.before.before.before.before.before.before.before.before.before.before.before.before.before.number_at.result 1 a.version (omega arith) c.before.before.before.before.before.before.before.before.before.before.before.before.before.before.number-at2.ensures in
+    let p = puts_number a.out.now 0 4 0 (omega arith) c.before.before.before.before.before.before.before.before.before.before.before.before.before.before.before.before.before.before.number_at.ensures in
+    let q = puts_number c.before.before.before.before.before.before.before.before.before.before.before.before.before.before.before.before.before.before.number_at.new.0 c.before.before.before.before.before.before.before.before.before.before.before.before.before.before.before.before.before.before.number_at.result 1 a.version (omega arith) c.before.before.before.before.before.before.before.before.before.before.before.before.before.before.number-at2.ensures in
     let r = puts c.before.before.before.before.before.before.before.before.before.before.before.before.before.before.number-at2.new.0 c.before.before.before.before.before.before.before.before.before.before.before.before.before.before.number-at2.result (length text) text refl (omega arith) c.before.before.before.before.before.before.before.before.before.before.text_at.ensures in
     let s = puts c.before.before.before.before.before.before.before.before.before.before.text_at.new.0 c.before.before.before.before.before.before.before.before.before.before.text_at.result (length a.client.now) a.client.now refl (omega arith) c.before.before.before.before.before.before.bytes-at.ensures in
-    let t = puts-number c.before.before.before.before.before.before.bytes-at.new.0 c.before.before.before.before.before.before.bytes-at.result 2 0 (omega arith) c.before.before.number-at3.ensures in
-    (puts-both p (puts-both q (puts-both r (puts-both s t)))).is ∙ ap (λ (x : List ℕ). put a.out.now 0 x) (sym (begun-bytes a.version a.procedure.now a.client.now (closed 0) 0))
+    let t = puts_number c.before.before.before.before.before.before.bytes-at.new.0 c.before.before.before.before.before.before.bytes-at.result 2 0 (omega arith) c.before.before.number-at3.ensures in
+    (puts_both p (puts_both q (puts_both r (puts_both s t)))).is ∙ ap (λ (x : List ℕ). put a.out.now 0 x) (sym (begun_bytes a.version a.procedure.now a.client.now (closed 0) 0))
 
 pub put-head-spec : {M : Type 1} → statement M
 put-head-spec =

@@ -2,10 +2,10 @@
 use Prim.Native.Nat.{ℕ}
 use mathlib.Core.Path.{sym, ◌∙◌, ap}
 use Rattle.format.specs.Result.{Res}
-use Rattle.format.specs.Message.{Message, readMessage, responseLayout}
-use Rattle.message.specs.Verdict.{verdictOf}
-use Rattle.query.proofs.Opened.{verdict-fine, verdict-no}
-use Rattle.cards.specs.Shown.{ownBefore}
+use Rattle.format.specs.Message.{Message, read_message, response_layout}
+use Rattle.message.specs.Verdict.{verdict_of}
+use Rattle.query.proofs.Opened.{verdict_fine, verdict_no_lem}
+use Rattle.cards.specs.Shown.{own_before}
 use borrow.Author.Rules.{rules}
 use Rattle.cards.proofs.after_message.Statement.{statement}
 use Rattle.cards.proofs.after_message.Tie as tie
@@ -25,14 +25,14 @@ enum_told c = search rules
 returns : tie.Need-returns
 returns c =
     let a = c.before.before.before.before.before.before.args in
-    let w = verdict-no (readMessage (responseLayout a.timed) a.m.now) (c.before.before.before.accept-layout.ensures ∙ ap (λ (n : ℕ). verdictOf (readMessage n a.m.now)) c.before.before.before.before.response-layout.ensures) c.before.verdict.given.1 in
-    sym (ap (λ (z : Res Message). ownBefore z a.r) w)
+    let w = verdict_no_lem (read_message (response_layout a.timed) a.m.now) (c.before.before.before.accept-layout.ensures ∙ ap (λ (n : ℕ). verdict_of (read_message n a.m.now)) c.before.before.before.before.response-layout.ensures) c.before.verdict.given.1 in
+    sym (ap (λ (z : Res Message). own_before z a.r) w)
 
 returns-2 : tie.Need-returns-2
 returns-2 c =
     let a = c.before.before.before.before.before.args in
-    let w = verdict-fine (readMessage (responseLayout a.timed) a.m.now) (c.before.before.accept-layout.ensures ∙ ap (λ (n : ℕ). verdictOf (readMessage n a.m.now)) c.before.before.before.response-layout.ensures) c.enum_told.given.1 in
-    sym (ap (λ (z : Res Message). ownBefore z a.r) w.1)
+    let w = verdict_fine (read_message (response_layout a.timed) a.m.now) (c.before.before.accept-layout.ensures ∙ ap (λ (n : ℕ). verdict_of (read_message n a.m.now)) c.before.before.before.response-layout.ensures) c.enum_told.given.1 in
+    sym (ap (λ (z : Res Message). own_before z a.r) w.1)
 
 pub after-message-spec : {M : Type 1} → statement M
 after-message-spec =

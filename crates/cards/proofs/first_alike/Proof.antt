@@ -10,7 +10,7 @@ use borrow.Author.Rules.{rules}
 use Rattle.format.specs.Message.{unlimited}
 use Rattle.scan.proofs.Counted.{here, refuses}
 use Rattle.cards.specs.Shown.{Laid}
-use Rattle.cards.proofs.Alike.{Left, types-fit, starts, never-refused, goes_on, fits_by, found_it, turn, ends}
+use Rattle.cards.proofs.Alike.{Left, types_fit, starts, never_refused, goes_on, fits_by, found_it, turn, ends}
 use Rattle.cards.proofs.first_alike.Statement.{statement}
 use Rattle.cards.proofs.first_alike.Tie as tie
 
@@ -33,10 +33,10 @@ returns : tie.Need-returns invariant-loop decreases-loop
 returns c =
     let a = c.before.before.before.before.before.before.before.args in
     let l = c.before.before.before.before.loop in
-    λ w. absurd (never-refused w l.i l.at c.before.before.if1.true (l.invariant.1 w).place (refuses unlimited a.m.now l.at c.before.read-body.ensures c.match.keys2 refl))
+    λ w. absurd (never_refused w l.i l.at c.before.before.if1.true (l.invariant.1 w).place (refuses unlimited a.m.now l.at c.before.read-body.ensures c.match.keys2 refl))
 
 add-byte-at : tie.Need-overflow-add-byte-at invariant-loop decreases-loop
-add-byte-at c = omega (arith, types-fit c.before.before.before.before.before.before.before.before.before.before.requires, c.before.before.before.before.before.if1.true)
+add-byte-at c = omega (arith, types_fit c.before.before.before.before.before.before.before.before.before.before.requires, c.before.before.before.before.before.if1.true)
 
 byte-at-requires : tie.Need-byte-at-requires invariant-loop decreases-loop
 byte-at-requires c κs = search rules

@@ -2,7 +2,7 @@
 use mathlib.Core.Path.{◌∙◌}
 use native.Mathlib.Omega.{arith}
 use Rattle.cards.specs.Answers.{opened}
-use Rattle.cards.proofs.Forms.{form-no, form-is, unformed, name-fits, asks-as}
+use Rattle.cards.proofs.Forms.{form_no, form_is, unformed, name_fits, asks_as}
 use borrow.Author.Rules.{rules}
 use Rattle.cards.proofs.open_card.Statement.{statement}
 use Rattle.cards.proofs.open_card.Tie as tie
@@ -25,7 +25,7 @@ name-at-requires c κs = search rules
 add-end : tie.Need-overflow-add-end
 add-end c =
     let a = c.before.before.before.before.before.before.before.args in
-    omega (arith, c.name-at.ensures, name-fits a.m.now a.t a.card.now opened (form-is _ c.before.before.before.before.read-card.ensures c.before.before.form2.given.1))
+    omega (arith, c.name-at.ensures, name_fits a.m.now a.t a.card.now opened (form_is _ c.before.before.before.before.read-card.ensures c.before.before.form2.given.1))
 
 sub-open-at : tie.Need-overflow-sub-open-at
 sub-open-at c = search rules
@@ -36,7 +36,7 @@ part-open-at-start c = search rules
 part-open-at-end : tie.Need-slice-bounds-open-at-end
 part-open-at-end c =
     let a = c.before.before.before.before.before.before.before.args in
-    omega (arith, c.name-at.ensures, name-fits a.m.now a.t a.card.now opened (form-is _ c.before.before.before.before.read-card.ensures c.before.before.form2.given.1))
+    omega (arith, c.name-at.ensures, name_fits a.m.now a.t a.card.now opened (form_is _ c.before.before.before.before.read-card.ensures c.before.before.form2.given.1))
 
 open-at-requires : tie.Need-open-at-requires
 open-at-requires c κs = search rules
@@ -44,12 +44,12 @@ open-at-requires c κs = search rules
 returns : tie.Need-returns
 returns c =
     let a = c.before.before.before.before.before.before.before.args in
-    unformed a.m.now a.t a.card.now opened (form-no _ c.before.before.before.before.read-card.ensures c.before.before.form.given.1) c.after-message.ensures
+    unformed a.m.now a.t a.card.now opened (form_no _ c.before.before.before.before.read-card.ensures c.before.before.form.given.1) c.after-message.ensures
 
 returns-2 : tie.Need-returns-2
 returns-2 c =
     let a = c.before.before.before.before.before.before.before.before.before.args in
-    c.open_at.ensures ∙ asks-as a.m.now a.t a.card.now opened (form-is _ c.before.before.before.before.before.before.read-card.ensures c.before.before.before.before.form2.given.1) _ c.before.before.name-at.ensures
+    c.open_at.ensures ∙ asks_as a.m.now a.t a.card.now opened (form_is _ c.before.before.before.before.before.before.read-card.ensures c.before.before.before.before.form2.given.1) _ c.before.before.name-at.ensures
 
 pub open-card-spec : {M : Type 1} → statement M
 open-card-spec =

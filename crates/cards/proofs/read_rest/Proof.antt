@@ -3,10 +3,10 @@ use mathlib.Core.Path.{◌∙◌, sym, ap}
 use native.Mathlib.Omega.{arith}
 use lib.ListN.{get_or, drop, length-drop}
 use borrow.Author.Tests.{not-true, not-false}
-use Rattle.cards.specs.Card.{wrongFrom}
-use Rattle.cards.specs.Shown.{shownForm}
-use Rattle.cards.proofs.Forms.{no-column, long-name, wrong_name, right-name, left_over}
-use Rattle.cards.proofs.Loops.{none-wrong, one-wrong, wrong-below}
+use Rattle.cards.specs.Card.{wrong_from}
+use Rattle.cards.specs.Shown.{shown_form}
+use Rattle.cards.proofs.Forms.{no_column, long_name, wrong_name, right_name, left_over}
+use Rattle.cards.proofs.Loops.{none_wrong, one_wrong, wrong_below}
 use borrow.Author.Rules.{rules}
 use Rattle.cards.proofs.read_rest.Statement.{statement}
 use Rattle.cards.proofs.read_rest.Tie as tie
@@ -23,7 +23,7 @@ wrong-requires c κs = search rules
 returns : tie.Need-returns
 returns c =
     let a = c.before.before.before.before.before.args in
-    c.wrong.ensures ∙ sym (ap shownForm (no-column a.at a.position a.rest.now (sym c.before.before.is-column.ensures ∙ not-true _ c.before.if1.true)))
+    c.wrong.ensures ∙ sym (ap shown_form (no_column a.at a.position a.rest.now (sym c.before.before.is-column.ensures ∙ not-true _ c.before.if1.true)))
 
 shared-slice-read-size : tie.Need-shared-slice-read-size
 shared-slice-read-size c = search rules
@@ -41,7 +41,7 @@ returns-2 : tie.Need-returns-2
 returns-2 c =
     let a = c.before.before.before.before.before.before.before.args in
     let column = sym c.before.before.before.before.is-column.ensures ∙ not-false _ c.before.before.before.if1.false in
-    c.wrong2.ensures ∙ sym (ap shownForm (long-name a.at a.position a.rest.now column c.before.if2.true))
+    c.wrong2.ensures ∙ sym (ap shown_form (long_name a.at a.position a.rest.now column c.before.if2.true))
 
 sub-wrong-byte : tie.Need-overflow-sub-wrong-byte
 sub-wrong-byte c = search rules
@@ -65,8 +65,8 @@ returns-3 : tie.Need-returns-3
 returns-3 c =
     let a = c.before.before.before.before.before.before.before.before.before.before.args in
     let column = sym c.before.before.before.before.before.before.before.is-column.ensures ∙ not-false _ c.before.before.before.before.before.before.if1.false in
-    let right = sym (ap (wrongFrom (get_or a.rest.now 1 0) 0) (left_over 2 a.rest.now)) ∙ none-wrong _ c.before.before.wrong_byte.ensures c.enum_told.given.1 in
-    sym (right-name a.at a.position a.rest.now column c.before.before.before.before.if2.false c.before.before.before.before.before.before.before.before.before.before.requires.0 right)
+    let right = sym (ap (wrong_from (get_or a.rest.now 1 0) 0) (left_over 2 a.rest.now)) ∙ none_wrong _ c.before.before.wrong_byte.ensures c.enum_told.given.1 in
+    sym (right_name a.at a.position a.rest.now column c.before.before.before.before.if2.false c.before.before.before.before.before.before.before.before.before.before.requires.0 right)
 
 add-wrong-2 : tie.Need-overflow-add-wrong-2
 add-wrong-2 c = search rules
@@ -75,8 +75,8 @@ add-wrong-3 : tie.Need-overflow-add-wrong-3
 add-wrong-3 c =
     let b = c.before.before.before.before.before.before.before.before.before.before.before in
     let a = b.args in
-    let wrong = sym (ap (wrongFrom (get_or a.rest.now 1 0) 0) (left_over 2 a.rest.now)) ∙ one-wrong _ c.before.before.before.wrong_byte.ensures c.before.k.given.1 in
-    omega (arith, wrong-below (get_or a.rest.now 1 0) 0 (drop 2 a.rest.now) _ wrong, length-drop 2 a.rest.now, b.requires.0, b.requires.1)
+    let wrong = sym (ap (wrong_from (get_or a.rest.now 1 0) 0) (left_over 2 a.rest.now)) ∙ one_wrong _ c.before.before.before.wrong_byte.ensures c.before.k.given.1 in
+    omega (arith, wrong_below (get_or a.rest.now 1 0) 0 (drop 2 a.rest.now) _ wrong, length-drop 2 a.rest.now, b.requires.0, b.requires.1)
 
 wrong-requires-3 : tie.Need-wrong-requires-3
 wrong-requires-3 c κs = search rules
@@ -85,8 +85,8 @@ returns-4 : tie.Need-returns-4
 returns-4 c =
     let a = c.before.before.before.before.before.before.before.before.before.before.before.before.args in
     let column = sym c.before.before.before.before.before.before.before.before.before.is-column.ensures ∙ not-false _ c.before.before.before.before.before.before.before.before.if1.false in
-    let wrong = sym (ap (wrongFrom (get_or a.rest.now 1 0) 0) (left_over 2 a.rest.now)) ∙ one-wrong _ c.before.before.before.before.wrong_byte.ensures c.before.before.k.given.1 in
-    c.wrong3.ensures ∙ sym (ap shownForm (wrong_name a.at a.position a.rest.now column c.before.before.before.before.before.before.if2.false _ wrong))
+    let wrong = sym (ap (wrong_from (get_or a.rest.now 1 0) 0) (left_over 2 a.rest.now)) ∙ one_wrong _ c.before.before.before.before.wrong_byte.ensures c.before.before.k.given.1 in
+    c.wrong3.ensures ∙ sym (ap shown_form (wrong_name a.at a.position a.rest.now column c.before.before.before.before.before.before.if2.false _ wrong))
 
 pub read-rest-spec : {M : Type 1} → statement M
 read-rest-spec =

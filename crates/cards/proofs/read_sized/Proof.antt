@@ -6,9 +6,9 @@ use borrow.Author.Tests.{not-true, not-false}
 use Rattle.format.specs.declared.Fault.TheVariants.{CardForm}
 use Rattle.scan.specs.Shown.{refusal}
 use Rattle.cards.specs.declared.Form.{Form}
-use Rattle.cards.specs.Card.{holds, cardRest, typePlace}
-use Rattle.cards.specs.Shown.{shownForm}
-use Rattle.cards.proofs.Forms.{other-size, not-held, is_held, left_over, position-read}
+use Rattle.cards.specs.Card.{holds, card_rest, type_place}
+use Rattle.cards.specs.Shown.{shown_form}
+use Rattle.cards.proofs.Forms.{other_size, not_held, is_held, left_over, position_read}
 use borrow.Author.Rules.{rules}
 use Rattle.cards.proofs.read_sized.Statement.{statement}
 use Rattle.cards.proofs.read_sized.Tie as tie
@@ -28,7 +28,7 @@ returns c =
     let size = c.before.before.before.type_size.ensures in
     c.wrong.ensures
     ∙ ap (λ (p : ℕ). Form.No (refusal CardForm p)) (c.before.smaller.ensures ∙ rw size)
-    ∙ sym (ap shownForm (other-size a.card.now a.kind (λ e. c.before.before.if1.true (e ∙ sym size))))
+    ∙ sym (ap shown_form (other_size a.card.now a.kind (λ e. c.before.before.if1.true (e ∙ sym size))))
 
 number-at-requires : tie.Need-number-at-requires
 number-at-requires c κs = search rules
@@ -44,9 +44,9 @@ returns-2 c =
     let b = c.before.before.before.before.before.before.before in
     let a = b.args in
     let whole = c.before.before.before.before.if1.false ∙ c.before.before.before.before.before.type_size.ensures in
-    let position = position-read a.kind a.card.now _ b.requires whole c.before.before.before.number_at.ensures in
+    let position = position_read a.kind a.card.now _ b.requires whole c.before.before.before.number_at.ensures in
     let held = ap (holds a.kind) (sym position) ∙ sym c.before.before.is_held.ensures ∙ not-true _ c.before.if2.true in
-    c.wrong2.ensures ∙ sym (ap shownForm (not-held a.card.now a.kind whole held))
+    c.wrong2.ensures ∙ sym (ap shown_form (not_held a.card.now a.kind whole held))
 
 add_at : tie.Need-overflow-add-at
 add_at c = search rules
@@ -68,12 +68,12 @@ returns-3 c =
     let b = c.before.before.before.before.before.before.before.before.before in
     let a = b.args in
     let whole = c.before.before.before.before.before.before.if1.false ∙ c.before.before.before.before.before.before.before.type_size.ensures in
-    let position = position-read a.kind a.card.now _ b.requires whole c.before.before.before.before.before.number_at.ensures in
+    let position = position_read a.kind a.card.now _ b.requires whole c.before.before.before.before.before.number_at.ensures in
     let held = ap (holds a.kind) (sym position) ∙ sym c.before.before.before.before.is_held.ensures ∙ not-false _ c.before.before.before.if2.false in
-    let at = typePlace a.kind in
+    let at = type_place a.kind in
     c.read-rest.ensures
-    ∙ ap₂ (λ (p : ℕ) (bs : List ℕ). shownForm (cardRest at p bs)) position (left_over at a.card.now)
-    ∙ sym (ap shownForm (is_held a.card.now a.kind whole held))
+    ∙ ap₂ (λ (p : ℕ) (bs : List ℕ). shown_form (card_rest at p bs)) position (left_over at a.card.now)
+    ∙ sym (ap shown_form (is_held a.card.now a.kind whole held))
 
 pub read-sized-spec : {M : Type 1} → statement M
 read-sized-spec =

@@ -1,8 +1,8 @@
 -- `cards::rest_byte` meets its contract: the byte at each place, and after those the name's. Assumes nothing.
 use mathlib.Core.Path.{sym, ◌∙◌}
 use native.Mathlib.Omega.{arith}
-use Rattle.cards.specs.Card.{aCard}
-use Rattle.cards.proofs.Loops.{byte-after}
+use Rattle.cards.specs.Card.{a_card}
+use Rattle.cards.proofs.Loops.{byte_after}
 use borrow.Author.Rules.{rules}
 use Rattle.cards.proofs.rest_byte.Statement.{statement}
 use Rattle.cards.proofs.rest_byte.Tie as tie
@@ -25,7 +25,7 @@ returns-2 c = rw c.match.keys2
 returns-3 : tie.Need-returns-3
 returns-3 c =
     let a = c.before.before.before.args in
-    c.padded.ensures ∙ sym (byte-after (aCard 0 a.wire-type a.name.now) a.k (omega arith))
+    c.padded.ensures ∙ sym (byte_after (a_card 0 a.wire-type a.name.now) a.k (omega arith))
 
 pub rest-byte-spec : {M : Type 1} → statement M
 rest-byte-spec = tie.close (tie.spec cast-result sub-padded padded-requires returns returns-2 returns-3)

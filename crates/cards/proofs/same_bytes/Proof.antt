@@ -4,13 +4,13 @@ use Prim.Native.Nat.{◌-◌, ◌≤◌}
 use lib.ListN.{length, get_or}
 use native.Mathlib.Omega.{arith}
 use borrow.Author.Rules.{rules}
-use Rattle.query.proofs.Ends.{EqualFrom, none_seen, one_more}
-use Rattle.cards.proofs.Loops.{other_length, other_byte, all-bytes}
+use Rattle.query.proofs.Ends.{Equal_from, none_seen, one_more}
+use Rattle.cards.proofs.Loops.{other_length, other_byte, all_bytes}
 use Rattle.cards.proofs.same_bytes.Statement.{statement}
 use Rattle.cards.proofs.same_bytes.Tie as tie
 
 abbrev invariant-loop : tie.invariant-loop
-invariant-loop a b rest₀ rest = (rest ≤ length a) × EqualFrom (λ k. get_or a k 0) b rest
+invariant-loop a b rest₀ rest = (rest ≤ length a) × Equal_from (λ k. get_or a k 0) b rest
 
 abbrev decreases-loop : tie.decreases-loop
 decreases-loop a b rest₀ rest = rest
@@ -45,7 +45,7 @@ returns-3 : tie.Need-returns-3 invariant-loop decreases-loop
 returns-3 c =
     let l = c.before.loop in
     let done : l.rest ≡ 0 = omega arith in
-    all-bytes _ _ c.before.before.if1.false (rw done at l.invariant.1)
+    all_bytes _ _ c.before.before.if1.false (rw done at l.invariant.1)
 
 pub same-bytes-spec : {M : Type 1} → statement M
 same-bytes-spec =

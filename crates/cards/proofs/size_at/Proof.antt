@@ -1,7 +1,7 @@
 -- `cards::size_at` meets its contract: the size of the kind that the position has. Assumes nothing.
 use mathlib.Core.Path.{◌∙◌, ap}
-use Rattle.cards.specs.Card.{cardSize}
-use Rattle.cards.proofs.Forms.{kind-narrow, few_bytes}
+use Rattle.cards.specs.Card.{card_size}
+use Rattle.cards.proofs.Forms.{kind_narrow, few_bytes}
 use borrow.Author.Rules.{rules}
 use Rattle.cards.proofs.size_at.Statement.{statement}
 use Rattle.cards.proofs.size_at.Tie as tie
@@ -10,11 +10,11 @@ kind-of-requires : tie.Need-kind-of-requires
 kind-of-requires c κs = search rules
 
 size-of-requires : tie.Need-size-of-requires
-size-of-requires c κs = rw c.kind-of.ensures (kind-narrow c.before.args.position)
+size-of-requires c κs = rw c.kind-of.ensures (kind_narrow c.before.args.position)
 
 returns : tie.Need-returns
 returns c =
-    let size = c.type_size.ensures ∙ ap cardSize c.before.kind-of.ensures in
+    let size = c.type_size.ensures ∙ ap card_size c.before.kind-of.ensures in
     (size, rw size (few_bytes c.before.before.args.position))
 
 pub size-at-spec : {M : Type 1} → statement M

@@ -1,8 +1,8 @@
 -- `cards::write_card` meets its contract: the front is written, and the rest behind it. Assumes nothing.
-use Rattle.cards.specs.Card.{aCard, frontBytes, restBytes, typePlace, restSize}
-use Rattle.format.proofs.Numbers.{length-numBytes}
-use Rattle.put.proofs.Laws.{front-two}
-use Rattle.cards.proofs.Forms.{rest-size}
+use Rattle.cards.specs.Card.{a_card, front_bytes, rest_bytes, type_place, rest_size}
+use Rattle.format.proofs.Numbers.{length-num_bytes}
+use Rattle.put.proofs.Laws.{front_two}
+use Rattle.cards.proofs.Forms.{rest_size_lem}
 use native.Mathlib.Omega.{arith}
 use borrow.Author.Rules.{rules}
 use Rattle.cards.proofs.write_card.Statement.{statement}
@@ -33,8 +33,8 @@ returns : tie.Need-returns
 returns c =
     let k = c.before.before.before.before.before.before.before.before.before.before.before in
     let a = k.args in
-    front-two a.out.now (frontBytes a.kind a.position) (restBytes (aCard a.position a.wire-type a.name.now)) _ _ (typePlace a.kind) restSize
-    (omega (arith, length-numBytes a.kind.width a.position)) (rest-size (aCard a.position a.wire-type a.name.now) k.requires.2) k.requires.1
+    front_two a.out.now (front_bytes a.kind a.position) (rest_bytes (a_card a.position a.wire-type a.name.now)) _ _ (type_place a.kind) rest_size
+    (omega (arith, length-num_bytes a.kind.width a.position)) (rest_size_lem (a_card a.position a.wire-type a.name.now) k.requires.2) k.requires.1
     c.before.before.before.before.before.before.before.write-front.ensures c.before.before.write-rest.ensures
 
 pub write-card-spec : {M : Type 1} → statement M

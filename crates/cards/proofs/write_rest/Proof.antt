@@ -5,21 +5,21 @@ use mathlib.Core.List.{List}
 use native.Mathlib.Omega.{arith}
 use lib.ListN.{length, set, get_or, length-set}
 use lib.Seq.{paste, paste-zero}
-use Rattle.cards.specs.Card.{aCard, restBytes, restSize}
-use Rattle.cards.proofs.Forms.{rest-size}
+use Rattle.cards.specs.Card.{a_card, rest_bytes, rest_size}
+use Rattle.cards.proofs.Forms.{rest_size_lem}
 use Rattle.cards.proofs.Loops.{copied_more, copied_all}
 use borrow.Author.Rules.{rules}
 use Rattle.cards.proofs.write_rest.Statement.{statement}
 use Rattle.cards.proofs.write_rest.Tie as tie
 
 abbrev invariant-loop : tie.invariant-loop
-invariant-loop out₀ wire-type name k₀ out k = (k ≤ restSize) × (length out ≡ length out₀) × (out ≡ paste out₀ 0 (restBytes (aCard 0 wire-type name)) k)
+invariant-loop out₀ wire-type name k₀ out k = (k ≤ rest_size) × (length out ≡ length out₀) × (out ≡ paste out₀ 0 (rest_bytes (a_card 0 wire-type name)) k)
 
 abbrev decreases-loop : tie.decreases-loop
-decreases-loop out₀ wire-type name k₀ out k = restSize - k
+decreases-loop out₀ wire-type name k₀ out k = rest_size - k
 
 loop-holds : tie.Need-loop-init invariant-loop decreases-loop
-loop-holds c = (search rules, search rules, paste-zero _ 0 (restBytes (aCard 0 c.before.before.args.wire-type c.before.before.args.name.now)))
+loop-holds c = (search rules, search rules, paste-zero _ 0 (rest_bytes (a_card 0 c.before.before.args.wire-type c.before.before.args.name.now)))
 
 rest-byte-requires : tie.Need-rest-byte-requires invariant-loop decreases-loop
 rest-byte-requires c κs = search rules
@@ -37,8 +37,8 @@ loop-again : tie.Need-loop-preserved invariant-loop decreases-loop
 loop-again c =
     let l = c.before.before.loop in
     let a = c.before.before.before.before.before.args in
-    let bs = restBytes (aCard 0 a.wire-type a.name.now) in
-    let size = rest-size (aCard 0 a.wire-type a.name.now) c.before.before.before.before.before.requires.1 in
+    let bs = rest_bytes (a_card 0 a.wire-type a.name.now) in
+    let size = rest_size_lem (a_card 0 a.wire-type a.name.now) c.before.before.before.before.before.requires.1 in
     let room = c.before.before.before.before.before.requires.0 in (
       search rules,
       simp length-set l.invariant.1,
@@ -53,8 +53,8 @@ same_length c = search rules
 returns : tie.Need-returns invariant-loop decreases-loop
 returns c =
     let a = c.before.before.before.before.args in
-    let card = aCard 0 a.wire-type a.name.now in
-    c.before.loop.invariant.2 ∙ copied_all a.out.now (restBytes card) restSize c.before.loop.k (rest-size card c.before.before.before.before.requires.1) (omega arith)
+    let card = a_card 0 a.wire-type a.name.now in
+    c.before.loop.invariant.2 ∙ copied_all a.out.now (rest_bytes card) rest_size c.before.loop.k (rest_size_lem card c.before.before.before.before.requires.1) (omega arith)
 
 pub write-rest-spec : {M : Type 1} → statement M
 write-rest-spec =

@@ -2,7 +2,7 @@
 use Prim.Native.Nat.{ℕ, ◌+◌}
 use mathlib.Core.Path.{◌≡◌}
 use native.Mathlib.Omega.{arith}
-use Rattle.put.proofs.Laws.{puts-number, puts-both}
+use Rattle.put.proofs.Laws.{puts_number, puts_both}
 use borrow.Author.Rules.{rules}
 use Rattle.columns.proofs.head_at.Statement.{statement}
 use Rattle.columns.proofs.head_at.Tie as tie
@@ -33,11 +33,11 @@ returns : tie.Need-returns
 returns c =
     let b = c.before.before.before.before.before.before.before.before.before.before.before.before.before.before.before.before.before.before in
     let x = b.args in
-    let p = puts-number x.out.now x.at 4 0 (omega arith) c.before.before.before.before.before.before.before.before.before.before.before.before.before.before.before.number_at.ensures in
-    let q = puts-number c.before.before.before.before.before.before.before.before.before.before.before.before.before.before.before.number_at.new.0 c.before.before.before.before.before.before.before.before.before.before.before.before.before.before.before.number_at.result 4 (3 + (x.s.n + x.s.size)) (omega arith) c.before.before.before.before.before.before.before.before.before.before.number-at2.ensures in
-    let r = puts-number c.before.before.before.before.before.before.before.before.before.before.number-at2.new.0 c.before.before.before.before.before.before.before.before.before.before.number-at2.result 1 x.status (omega arith) c.before.before.before.before.before.before.number-at3.ensures in
-    let s = puts-number c.before.before.before.before.before.before.number-at3.new.0 c.before.before.before.before.before.before.number-at3.result 2 x.s.n (omega arith) c.before.before.number-at4.ensures in
-    let all = puts-both p (puts-both q (puts-both r s)) in
+    let p = puts_number x.out.now x.at 4 0 (omega arith) c.before.before.before.before.before.before.before.before.before.before.before.before.before.before.before.number_at.ensures in
+    let q = puts_number c.before.before.before.before.before.before.before.before.before.before.before.before.before.before.before.number_at.new.0 c.before.before.before.before.before.before.before.before.before.before.before.before.before.before.before.number_at.result 4 (3 + (x.s.n + x.s.size)) (omega arith) c.before.before.before.before.before.before.before.before.before.before.number-at2.ensures in
+    let r = puts_number c.before.before.before.before.before.before.before.before.before.before.number-at2.new.0 c.before.before.before.before.before.before.before.before.before.before.number-at2.result 1 x.status (omega arith) c.before.before.before.before.before.before.number-at3.ensures in
+    let s = puts_number c.before.before.before.before.before.before.number-at3.new.0 c.before.before.before.before.before.before.number-at3.result 2 x.s.n (omega arith) c.before.before.number-at4.ensures in
+    let all = puts_both p (puts_both q (puts_both r s)) in
     (omega arith, all.is)
 
 pub head-at-spec : {M : Type 1} → statement M

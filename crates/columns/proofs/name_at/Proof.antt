@@ -5,7 +5,7 @@ use mathlib.Core.List.{List}
 use mathlib.Core.Option.{Option}
 use lib.ListN.{length}
 use Rattle.put.specs.Put.{put, sized}
-use Rattle.columns.proofs.Metadata.{part-is}
+use Rattle.columns.proofs.Metadata.{part_is}
 use borrow.Author.Rules.{rules}
 use Rattle.columns.proofs.name_at.Statement.{statement}
 use Rattle.columns.proofs.name_at.Tie as tie
@@ -25,7 +25,7 @@ part-text-at-end c = search rules
 text-at-requires : tie.Need-text-at-requires
 text-at-requires c κs =
     let b = c.before.before.before.before.before in
-    subst (λ (o : Option (List ℕ)). b.args.at + length (sized o) ≤ length b.args.out.now) (sym (part-is b.args.names.now b.args.c b.requires.0)) b.requires.1
+    subst (λ (o : Option (List ℕ)). b.args.at + length (sized o) ≤ length b.args.out.now) (sym (part_is b.args.names.now b.args.c b.requires.0)) b.requires.1
 
 same_length : tie.Need-same-length
 same_length c = search rules
@@ -33,7 +33,7 @@ same_length c = search rules
 returns : tie.Need-returns
 returns c =
     let b = c.before.before.before.before.before.before.before.before in
-    let e = part-is b.args.names.now b.args.c b.requires.0 in
+    let e = part_is b.args.names.now b.args.c b.requires.0 in
     let w = c.before.before.text_at.ensures in
     (w.0 ∙ ap (λ (o : Option (List ℕ)). b.args.at + length (sized o)) e, w.1 ∙ ap (λ (o : Option (List ℕ)). put b.args.out.now b.args.at (sized o)) e)
 

@@ -3,8 +3,8 @@ use mathlib.Core.Path.{sym, ap, ◌∙◌}
 use Prim.Native.Nat.{◌+◌, ◌≤◌}
 use lib.ListN.{length}
 use borrow.Author.Tests.{leb-true, not-true, not-false}
-use Rattle.steps.specs.Arguments.{nameFault}
-use Rattle.columns.proofs.Metadata.{name-past, name-judged}
+use Rattle.steps.specs.Arguments.{name_fault}
+use Rattle.columns.proofs.Metadata.{name_past, name_judged}
 use borrow.Author.Rules.{rules}
 use Rattle.columns.proofs.name_fault.Statement.{statement}
 use Rattle.columns.proofs.name_fault.Tie as tie
@@ -15,7 +15,7 @@ stands-requires c κs = search rules
 returns : tie.Need-returns
 returns c =
     let a = c.before.before.before.args in
-    sym (ap (nameFault a.at) (name-past a.names.now a.c (sym c.before.stands.ensures ∙ not-true _ c.if1.true)))
+    sym (ap (name_fault a.at) (name_past a.names.now a.c (sym c.before.stands.ensures ∙ not-true _ c.if1.true)))
 
 test-requires : tie.Need-test-requires
 test-requires c κs = search rules
@@ -48,7 +48,7 @@ returns-2 : tie.Need-returns-2
 returns-2 c =
     let a = c.before.before.before.before.before.before.before.args in
     let h : a.c.start + a.c.size ≤ length a.names.now = leb-true _ _ (sym c.before.before.before.before.before.stands.ensures ∙ not-false _ c.before.before.before.before.if1.false) in
-    name-judged a.at a.names.now a.c h c.also.ensures c.before.before.before.test.ensures c.before.ascii-fault.ensures
+    name_judged a.at a.names.now a.c h c.also.ensures c.before.before.before.test.ensures c.before.ascii-fault.ensures
 
 pub name-fault-spec : {M : Type 1} → statement M
 name-fault-spec =

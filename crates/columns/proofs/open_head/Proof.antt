@@ -4,11 +4,11 @@ use native.Mathlib.Omega.{arith}
 use mathlib.Core.Path.{◌≡◌, refl, sym, ap, ◌∙◌}
 use mathlib.Core.List.{List}
 use lib.ListN.{length}
-use Rattle.format.specs.Message.{mostColumns, mostItems}
-use Rattle.format.specs.Number.{numBytes}
+use Rattle.format.specs.Message.{most_columns, most_items}
+use Rattle.format.specs.Number.{num_bytes}
 use Rattle.put.specs.Put.{put}
-use Rattle.columns.specs.Walks.{headBytes}
-use Rattle.columns.proofs.Heads.{taken, head-refused, head-taken}
+use Rattle.columns.specs.Walks.{head_bytes}
+use Rattle.columns.proofs.Heads.{taken, head_refused, head_taken}
 use borrow.Author.Rules.{rules}
 use Rattle.columns.proofs.open_head.Statement.{statement}
 use Rattle.columns.proofs.open_head.Tie as tie
@@ -27,7 +27,7 @@ enum_told : tie.Need-enum-told
 enum_told c = search rules
 
 returns : tie.Need-returns
-returns c = let a = c.before.before.before.before.args in head-refused a.st a.s a.status a.out.now c.before.before.ask-open-table.ensures c.enum_told.given.1
+returns c = let a = c.before.before.before.before.args in head_refused a.st a.s a.status a.out.now c.before.before.ask-open-table.ensures c.enum_told.given.1
 
 head-at-requires : tie.Need-head-at-requires
 head-at-requires c κs =
@@ -77,8 +77,8 @@ returns-2 c =
     let b = c.before.before.before.before.before.before.before.before.before.before.before.before.before.before.before in
     let a = b.args in
     let t = taken a.st a.s (length a.out.now) c.before.before.before.before.before.before.before.before.before.before.before.before.before.ask-open-table.ensures c.before.before.before.before.before.before.before.before.before.before.before.a.given.1 in
-    head-taken a.st a.s a.status a.out.now t c.before.opened.ensures c.before.before.before.before.before.before.before.before.head_at.ensures.0
-    (c.before.before.before.before.number_at.ensures.1 ∙ ap (λ (x : List ℕ). put x (c.before.before.before.before.before.before.before.before.before.before.before.a.given.0.0 - 4) (numBytes 4 0)) c.before.before.before.before.before.before.before.before.head_at.ensures.1)
+    head_taken a.st a.s a.status a.out.now t c.before.opened.ensures c.before.before.before.before.before.before.before.before.head_at.ensures.0
+    (c.before.before.before.before.number_at.ensures.1 ∙ ap (λ (x : List ℕ). put x (c.before.before.before.before.before.before.before.before.before.before.before.a.given.0.0 - 4) (num_bytes 4 0)) c.before.before.before.before.before.before.before.before.head_at.ensures.1)
 
 pub open-head-spec : {M : Type 1} → statement M
 open-head-spec =

@@ -8,12 +8,12 @@ use mathlib.Core.List.{List}
 use lib.ListN.{length}
 use lib.Dec.{eqb}
 use borrow.Author.Tests.{eq-eqb, ne_eqb}
-use Rattle.format.specs.Number.{numBytes}
-use Rattle.format.proofs.Numbers.{length-numBytes}
+use Rattle.format.specs.Number.{num_bytes}
+use Rattle.format.proofs.Numbers.{length-num_bytes}
 use Rattle.put.specs.Put.{put}
-use Rattle.put.proofs.Laws.{put-length}
+use Rattle.put.proofs.Laws.{put_length}
 use Rattle.columns.specs.declared.Walk.{Walk}
-use Rattle.columns.specs.Entries.{nameBytes, type_bytes}
+use Rattle.columns.specs.Entries.{name_bytes, type_bytes}
 use borrow.Author.Rules.{rules}
 use Rattle.columns.proofs.put_column.Statement.{statement}
 use Rattle.columns.proofs.put_column.Tie as tie
@@ -49,7 +49,7 @@ name-at-requires : tie.Need-name-at-requires
 name-at-requires c κs =
     let b = c.before.before.before.before.before.before.before.before.before.before in
     let f = b.requires (omega (arith, some b.args.w.left c.before.before.before.before.before.before.if1.false)) in
-    let l = ap length c.before.before.before.number_at.ensures.1 ∙ put-length b.args.out.now b.args.w.kind_at (type_bytes b.args.c) (let one = length-numBytes 1 b.args.c.wire_type in let k = f.1 in omega arith) in
+    let l = ap length c.before.before.before.number_at.ensures.1 ∙ put_length b.args.out.now b.args.w.kind_at (type_bytes b.args.c) (let one = length-num_bytes 1 b.args.c.wire_type in let k = f.1 in omega arith) in
     (f.2, (let k = f.3 in omega arith))
 
 sub-t17 : tie.Need-overflow-sub-t17

@@ -1,7 +1,7 @@
 -- `columns::survey_fault` meets its contract: its tests are the definition's, in its order. Assumes nothing.
 use mathlib.Core.Path.{◌≡◌, ap₂, ◌∙◌}
 use Rattle.steps.specs.Plans.{also}
-use Rattle.write.specs.Shared.{verdictOf}
+use Rattle.write.specs.Shared.{verdict_of}
 use mathlib.Core.Path.{refl}
 use borrow.Author.Rules.{rules}
 use Rattle.columns.proofs.survey_fault.Statement.{statement}

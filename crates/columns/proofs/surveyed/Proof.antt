@@ -3,9 +3,9 @@ use Prim.Native.Nat.{ℕ, ◌+◌, ◌*◌, ◌<◌, ◌≤◌}
 use native.Mathlib.Omega.{arith}
 use mathlib.Core.Path.{◌≡◌, refl, sym, ap, ap₂, ◌∙◌}
 use mathlib.Core.Bool.{Bool, ◌&&◌}
-use Rattle.format.specs.Value.{mostBytes}
-use Rattle.format.specs.Message.{mostColumns}
-use Rattle.columns.proofs.Surveys.{one-added, too_many, short-next, stays, grows}
+use Rattle.format.specs.Value.{most_bytes}
+use Rattle.format.specs.Message.{most_columns}
+use Rattle.columns.proofs.Surveys.{one_added, too_many, short_next, stays, grows}
 use borrow.Author.Rules.{rules}
 use Rattle.columns.proofs.surveyed.Statement.{statement}
 use Rattle.columns.proofs.surveyed.Tie as tie
@@ -40,7 +40,7 @@ add-t9 c = search rules
 returns-2 : tie.Need-returns-2
 returns-2 c =
     let a = c.before.before.before.before.before.before.before.before.before.args in
-    one-added a.names.now a.s a.c c.before.before.before.before.before.before.if1.false (c.before.before.before.before.both.ensures ∙ ap₂ ◌&&◌ c.before.before.before.before.before.is-column.ensures refl) c.before.before.before.next-fault.ensures (stays a.s.size (4 + a.c.size) c.before.enum-told2.given.1)
+    one_added a.names.now a.s a.c c.before.before.before.before.before.before.if1.false (c.before.before.before.before.both.ensures ∙ ap₂ ◌&&◌ c.before.before.before.before.before.is-column.ensures refl) c.before.before.before.next-fault.ensures (stays a.s.size (4 + a.c.size) c.before.enum-told2.given.1)
 
 add-t10 : tie.Need-overflow-add-t10
 add-t10 c = search rules
@@ -48,21 +48,21 @@ add-t10 c = search rules
 add-t11 : tie.Need-overflow-add-t11
 add-t11 c =
     let a = c.before.before.before.before.before.before.before.before.before.before.args in
-    let short = short-next a.s.at a.names.now a.s.fault a.c c.before.before.before.before.next-fault.ensures c.before.before.enum_told.given.1 in
+    let short = short_next a.s.at a.names.now a.s.fault a.c c.before.before.before.before.next-fault.ensures c.before.before.enum_told.given.1 in
     search rules
 
 add-t12 : tie.Need-overflow-add-t12
 add-t12 c =
     let a = c.before.before.before.before.before.before.before.before.before.before.before.args in
     let pre = c.before.before.before.before.before.before.before.before.before.before.before.requires in
-    let n : a.s.n < mostColumns = c.before.before.before.before.before.before.before.before.if1.false in
-    let short = short-next a.s.at a.names.now a.s.fault a.c c.before.before.before.before.before.next-fault.ensures c.before.before.before.enum_told.given.1 in
+    let n : a.s.n < most_columns = c.before.before.before.before.before.before.before.before.if1.false in
+    let short = short_next a.s.at a.names.now a.s.fault a.c c.before.before.before.before.before.next-fault.ensures c.before.before.before.enum_told.given.1 in
     search rules
 
 returns-3 : tie.Need-returns-3
 returns-3 c =
     let a = c.before.before.before.before.before.before.before.before.before.before.before.args in
-    one-added a.names.now a.s a.c c.before.before.before.before.before.before.before.before.if1.false (c.before.before.before.before.before.before.both.ensures ∙ ap₂ ◌&&◌ c.before.before.before.before.before.before.before.is-column.ensures refl) c.before.before.before.before.before.next-fault.ensures (grows a.s.size (4 + a.c.size) c.before.before.before.enum_told.given.1)
+    one_added a.names.now a.s a.c c.before.before.before.before.before.before.before.before.if1.false (c.before.before.before.before.before.before.both.ensures ∙ ap₂ ◌&&◌ c.before.before.before.before.before.before.before.is-column.ensures refl) c.before.before.before.before.before.next-fault.ensures (grows a.s.size (4 + a.c.size) c.before.before.before.enum_told.given.1)
 
 pub surveyed-spec : {M : Type 1} → statement M
 surveyed-spec =

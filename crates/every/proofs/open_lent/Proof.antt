@@ -46,12 +46,12 @@ use denote.Triple.Table.{entered, cited}
 use denote.Triple.Walked.{says, Stays, stay_none, stay_none_slice, gave_slice, gave_ref, walk_of, Goes-none, Goes-none_slice, Goes-gave_slice, Goes-gave_ref, Walks, ends_at, walked, walk_Meets}
 use denote.Triple.Clauses.{ensured, lasts}
 use denote.Exit.{yes}
-use Rattle.format.specs.Message.{mostColumns}
-use Rattle.columns.specs.Entries.{columnsOf}
+use Rattle.format.specs.Message.{most_columns}
+use Rattle.columns.specs.Entries.{columns_of}
 use Rattle.columns.specs.declared.Column.{Column}
 use Rattle.write.specs.declared.State.{State}
 use Rattle.write.specs.declared.Outcome.{Outcome}
-use Rattle.steps.specs.Steps.{openTable}
+use Rattle.steps.specs.Steps.{open_table}
 use Rattle.write.specs.Shown.{Opened}
 use Rattle.columns.specs.contracts.Column as T
 use Rattle.columns.proofs.Column.TheLaws as T'
@@ -69,7 +69,7 @@ use Rattle.every.proofs.open_lent.Statement as stated
 use Rattle.every.proofs.open_lent.Code as code
 
 abbrev stayed : Stays (fn.ended).signature.params (fn.ended).kept
-stayed = (gave_slice (0 ∷ []) tt (plain (λ _. u8)), (stay_none (λ _. VState.the_row) yes, (gave_ref (1 ∷ []) tt (array_of (plain (λ _. u8)) mostColumns), (stay_none (λ _. u8) yes, (stay_none (λ _. Array T.the_row 11) yes, (stay_none_slice (2 ∷ []) tt (plain (λ _. u8)) yes, tt))))))
+stayed = (gave_slice (0 ∷ []) tt (plain (λ _. u8)), (stay_none (λ _. VState.the_row) yes, (gave_ref (1 ∷ []) tt (array_of (plain (λ _. u8)) most_columns), (stay_none (λ _. u8) yes, (stay_none (λ _. Array T.the_row 11) yes, (stay_none_slice (2 ∷ []) tt (plain (λ _. u8)) yes, tt))))))
 
 -- the array's type, and the machine value of one
 abbrev τ : Ty
@@ -149,7 +149,7 @@ module _ {M : Type 1} {𝓤 : Ura M} (𝓛 : Logic 𝓤) (mem : Memory → SProp
 
   -- what is said of the result, and of the types and the output at last
   abbrev Said : Outcome → List ℕ → List ℕ → Type 0
-  Said r ts zs = Opened (openTable status (columnsOf es x6.now)) st types ys r ts zs
+  Said r ts zs = Opened (open_table status (columns_of es x6.now)) st types ys r ts zs
 
   abbrev Post : Val → SProp 𝓤
   Post = (walk_of 𝓛 fn.ended stayed (fn.clauses 𝓛 mem run)).post ((κs, qs, tt, args, at), tt)
@@ -165,9 +165,9 @@ module _ {M : Type 1} {𝓤 : Ura M} (𝓛 : Logic 𝓤) (mem : Memory → SProp
   OwnN = (ShrSlice (named 2) κ2 u8).own_val x6 (v6 ∷ [])
 
   exits : (r : Outcome) (u : Val) (zs ts : List ℕ) → Said r ts zs → length zs ≡ length ys
-      → ent 𝓤 (⋆ 𝓛 (‵ ((R.the_row).own_val r (u ∷ [])) ∷ (‵ (flft κ0 q0) ⊛ ‵ (flft κ1 q1) ⊛ ‵ (flft κ2 q2) ⊛ ‵ ftrue) ∷ ‵ (finally u8 γ0 zs) ∷ ‵ OwnSt ∷ ‵ (fres γ1 ((Array u8 mostColumns).coded.code ts)) ∷ ‵ OwnCols ∷ ‵ OwnN ∷ [])) (Post u)
+      → ent 𝓤 (⋆ 𝓛 (‵ ((R.the_row).own_val r (u ∷ [])) ∷ (‵ (flft κ0 q0) ⊛ ‵ (flft κ1 q1) ⊛ ‵ (flft κ2 q2) ⊛ ‵ ftrue) ∷ ‵ (finally u8 γ0 zs) ∷ ‵ OwnSt ∷ ‵ (fres γ1 ((Array u8 most_columns).coded.code ts)) ∷ ‵ OwnCols ∷ ‵ OwnN ∷ [])) (Post u)
   exits r u zs ts e l =
-      qed 𝓛 (‵ ((R.the_row).own_val r (u ∷ [])) ∷ (‵ (flft κ0 q0) ⊛ ‵ (flft κ1 q1) ⊛ ‵ (flft κ2 q2) ⊛ ‵ ftrue) ∷ ‵ (finally u8 γ0 zs) ∷ ‵ OwnSt ∷ ‵ (fres γ1 ((Array u8 mostColumns).coded.code ts)) ∷ ‵ OwnCols ∷ ‵ OwnN ∷ []) ∵
+      qed 𝓛 (‵ ((R.the_row).own_val r (u ∷ [])) ∷ (‵ (flft κ0 q0) ⊛ ‵ (flft κ1 q1) ⊛ ‵ (flft κ2 q2) ⊛ ‵ ftrue) ∷ ‵ (finally u8 γ0 zs) ∷ ‵ OwnSt ∷ ‵ (fres γ1 ((Array u8 most_columns).coded.code ts)) ∷ ‵ OwnCols ∷ ‵ OwnN ∷ []) ∵
       suffices ! _ (ends_at 𝓛 fn.ended stayed (fn.clauses 𝓛 mem run) ((κs, qs, tt, args, at), tt) u r (zs, (tt, (ts, (tt, (tt, (tt, tt)))))) (l, (tt, (tt, (tt, (tt, (tt, tt))))))) $ says ! e $
       move ! (1 ∷ []) $ frame ! $ nothing ! $ move ! (6 ∷ 0 ∷ []) $ fjoin ! $ move ! (5 ∷ 0 ∷ []) $ fjoin ! $ owned ! u8 (Is u8) (uint_Makes 𝓛 w8) status _ (refl, status-fits) $ fjoin ! $
       move ! (4 ∷ 0 ∷ []) $ fjoin ! $ move ! (3 ∷ 0 ∷ []) $ fjoin ! $ move ! (2 ∷ 0 ∷ []) $ fjoin ! $ frame ! $ done !
@@ -195,12 +195,12 @@ module _ {M : Type 1} {𝓤 : Ura M} (𝓛 : Logic 𝓤) (mem : Memory → SProp
   to b ν δ = ((lfts ν, (q0, (q1, (full_share, (q2, tt)))), tt, passed b δ, vals b), tt)
 
   asked : (b ν : ℕ) (δ : GName) → ent 𝓤 (on_entry 𝓛 callee.signature (lfts ν) (q0, (q1, (full_share, (q2, tt)))) (passed b δ) (vals b)) ((Cited 𝓛 mem run).pre (to b ν δ))
-  asked b ν δ = qed 𝓛 ((‵ (flft κ0 q0) ⊛ ‵ (flft κ1 q1) ⊛ ‵ (flft (ν ∷ []) full_share) ⊛ ‵ (flft κ2 q2) ⊛ ‵ ftrue) ∷ ‵ (owns (MutSlice (named 0) κ0 u8 ∷ VState.the_row ∷ MutRef (named 1) κ1 (Array u8 mostColumns) ∷ u8 ∷ ShrSlice (named 2) (ν ∷ []) T.the_row ∷ ShrSlice (named 3) κ2 u8 ∷ []) (passed b δ) (vals b)) ∷ []) ∵ join ! $ frame ! $ done !
+  asked b ν δ = qed 𝓛 ((‵ (flft κ0 q0) ⊛ ‵ (flft κ1 q1) ⊛ ‵ (flft (ν ∷ []) full_share) ⊛ ‵ (flft κ2 q2) ⊛ ‵ ftrue) ∷ ‵ (owns (MutSlice (named 0) κ0 u8 ∷ VState.the_row ∷ MutRef (named 1) κ1 (Array u8 most_columns) ∷ u8 ∷ ShrSlice (named 2) (ν ∷ []) T.the_row ∷ ShrSlice (named 3) κ2 u8 ∷ []) (passed b δ) (vals b)) ∷ []) ∵ join ! $ frame ! $ done !
 
   module _ (𝓣 : Tables 𝓤 H) (known : Triple 𝓤 (𝓣.C #held·open-table) (Cited 𝓛 mem run)) where
     walk : Is VState.the_row st (vs ∷ []) → Holds (has_ty τ vc) × WT vc → Is (ShrSlice (named 2) κ2 u8) x6 (v6 ∷ []) → ent 𝓤 (on_entry 𝓛 fn.signature κs qs args at) (WpFn 𝓤 H 𝓣.C 𝓣.Λ code.function (vo ∷ vs ∷ vt ∷ v4 ∷ vc ∷ v6 ∷ []) Post)
     walk ps cols-typed p6 =
-        qed 𝓛 ((‵ (flft κ0 q0) ⊛ ‵ (flft κ1 q1) ⊛ ‵ (flft κ2 q2) ⊛ ‵ ftrue) ∷ ‵ (owns (MutSlice (named 0) κ0 u8 ∷ VState.the_row ∷ MutRef (named 1) κ1 (Array u8 mostColumns) ∷ u8 ∷ Array T.the_row 11 ∷ ShrSlice (named 2) κ2 u8 ∷ []) args at) ∷ []) ∵
+        qed 𝓛 ((‵ (flft κ0 q0) ⊛ ‵ (flft κ1 q1) ⊛ ‵ (flft κ2 q2) ⊛ ‵ ftrue) ∷ ‵ (owns (MutSlice (named 0) κ0 u8 ∷ VState.the_row ∷ MutRef (named 1) κ1 (Array u8 most_columns) ∷ u8 ∷ Array T.the_row 11 ∷ ShrSlice (named 2) κ2 u8 ∷ []) args at) ∷ []) ∵
         enter ! 𝓣.C 𝓣.Λ code.function (vo ∷ vs ∷ vt ∷ v4 ∷ vc ∷ v6 ∷ []) _ $
         alloc1 ! (λ l0. alloc1 ! (λ l1. alloc1 ! (λ l2. alloc1 ! (λ l3. alloc1 ! (λ l4. alloc1 ! (λ l5. alloc1 ! (λ l6. alloc1 ! (λ l7. alloc1 ! (λ l8. alloc1 ! (λ l9. alloc1 ! (λ l10. alloc1 ! (λ l11. alloc1 ! (λ l12. alloc0 ! $ params1 ! $
         pass1 ! (init ! 22 refl (tt, (tt, (record { fits = room0.0 }, tt)))) $ pass1 ! (init ! 20 refl ((LL.lawful VState.the_type VState'.the_laws 𝓛).typed st (vs ∷ []) ps).0) $ pass1 ! (init ! 18 refl (tt, tt)) $ pass1 ! (init ! 16 refl (tt, record { fits = status-fits })) $ pass1 ! (init ! 14 refl cols-typed) $ pass1 ! (init ! 12 refl ((shr_slice_Lawful 𝓛 (named 2) κ2 u8).typed x6 (v6 ∷ []) p6).0) $ pass0 ! $
@@ -237,7 +237,7 @@ module _ {M : Type 1} {𝓤 : Ura M} (𝓛 : Logic 𝓤) (mem : Memory → SProp
   fn-walks : (𝓣 : Tables 𝓤 H) → Triple 𝓤 (𝓣.C #held·open-table) (Cited 𝓛 mem run) → Walks 𝓛 fn.ended stayed (WpFn 𝓤 H 𝓣.C 𝓣.Λ code.function) (fn.clauses 𝓛 mem run)
   fn-walks 𝓣 known = walked 𝓛 fn.ended stayed (fn.clauses 𝓛 mem run) (WpFn 𝓤 H 𝓣.C 𝓣.Λ code.function)
       (λ κs. (shr_slice_vals, (LL.vals VState.the_type VState'.the_laws, (shr_vals, (uint_vals w8, (array_vals (LL.vals T.the_type T'.the_laws), (shr_slice_vals, tt)))))))
-      (λ κs. (mut_slice_Tells (named 0) κs.0 u8, (LL.tells VState.the_type VState'.the_laws, (mut_Tells (named 1) κs.1.0 (Array u8 mostColumns), (uint_Tells w8, (Array-Tells T.the_row (LL.vals T.the_type T'.the_laws) (LL.tells T.the_type T'.the_laws) 11, (shr_slice_Tells (named 2) κs.1.1.0 u8, tt)))))))
+      (λ κs. (mut_slice_Tells (named 0) κs.0 u8, (LL.tells VState.the_type VState'.the_laws, (mut_Tells (named 1) κs.1.0 (Array u8 most_columns), (uint_Tells w8, (Array-Tells T.the_row (LL.vals T.the_type T'.the_laws) (LL.tells T.the_type T'.the_laws) 11, (shr_slice_Tells (named 2) κs.1.1.0 u8, tt)))))))
       (λ κs qs bounds a g are. via 𝓤 _ (fst∗ 𝓤 _ (emp 𝓤))
       (walk 𝓛 mem run κs.0 κs.1.0 κs.1.1.0 qs.0 qs.1.0 qs.1.1.0 a.0.ref_ptr.0 a.0.ref_ptr.1 a.0.ghost_name a.0.now are.0.0.1 a.1.0 a.1.1.0.ref_ptr.0 a.1.1.0.ref_ptr.1 a.1.1.0.ghost_name a.1.1.0.now a.1.1.1.0 are.1.1.1.0.1 a.1.1.1.1.0 are.1.1.1.1.0.1.0.1 a.1.1.1.1.1.0
       𝓣 known are.1.0 ((Array-Lawful 𝓛 T.the_row (LL.lawful T.the_type T'.the_laws 𝓛) 11).typed a.1.1.1.1.0 _ are.1.1.1.1.0).0 are.1.1.1.1.1.0))
@@ -245,7 +245,7 @@ module _ {M : Type 1} {𝓤 : Ura M} (𝓛 : Logic 𝓤) (mem : Memory → SProp
 fn-meets : {M : Type 1} {𝓤 : Ura M} (𝓛 : Logic 𝓤) → (mem : Memory → SProp 𝓤) (run : Routine → Fun 𝓤) (𝓣 : Tables 𝓤 𝓛.H) → Triple 𝓤 (𝓣.C #held·open-table) (Cited 𝓛 mem run)
     → Meets 𝓛 fn.signature (WpFn 𝓤 𝓛.H 𝓣.C 𝓣.Λ code.function) (fn.spec 𝓛 mem run)
 fn-meets {𝓤 = 𝓤} 𝓛 mem run 𝓣 known =
-    walk_Meets 𝓛 fn.ended stayed (Goes-gave_slice 𝓛 3 0 tt (plain (λ _. u8)), (Goes-none 𝓛 3 (λ _. VState.the_row) yes (λ κs x f. refl), (Goes-gave_ref 𝓛 3 1 tt (array_of (plain (λ _. u8)) mostColumns), (Goes-none 𝓛 3 (λ _. u8) yes (λ κs x f. refl), (Goes-none 𝓛 3 (λ _. Array T.the_row 11) yes (λ κs x f. refl), (Goes-none_slice 𝓛 3 (2 ∷ []) tt (plain (λ _. u8)) yes, tt)))))) (fn.clauses 𝓛 mem run)
+    walk_Meets 𝓛 fn.ended stayed (Goes-gave_slice 𝓛 3 0 tt (plain (λ _. u8)), (Goes-none 𝓛 3 (λ _. VState.the_row) yes (λ κs x f. refl), (Goes-gave_ref 𝓛 3 1 tt (array_of (plain (λ _. u8)) most_columns), (Goes-none 𝓛 3 (λ _. u8) yes (λ κs x f. refl), (Goes-none 𝓛 3 (λ _. Array T.the_row 11) yes (λ κs x f. refl), (Goes-none_slice 𝓛 3 (2 ∷ []) tt (plain (λ _. u8)) yes, tt)))))) (fn.clauses 𝓛 mem run)
     (WpFn 𝓤 𝓛.H 𝓣.C 𝓣.Λ code.function) (WpFn-mono 𝓤 𝓛.H 𝓛.laws 𝓣 code.function) (fn-walks 𝓛 mem run 𝓣 known)
 
 pub open-lent-spec : {M : Type 1} → stated.statement M

@@ -1,8 +1,8 @@
 -- `exports::chaloenpik_accept` meets its contract: the answer of `accept`, packed. Assumes nothing.
 use mathlib.Core.Path.{◌∙◌}
-use Rattle.format.specs.Message.{kindLayout}
+use Rattle.format.specs.Message.{kind_layout}
 use borrow.Author.Rules.{rules}
-use Rattle.exports.proofs.Packs.{packs-fine, packs-refusal}
+use Rattle.exports.proofs.Packs.{packs_fine, packs_refusal}
 use Rattle.exports.proofs.chaloenpik_accept.Statement.{statement}
 use Rattle.exports.proofs.chaloenpik_accept.Tie as tie
 
@@ -18,7 +18,7 @@ enum_told c = search rules
 returns : tie.Need-returns
 returns c =
     let a = c.before.before.before.before.args in
-    packs-fine (kindLayout a.kind) a.m.now c.before.before.accept.ensures c.enum_told.given.1
+    packs_fine (kind_layout a.kind) a.m.now c.before.before.accept.ensures c.enum_told.given.1
 
 refused-requires : tie.Need-refused-requires
 refused-requires c κs = search rules
@@ -26,7 +26,7 @@ refused-requires c κs = search rules
 returns-2 : tie.Need-returns-2
 returns-2 c =
     let a = c.before.before.before.before.before.before.args in
-    c.refused.ensures ∙ packs-refusal (kindLayout a.kind) a.m.now c.before.before.before.before.accept.ensures c.before.before.verdict.given.1
+    c.refused.ensures ∙ packs_refusal (kind_layout a.kind) a.m.now c.before.before.before.before.accept.ensures c.before.before.verdict.given.1
 
 pub chaloenpik-accept-spec : {M : Type 1} → statement M
 chaloenpik-accept-spec =

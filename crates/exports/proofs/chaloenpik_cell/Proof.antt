@@ -1,6 +1,6 @@
 -- `exports::chaloenpik_cell` meets its contract: what the query answers, in the lent list. Assumes nothing.
-use Rattle.numbers.specs.Listed.{cellNumbers}
-use Rattle.numbers.proofs.Lent.{lent-answer}
+use Rattle.numbers.specs.Listed.{cell_numbers}
+use Rattle.numbers.proofs.Lent.{lent_answer}
 use borrow.Author.Rules.{rules}
 use Rattle.exports.proofs.chaloenpik_cell.Statement.{statement}
 use Rattle.exports.proofs.chaloenpik_cell.Tie as tie
@@ -12,7 +12,7 @@ lend-cell-requires : tie.Need-lend-cell-requires
 lend-cell-requires c κs = search rules
 
 returns : tie.Need-returns
-returns c = lent-answer cellNumbers c.before.before.before.before.args.list.now c.before.cell.ensures c.lend-cell.ensures
+returns c = lent_answer cell_numbers c.before.before.before.before.args.list.now c.before.cell.ensures c.lend-cell.ensures
 
 pub chaloenpik-cell-spec : {M : Type 1} → statement M
 chaloenpik-cell-spec = tie.close (tie.spec cell-requires lend-cell-requires returns)

@@ -1,6 +1,6 @@
 -- `exports::chaloenpik_column_name` meets its contract: what the query answers, in the lent list. Assumes nothing.
-use Rattle.numbers.specs.Listed.{partNumbers}
-use Rattle.numbers.proofs.Lent.{lent-answer}
+use Rattle.numbers.specs.Listed.{part_numbers}
+use Rattle.numbers.proofs.Lent.{lent_answer}
 use borrow.Author.Rules.{rules}
 use Rattle.exports.proofs.chaloenpik_column_name.Statement.{statement}
 use Rattle.exports.proofs.chaloenpik_column_name.Tie as tie
@@ -12,7 +12,7 @@ lend-part-requires : tie.Need-lend-part-requires
 lend-part-requires c κs = search rules
 
 returns : tie.Need-returns
-returns c = lent-answer partNumbers c.before.before.before.before.args.list.now c.before.column-name.ensures c.lend-part.ensures
+returns c = lent_answer part_numbers c.before.before.before.before.args.list.now c.before.column-name.ensures c.lend-part.ensures
 
 pub chaloenpik-column-name-spec : {M : Type 1} → statement M
 chaloenpik-column-name-spec = tie.close (tie.spec column-name-requires lend-part-requires returns)

@@ -2,8 +2,8 @@
 use mathlib.Core.Path.{◌∙◌}
 use native.Mathlib.Omega.{arith}
 use lib.ListN.{replicate}
-use Rattle.tally.proofs.Tours.{bytes-all}
-use Rattle.fields.proofs.Calls.{message-tiled, count-told}
+use Rattle.tally.proofs.Tours.{bytes_all}
+use Rattle.fields.proofs.Calls.{message_tiled, count_told}
 use borrow.Author.Rules.{rules}
 use Rattle.fields.proofs.count.Statement.{statement}
 use Rattle.fields.proofs.count.Tie as tie
@@ -27,8 +27,8 @@ returns : tie.Need-returns
 returns c =
     let a = c.before.before.before.before.before.before.before.args in
     let layout = c.before.before.before.before.before.kind-layout in
-    let tile = message-tiled layout.result a.m.now (bytes-all a.m.now c.before.before.before.before.before.before.shared-slice-known.given) (omega arith) in
-    rw (← layout.ensures) (c.count-met.ensures ∙ count-told (replicate 6 0) tile c.before.before.before.before.list-task.ensures c.before.before.visit-all.ensures)
+    let tile = message_tiled layout.result a.m.now (bytes_all a.m.now c.before.before.before.before.before.before.shared-slice-known.given) (omega arith) in
+    rw (← layout.ensures) (c.count-met.ensures ∙ count_told (replicate 6 0) tile c.before.before.before.before.list-task.ensures c.before.before.visit-all.ensures)
 
 pub count_spec : {M : Type 1} → statement M
 count_spec =

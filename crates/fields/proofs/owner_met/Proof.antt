@@ -3,7 +3,7 @@ use mathlib.Core.Path.{ap}
 use borrow.Author.Tests.{eq-eqb, ne_eqb}
 use Rattle.format.specs.Result.{ok}
 use Rattle.format.specs.Format.{Entry}
-use Rattle.fields.proofs.Calls.{refuses, past-told}
+use Rattle.fields.proofs.Calls.{refuses, past_told}
 use borrow.Author.Rules.{rules}
 use Rattle.fields.proofs.owner_met.Statement.{statement}
 use Rattle.fields.proofs.owner_met.Tie as tie
@@ -24,7 +24,7 @@ past-end-requires : tie.Need-past-end-requires
 past-end-requires c κs = search rules
 
 returns-2 : tie.Need-returns-2
-returns-2 c = rw (c.before.before.before.before.toured.given.1, eq-eqb _ 0 c.before.if1.true) (past-told c.past_end.ensures)
+returns-2 c = rw (c.before.before.before.before.toured.given.1, eq-eqb _ 0 c.before.if1.true) (past_told c.past_end.ensures)
 
 entry-of-requires : tie.Need-entry-of-requires
 entry-of-requires c κs = search rules

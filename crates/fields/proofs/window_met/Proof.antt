@@ -1,7 +1,7 @@
 -- `fields::window_met` meets its contract: past the last there is none, and else the task has counted those that it listed. Assumes nothing.
 use borrow.Author.Tests.{le-leb, lt-leb}
 use native.Mathlib.Omega.{arith}
-use Rattle.fields.proofs.Calls.{refuses, past-told}
+use Rattle.fields.proofs.Calls.{refuses, past_told}
 use borrow.Author.Rules.{rules}
 use Rattle.fields.proofs.window_met.Statement.{statement}
 use Rattle.fields.proofs.window_met.Tie as tie
@@ -22,7 +22,7 @@ past-end-requires : tie.Need-past-end-requires
 past-end-requires c κs = search rules
 
 returns-2 : tie.Need-returns-2
-returns-2 c = rw (c.before.before.before.before.toured.given.1, le-leb _ _ c.before.if1.true) (past-told c.past_end.ensures)
+returns-2 c = rw (c.before.before.before.before.toured.given.1, le-leb _ _ c.before.if1.true) (past_told c.past_end.ensures)
 
 returns-3 : tie.Need-returns-3
 returns-3 c =

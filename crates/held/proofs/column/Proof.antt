@@ -2,7 +2,7 @@
 -- The struct and the slices are Copy: what each owns is had twice, one is kept for the exit, and the other goes to the callee, beside the lifetimes' tokens, which come back. What a number owns is made anew.
 -- Assumes nothing.
 use mathlib.Core.Path.{◌≡◌, refl}
-use Rattle.query.specs.Answers.{toldColumn, askColumn}
+use Rattle.query.specs.Answers.{told_column, ask_column}
 use Prim.Native.Nat.{ℕ, ◌<◌, ◌^◌}
 use mathlib.Core.List.{[], ◌∷◌}
 use lib.ListN.{length}
@@ -85,7 +85,7 @@ module _ {M : Type 1} {𝓤 : Ura M} (𝓛 : Logic 𝓤) (mem : Memory → SProp
 
   -- what is said of the result
   abbrev Said : ColumnAnswer → Type 0
-  Said res = toldColumn res ≡ askColumn d.msg.now d.table x0
+  Said res = told_column res ≡ ask_column d.msg.now d.table x0
 
   abbrev at : Vals fn.signature (κ0, tt)
   at = (mach ∷ [], (v0 ∷ [], tt))

@@ -3,7 +3,7 @@
 -- Assumes nothing.
 use mathlib.Core.Path.{◌≡◌, refl}
 use Rattle.cards.specs.declared.Fit.{Fit}
-use Rattle.cards.specs.Reasons.{askFit, toldFit}
+use Rattle.cards.specs.Reasons.{ask_fit, told_fit}
 use Prim.Native.Nat.{ℕ, ◌<◌, ◌^◌}
 use mathlib.Core.List.{List, [], ◌∷◌}
 use lib.ListN.{length}
@@ -86,7 +86,7 @@ module _ {M : Type 1} {𝓤 : Ura M} (𝓛 : Logic 𝓤) (mem : Memory → SProp
 
   -- what is said of the result
   abbrev Said : Fit → Type 0
-  Said res = toldFit res ≡ askFit d.msg.now d.table x0.now
+  Said res = told_fit res ≡ ask_fit d.msg.now d.table x0.now
 
   abbrev at : Vals fn.signature (κ0, (κ1, tt))
   at = (mach ∷ [], (v0 ∷ [], tt))

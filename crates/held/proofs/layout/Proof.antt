@@ -2,7 +2,7 @@
 -- The struct and the slices are Copy: what each owns is had twice, one is kept for the exit, and the other goes to the callee, beside the lifetimes' tokens, which come back. What a number owns is made anew.
 -- Assumes nothing.
 use mathlib.Core.Path.{◌≡◌, refl}
-use Rattle.query.specs.Answers.{toldTable, askTable}
+use Rattle.query.specs.Answers.{told_table, ask_table}
 use Prim.Native.Nat.{◌<◌, ◌^◌}
 use mathlib.Core.List.{[], ◌∷◌}
 use lib.ListN.{length}
@@ -82,7 +82,7 @@ module _ {M : Type 1} {𝓤 : Ura M} (𝓛 : Logic 𝓤) (mem : Memory → SProp
 
   -- what is said of the result
   abbrev Said : TableAnswer → Type 0
-  Said res = toldTable res ≡ askTable d.msg.now d.table
+  Said res = told_table res ≡ ask_table d.msg.now d.table
 
   abbrev at : Vals fn.signature (κ0, tt)
   at = (mach ∷ [], tt)

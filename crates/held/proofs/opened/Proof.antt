@@ -3,8 +3,8 @@
 -- Assumes nothing.
 use mathlib.Core.Path.{◌≡◌, refl}
 use Rattle.format.specs.declared.Answer.{Answer}
-use Rattle.format.specs.Result.{toldAnswer}
-use Rattle.cards.specs.Answers.{askOpen}
+use Rattle.format.specs.Result.{told_answer}
+use Rattle.cards.specs.Answers.{ask_open}
 use Prim.Native.Nat.{ℕ, ◌<◌, ◌^◌}
 use mathlib.Core.List.{List, [], ◌∷◌}
 use lib.ListN.{length}
@@ -87,7 +87,7 @@ module _ {M : Type 1} {𝓤 : Ura M} (𝓛 : Logic 𝓤) (mem : Memory → SProp
 
   -- what is said of the result
   abbrev Said : Answer → Type 0
-  Said res = toldAnswer res ≡ askOpen d.msg.now d.table x0.now
+  Said res = told_answer res ≡ ask_open d.msg.now d.table x0.now
 
   abbrev at : Vals fn.signature (κ0, (κ1, tt))
   at = (mach ∷ [], (v0 ∷ [], tt))

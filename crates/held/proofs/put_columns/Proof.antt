@@ -52,9 +52,9 @@ use denote.Triple.Table.{entered, cited}
 use denote.Triple.Walked.{says, needs, Stays, stay_none, stay_none_slice, stay_slice, stay_ref, walk_of, Goes-none, Goes-none_slice, Goes-slice, Goes-ref, Walks, ends_at, walked, walk_Meets}
 use denote.Triple.Clauses.{ensured, lasts}
 use denote.Exit.{yes}
-use Rattle.format.specs.Message.{mostColumns}
-use Rattle.columns.specs.Entries.{noEntry}
-use Rattle.columns.specs.Walks.{Fits, FitsAll, moved, columnOut, columnTypes, Page, putOne, put_all}
+use Rattle.format.specs.Message.{most_columns}
+use Rattle.columns.specs.Entries.{no_entry}
+use Rattle.columns.specs.Walks.{Fits, Fits_all, moved, column_out, column_types, Page, put_one, put_all}
 use Rattle.columns.specs.declared.Column.{Column}
 use Rattle.columns.specs.declared.Walk.{Walk as Place}
 use Rattle.columns.specs.declared.Head.{Head}
@@ -79,7 +79,7 @@ use Rattle.columns.specs.contracts.step_in as last
 use Rattle.columns.proofs.step_in.Symbol as last-def
 use Rattle.columns.proofs.step_in.Symbol.{name as #columns·step-in}
 use Rattle.columns.proofs.step_in.Met as last-thm
-use Rattle.held.proofs.Again.{LentAgain, lends_again, comes_back}
+use Rattle.held.proofs.Again.{Lent_again, lends_again, comes_back}
 use Rattle.held.specs.contracts.put_columns.Key.{name as #held·put-columns}
 use Rattle.held.specs.contracts.put_columns as fn
 use Rattle.held.proofs.put_columns.Statement as stated
@@ -87,7 +87,7 @@ use Rattle.held.proofs.put_columns.Code as code
 use Rattle.held.proofs.put_columns.Code.Mir as mir'
 
 abbrev stayed : Stays (fn.ended).signature.params (fn.ended).kept
-stayed = (stay_slice (0 ∷ []) tt (plain (λ _. u8)), (stay_ref (1 ∷ []) tt (array_of (plain (λ _. u8)) mostColumns), (stay_none (λ _. Q.the_row) yes, (stay_none_slice (2 ∷ []) tt (plain (λ _. T.the_row)) yes, (stay_none_slice (3 ∷ []) tt (plain (λ _. u8)) yes, tt)))))
+stayed = (stay_slice (0 ∷ []) tt (plain (λ _. u8)), (stay_ref (1 ∷ []) tt (array_of (plain (λ _. u8)) most_columns), (stay_none (λ _. Q.the_row) yes, (stay_none_slice (2 ∷ []) tt (plain (λ _. T.the_row)) yes, (stay_none_slice (3 ∷ []) tt (plain (λ _. u8)) yes, tt)))))
 
 abbrev word : Ty
 word = ty_int w64
@@ -96,7 +96,7 @@ abbrev bytesTy : Ty
 bytesTy = pointee u8.written
 
 abbrev typesTy : Ty
-typesTy = pointee (Array u8 mostColumns).written
+typesTy = pointee (Array u8 most_columns).written
 
 abbrev outTy : Ty
 outTy = slice_ty (ty_ref (named 0) mut bytesTy)
@@ -132,22 +132,22 @@ page out types walk = record { out = out; types = types; walk = walk }
 
 -- what a call of `put_column` leaves
 abbrev Left : List ℕ → Place → Column → List ℕ → List ℕ → Place → List ℕ → List ℕ → Type 0
-Left names w c zs ts r zs' ts' = (r ≡ moved names w c) × (zs' ≡ columnOut names w c zs) × (ts' ≡ columnTypes w c ts)
+Left names w c zs ts r zs' ts' = (r ≡ moved names w c) × (zs' ≡ column_out names w c zs) × (ts' ≡ column_types w c ts)
 
-fits-now : (names : List ℕ) (size : ℕ) (w : Place) (es : List Column) (i : ℕ) → i < length es → FitsAll names size w (drop_l i es) → Fits names size w (get_or es i noEntry) × FitsAll names size (moved names w (get_or es i noEntry)) (drop_l (i + 1) es)
-unfolding FitsAll
-fits-now names size w es i l f = rw (add-one i) (rw (drop-cons es i noEntry l) at f)
+fits-now : (names : List ℕ) (size : ℕ) (w : Place) (es : List Column) (i : ℕ) → i < length es → Fits_all names size w (drop_l i es) → Fits names size w (get_or es i no_entry) × Fits_all names size (moved names w (get_or es i no_entry)) (drop_l (i + 1) es)
+unfolding Fits_all
+fits-now names size w es i l f = rw (add-one i) (rw (drop-cons es i no_entry l) at f)
 
 -- one column more on the left is one fewer on the right
-one_more : (names : List ℕ) (p : Page) (es : List Column) (i : ℕ) → i < length es → put_all names (putOne names p (get_or es i noEntry)) (drop_l (i + 1) es) ≡ put_all names p (drop_l i es)
+one_more : (names : List ℕ) (p : Page) (es : List Column) (i : ℕ) → i < length es → put_all names (put_one names p (get_or es i no_entry)) (drop_l (i + 1) es) ≡ put_all names p (drop_l i es)
 unfolding put_all
-one_more names p es i l = rw (add-one i, drop-cons es i noEntry l)
+one_more names p es i l = rw (add-one i, drop-cons es i no_entry l)
 
 no-more-left : (names : List ℕ) (p : Page) (es : List Column) → put_all names p (drop_l (length es) es) ≡ p
 unfolding put_all
 no-more-left names p es = rw (drop-length es)
 
-same-page : (names : List ℕ) (w : Place) (c : Column) (zs ts : List ℕ) (r : Place) (zs' ts' : List ℕ) → Left names w c zs ts r zs' ts' → page zs' ts' r ≡ putOne names (page zs ts w) c
+same-page : (names : List ℕ) (w : Place) (c : Column) (zs ts : List ℕ) (r : Place) (zs' ts' : List ℕ) → Left names w c zs ts r zs' ts' → page zs' ts' r ≡ put_one names (page zs ts w) c
 same-page names w c zs ts r zs' ts' l = rw (l.0, l.1, l.2) refl
 
 -- where a turn stands: i columns were written, the next goes to w, whose machine value is u; the output holds zs and the types' memory ts
@@ -159,7 +159,7 @@ record Turn (names ys types : List ℕ) (h : Head) (es : List Column) : Type 0 w
   ts : List ℕ
   upto : i ≤ length es
   same : length zs ≡ length ys
-  fits : FitsAll names (length zs) w (drop_l i es)
+  fits : Fits_all names (length zs) w (drop_l i es)
   so_far : put_all names (page zs ts w) (drop_l i es) ≡ put_all names (page ys types h.walk) es
 
 module _ {M : Type 1} {𝓤 : Ura M} (𝓛 : Logic 𝓤) (mem : Memory → SProp 𝓤) (run : Routine → Fun 𝓤) where
@@ -173,7 +173,7 @@ module _ {M : Type 1} {𝓤 : Ura M} (𝓛 : Logic 𝓤) (mem : Memory → SProp
   abbrev Last : Contract 𝓤
   Last = triple_of 𝓛 last.signature (last.spec 𝓛 mem run)
 
-module _ {M : Type 1} {𝓤 : Ura M} (𝓛 : Logic 𝓤) (mem : Memory → SProp 𝓤) (run : Routine → Fun 𝓤) (κ0 κ1 κ2 κ3 : Lft) (q0 q1 q2 q3 : Share) (b0 o0 : ℕ) (γ0 : GName) (ys : List ℕ) (room0 : Room u8 (length ys)) (b1 o1 : ℕ) (γ1 : GName) (types : List ℕ) (h : Head) (b o : ℕ) (γ : GName) (es : List Column) (room : Room T.the_row (length es)) (x4 : MutBor (List ℕ)) (fits0 : FitsAll x4.now (length ys) h.walk es) where
+module _ {M : Type 1} {𝓤 : Ura M} (𝓛 : Logic 𝓤) (mem : Memory → SProp 𝓤) (run : Routine → Fun 𝓤) (κ0 κ1 κ2 κ3 : Lft) (q0 q1 q2 q3 : Share) (b0 o0 : ℕ) (γ0 : GName) (ys : List ℕ) (room0 : Room u8 (length ys)) (b1 o1 : ℕ) (γ1 : GName) (types : List ℕ) (h : Head) (b o : ℕ) (γ : GName) (es : List Column) (room : Room T.the_row (length es)) (x4 : MutBor (List ℕ)) (fits0 : Fits_all x4.now (length ys) h.walk es) where
   open 𝓛 use {H, A}
 
   abbrev names : List ℕ
@@ -219,7 +219,7 @@ module _ {M : Type 1} {𝓤 : Ura M} (𝓛 : Logic 𝓤) (mem : Memory → SProp
   OwnOut zs = (MutSlice (named 0) κ0 u8).own_val (xo γ0 zs) (vo ∷ [])
 
   abbrev OwnTypes : List ℕ → Fml
-  OwnTypes ts = (MutRef (named 1) κ1 (Array u8 mostColumns)).own_val (xt γ1 ts) (vt ∷ [])
+  OwnTypes ts = (MutRef (named 1) κ1 (Array u8 most_columns)).own_val (xt γ1 ts) (vt ∷ [])
 
   abbrev OwnH : Fml
   OwnH = (Q.the_row).own_val h (vh ∷ [])
@@ -235,7 +235,7 @@ module _ {M : Type 1} {𝓤 : Ura M} (𝓛 : Logic 𝓤) (mem : Memory → SProp
   Out' κ' δ zs = (MutSlice (named 0) κ' u8).own_val (xo δ zs) (vo ∷ [])
 
   abbrev KeptOut : Lft → GName → List ℕ → Fml
-  KeptOut κ' δ zs = LentAgain u8 κ0 κ' q0 γ0 b0 o0 δ zs
+  KeptOut κ' δ zs = Lent_again u8 κ0 κ' q0 γ0 b0 o0 δ zs
 
   lends_out : (κ' : Lft) (zs : List ℕ) → length zs ≡ length ys → ent 𝓤 (sep 𝓤 (sem 𝓛 (OwnOut zs)) (A.lft κ0 q0)) (H.⇛ (ex 𝓤 (λ (δ : GName). sep 𝓤 (sem 𝓛 (Out' κ' δ zs)) (sem 𝓛 (KeptOut κ' δ zs)))))
   lends_out κ' zs e =
@@ -250,10 +250,10 @@ module _ {M : Type 1} {𝓤 : Ura M} (𝓛 : Logic 𝓤) (mem : Memory → SProp
 
   -- the types' memory lent again
   abbrev Types' : Lft → GName → List ℕ → Fml
-  Types' κ' ε ts = (MutRef (named 0) κ' (Array u8 mostColumns)).own_val (xt ε ts) (vt ∷ [])
+  Types' κ' ε ts = (MutRef (named 0) κ' (Array u8 most_columns)).own_val (xt ε ts) (vt ∷ [])
 
   abbrev KeptTypes : Lft → GName → List ℕ → Fml
-  KeptTypes κ' ε ts = thin.LentAgain (Array u8 mostColumns) κ1 κ' q1 γ1 b1 o1 ε ts
+  KeptTypes κ' ε ts = thin.Lent_again (Array u8 most_columns) κ1 κ' q1 γ1 b1 o1 ε ts
 
   exits : (r : Outcome) (u : Val) (zs ts : List ℕ) → r ≡ h.step → page zs ts (put_all names (page ys types h.walk) es).walk ≡ put_all names (page ys types h.walk) es → length zs ≡ length ys
       → ent 𝓤 (⋆ 𝓛 (‵ ((R.the_row).own_val r (u ∷ [])) ∷ ‵ OwnH ∷ ‵ Own ∷ ‵ (flft κ2 q2) ∷ ‵ OwnN ∷ ‵ (flft κ3 q3) ∷ ‵ (OwnOut zs) ∷ ‵ (flft κ0 q0) ∷ ‵ (OwnTypes ts) ∷ ‵ (flft κ1 q1) ∷ [])) (Post u)
@@ -302,7 +302,7 @@ module _ {M : Type 1} {𝓤 : Ura M} (𝓛 : Logic 𝓤) (mem : Memory → SProp
   goes_step : (ν ν' : ℕ) (δ ε : GName) (zs ts : List ℕ) (w : Place) (u : Val) (c : Column) → Fits names (length zs) w c
       → ent 𝓤 (on_entry 𝓛 step.signature (step-κs ν ν') step-qs (step_args δ ε zs ts w c) (step-vals u c)) ((Step 𝓛 mem run).pre (to_step ν ν' δ ε zs ts w u c))
   goes_step ν ν' δ ε zs ts w u c fit =
-      qed 𝓛 ((‵ (flft (ν ∷ []) full_share) ⊛ ‵ (flft (ν' ∷ []) full_share) ⊛ ‵ (flft κ3 q3) ⊛ ‵ ftrue) ∷ ‵ (owns (MutSlice (named 0) (ν ∷ []) u8 ∷ MutRef (named 1) (ν' ∷ []) (Array u8 mostColumns) ∷ P.the_row ∷ T.the_row ∷ ShrSlice (named 2) κ3 u8 ∷ []) (step_args δ ε zs ts w c) (step-vals u c)) ∷ []) ∵
+      qed 𝓛 ((‵ (flft (ν ∷ []) full_share) ⊛ ‵ (flft (ν' ∷ []) full_share) ⊛ ‵ (flft κ3 q3) ⊛ ‵ ftrue) ∷ ‵ (owns (MutSlice (named 0) (ν ∷ []) u8 ∷ MutRef (named 1) (ν' ∷ []) (Array u8 most_columns) ∷ P.the_row ∷ T.the_row ∷ ShrSlice (named 2) κ3 u8 ∷ []) (step_args δ ε zs ts w c) (step-vals u c)) ∷ []) ∵
       says ! fit $ frame ! $ done !
 
   -- ---- the loop
@@ -346,16 +346,16 @@ module _ {M : Type 1} {𝓤 : Ura M} (𝓛 : Logic 𝓤) (mem : Memory → SProp
           fsplit ! $ drop ! $ fsplit ! $ drop ! $ move ! (0 ∷ 3 ∷ []) $
           -- [the fractured borrow; the token; what cols owns; what w owns; _14; …]
           looks_slice ! tt T.the_row (Is T.the_row) (shows 𝓛 T.the_row) (LL.vals T.the_type T'.the_laws) (LL.tells T.the_type T'.the_laws) (LL.copy T.the_type T'.the_copy 𝓛) es b o (λ q'.
-          elem_out ! T.the_row (Is T.the_row) (shows 𝓛 T.the_row) (LL.vals T.the_type T'.the_laws) (LL.tells T.the_type T'.the_laws) q' es t.i noEntry b o (ltb→lt t.i (length es) less) (λ g.
+          elem_out ! T.the_row (Is T.the_row) (shows 𝓛 T.the_row) (LL.vals T.the_type T'.the_laws) (LL.tells T.the_type T'.the_laws) q' es t.i no_entry b o (ltb→lt t.i (length es) less) (λ g.
           -- [cols[i]; what it owns; the others; what shuts; the fractured borrow; what cols owns; what w owns; _14; …]
           assigns ! (of_opd ! (load ! (from ! (hop ! (look ! 9 refl) (stop !))) (look_raw ! 0 refl))) (from ! (stop !)) (init ! 7 refl ((LL.lawful T.the_type T'.the_laws 𝓛).typed (elem) _ g).0) $
           move ! (1 ∷ []) $ use1 𝓛 (‵ ((T.the_row).own_val elem (T'.lowered elem ∷ [])) ⊛ ‵ ((T.the_row).own_val elem (T'.lowered elem ∷ []))) ((LL.copy T.the_type T'.the_copy 𝓛).twice elem (T'.lowered elem ∷ [])) $ split ! $ move ! (2 ∷ 0 ∷ 3 ∷ []) $
-          elem_back ! T.the_row q' es t.i noEntry (T'.lowered elem ∷ []) b o (ltb→lt t.i (length es) less) $ move ! (0 ∷ 2 ∷ []) $ shuts_slice ! tt T.the_row q' es b o $
+          elem_back ! T.the_row q' es t.i no_entry (T'.lowered elem ∷ []) b o (ltb→lt t.i (length es) less) $ move ! (0 ∷ 2 ∷ []) $ shuts_slice ! tt T.the_row q' es b o $
           -- [the token; what the column owns; the fractured borrow; what cols owns; what w owns; _14 at 5; …; what names owns at 35; its token; the output; its token; the types; their token; what head owns]
           move ! (37 ∷ 38 ∷ []) $ lft_new ! tt (λ ν. move ! (1 ∷ 2 ∷ []) $
           use2 𝓛 (later (some (λ (δ : GName). ‵ (Out' (ν ∷ []) δ t.zs) ⊛ ‵ (KeptOut (ν ∷ []) δ t.zs)))) (lends_out (ν ∷ []) t.zs t.same) $ await ! tt $ pick ! (λ δ. split ! $
           move ! (40 ∷ 41 ∷ []) $ lft_new ! tt (λ ν'. move ! (1 ∷ 2 ∷ []) $
-          use2 𝓛 (later (some (λ (ε : GName). ‵ (Types' (ν' ∷ []) ε t.ts) ⊛ ‵ (KeptTypes (ν' ∷ []) ε t.ts)))) (thin.lends_again 𝓛 (Array u8 mostColumns) (named 1) κ1 (ν' ∷ []) q1 γ1 b1 o1 (named 0) t.ts) $ await ! tt $ pick ! (λ ε. split ! $
+          use2 𝓛 (later (some (λ (ε : GName). ‵ (Types' (ν' ∷ []) ε t.ts) ⊛ ‵ (KeptTypes (ν' ∷ []) ε t.ts)))) (thin.lends_again 𝓛 (Array u8 most_columns) (named 1) κ1 (ν' ∷ []) q1 γ1 b1 o1 (named 0) t.ts) $ await ! tt $ pick ! (λ ε. split ! $
           -- [the types; what is kept of them; their token; the output; what is kept of it; its token; the token; what the column owns; the fractured borrow; what cols owns; what w owns; _14 at 11; …; what names owns at 41; its token; what head owns]
           move ! (41 ∷ []) $ use1 𝓛 (‵ OwnN ⊛ ‵ OwnN) ((shr_slice_copy 𝓛 (named 3) κ3 u8).twice x4 (v4 ∷ [])) $ split ! $
           nothing ! $ move ! (1 ∷ 0 ∷ []) $ fjoin ! $ move ! (9 ∷ 0 ∷ []) $ fjoin ! $ move ! (11 ∷ 0 ∷ []) $ fjoin ! $ move ! (2 ∷ 0 ∷ []) $ fjoin ! $ move ! (4 ∷ 0 ∷ []) $ fjoin ! $
@@ -371,7 +371,7 @@ module _ {M : Type 1} {𝓤 : Ura M} (𝓛 : Logic 𝓤) (mem : Memory → SProp
           move ! (1 ∷ []) $ fsplit ! $ move ! (3 ∷ []) $ split ! $ split ! $ lft_end ! tt $ move ! (0 ∷ 8 ∷ 5 ∷ []) $
           use3 𝓛 (later (‵ (OwnOut ls.0) ⊛ ‵ (flft κ0 q0))) (out-back (ν ∷ []) δ t.zs ls.0 t.same l) $ await ! tt $ split ! $
           move ! (2 ∷ []) $ split ! $ lft_end ! tt $ move ! (0 ∷ 8 ∷ 5 ∷ []) $
-          use3 𝓛 (later (‵ (OwnTypes ls.1.0) ⊛ ‵ (flft κ1 q1))) (thin.comes_back 𝓛 (Array u8 mostColumns) (named 1) κ1 (ν' ∷ []) q1 γ1 b1 o1 ε t.ts ls.1.0) $ await ! tt $ split ! $
+          use3 𝓛 (later (‵ (OwnTypes ls.1.0) ⊛ ‵ (flft κ1 q1))) (thin.comes_back 𝓛 (Array u8 most_columns) (named 1) κ1 (ν' ∷ []) q1 γ1 b1 o1 ε t.ts ls.1.0) $ await ! tt $ split ! $
           move ! (2 ∷ []) $ split ! $ move ! (6 ∷ []) $
           -- [what the result owns; names' token; true; the types; their token; the output; its token; …; what names owns at 8; the token; the fractured borrow; what cols owns; _14 at 12; …; what head owns at 42]
           peeks ! P.the_row (Is P.the_row) (shows 𝓛 P.the_row) r (u' ∷ []) (λ is'.
@@ -393,7 +393,7 @@ module _ {M : Type 1} {𝓤 : Ura M} (𝓛 : Logic 𝓤) (mem : Memory → SProp
           keep ! (0 ∷ 1 ∷ 3 ∷ 4 ∷ 5 ∷ 6 ∷ 7 ∷ 8 ∷ 9 ∷ 10 ∷ []) $ by ! (exits r u' t.zs t.ts e (ended_at over) t.same))))))
         where
           elem : Column
-          elem = get_or es t.i noEntry
+          elem = get_or es t.i no_entry
 
           far : Holds (ltb t.i (length es)) → t.i * 24 < 2 ^ 64
           far less = let l : t.i < length es = ltb→lt t.i (length es) less in omega (arith, room.1, l)
@@ -401,7 +401,7 @@ module _ {M : Type 1} {𝓤 : Ura M} (𝓛 : Logic 𝓤) (mem : Memory → SProp
           next_fits : Holds (ltb t.i (length es)) → t.i + 1 < 2 ^ 64
           next_fits less = let l : t.i < length es = ltb→lt t.i (length es) less in omega (arith, room.0, l)
 
-          now-fits : Holds (ltb t.i (length es)) → Fits names (length t.zs) t.w elem × FitsAll names (length t.zs) (moved names t.w elem) (drop_l (t.i + 1) es)
+          now-fits : Holds (ltb t.i (length es)) → Fits names (length t.zs) t.w elem × Fits_all names (length t.zs) (moved names t.w elem) (drop_l (t.i + 1) es)
           now-fits less = fits-now names (length t.zs) t.w es t.i (ltb→lt t.i (length es) less) t.fits
 
           next : Holds (ltb t.i (length es)) → (r : Place) → Val → (zs' ts' : List ℕ) → Left names t.w elem t.zs t.ts r zs' ts' → length zs' ≡ length t.zs → Turn names ys types h es
@@ -424,14 +424,14 @@ module _ {M : Type 1} {𝓤 : Ura M} (𝓛 : Logic 𝓤) (mem : Memory → SProp
 
       -- the loop, and what follows it, from where it begins
       abbrev first-turn : (r : Place) → Val → r ≡ h.walk → Turn names ys types h es
-      first-turn r u e = record { i = 0; w = r; u = u; zs = ys; ts = types; upto = zero-le; same = refl; fits = subst (λ (w : Place). FitsAll names (length ys) w es) (sym e) fits0; so_far = ap (λ (w : Place). put_all names (page ys types w) es) e }
+      first-turn r u e = record { i = 0; w = r; u = u; zs = ys; ts = types; upto = zero-le; same = refl; fits = subst (λ (w : Place). Fits_all names (length ys) w es) (sym e) fits0; so_far = ap (λ (w : Place). put_all names (page ys types w) es) e }
 
       begins : (r : Place) (u : Val) (e : r ≡ h.walk) → Sq 𝓛 (At (first-turn r u e)) (runs 𝓣.C 𝓣.Λ En mir'.t-3 (at_ret En Post))
       begins r u e = first ! $ blocks ! $ loops ! 𝓣 Nearer Nearer-wf At turns (first-turn r u e)
 
     walk : Is (ShrSlice (named 2) κ2 T.the_row) s (v ∷ []) → Is (ShrSlice (named 3) κ3 u8) x4 (v4 ∷ []) → ent 𝓤 (on_entry 𝓛 fn.signature κs (q0, (q1, (q2, (q3, tt)))) (xo γ0 ys, (xt γ1 types, (h, (s, (x4, tt))))) at) (WpFn 𝓤 H 𝓣.C 𝓣.Λ code.function (vo ∷ vt ∷ vh ∷ v ∷ v4 ∷ []) Post)
     walk p p4 =
-        qed 𝓛 ((‵ (flft κ0 q0) ⊛ ‵ (flft κ1 q1) ⊛ ‵ (flft κ2 q2) ⊛ ‵ (flft κ3 q3) ⊛ ‵ ftrue) ∷ ‵ (owns (MutSlice (named 0) κ0 u8 ∷ MutRef (named 1) κ1 (Array u8 mostColumns) ∷ Q.the_row ∷ ShrSlice (named 2) κ2 T.the_row ∷ ShrSlice (named 3) κ3 u8 ∷ []) (xo γ0 ys, (xt γ1 types, (h, (s, (x4, tt))))) at) ∷ []) ∵ enter ! 𝓣.C 𝓣.Λ code.function (vo ∷ vt ∷ vh ∷ v ∷ v4 ∷ []) _ $
+        qed 𝓛 ((‵ (flft κ0 q0) ⊛ ‵ (flft κ1 q1) ⊛ ‵ (flft κ2 q2) ⊛ ‵ (flft κ3 q3) ⊛ ‵ ftrue) ∷ ‵ (owns (MutSlice (named 0) κ0 u8 ∷ MutRef (named 1) κ1 (Array u8 most_columns) ∷ Q.the_row ∷ ShrSlice (named 2) κ2 T.the_row ∷ ShrSlice (named 3) κ3 u8 ∷ []) (xo γ0 ys, (xt γ1 types, (h, (s, (x4, tt))))) at) ∷ []) ∵ enter ! 𝓣.C 𝓣.Λ code.function (vo ∷ vt ∷ vh ∷ v ∷ v4 ∷ []) _ $
         alloc1 ! (λ l₀. alloc1 ! (λ l₁. alloc1 ! (λ l₂. alloc1 ! (λ l₃. alloc1 ! (λ l₄. alloc1 ! (λ l₅. alloc1 ! (λ l₆. alloc1 ! (λ l₇. alloc1 ! (λ l₈. alloc1 ! (λ l₉. alloc1 ! (λ l₁₀. alloc1 ! (λ l₁₁. alloc1 ! (λ l₁₂. alloc1 ! (λ l₁₃. alloc1 ! (λ l₁₄. alloc0 ! $ params1 ! $
         pass1 ! (init ! 26 refl (tt, (tt, (record { fits = room0.0 }, tt)))) $ pass1 ! (init ! 24 refl (tt, tt)) $ pass1 ! (init ! 22 refl ((LL.lawful Q.the_type Q'.the_laws 𝓛).typed h (vh ∷ []) ph).0) $ pass1 ! (init ! 20 refl ((shr_slice_Lawful 𝓛 (named 2) κ2 T.the_row).typed s (v ∷ []) p).0) $ pass1 ! (init ! 18 refl ((shr_slice_Lawful 𝓛 (named 3) κ3 u8).typed x4 (v4 ∷ []) p4).0) $ pass0 ! $
         -- [_14; …; _0 at 28; …; the tokens at 30; what the parameters own]
@@ -456,8 +456,8 @@ module _ {M : Type 1} {𝓤 : Ura M} (𝓛 : Logic 𝓤) (mem : Memory → SProp
   fn-walks : (𝓣 : Tables 𝓤 H) → Triple 𝓤 (𝓣.C #columns·walk-in) (Start 𝓛 mem run) → Triple 𝓤 (𝓣.C #columns·put-column) (Step 𝓛 mem run) → Triple 𝓤 (𝓣.C #columns·step-in) (Last 𝓛 mem run)
       → Walks 𝓛 fn.ended stayed (WpFn 𝓤 H 𝓣.C 𝓣.Λ code.function) (fn.clauses 𝓛 mem run)
   fn-walks 𝓣 Known-start Known-step known-last = walked 𝓛 fn.ended stayed (fn.clauses 𝓛 mem run) (WpFn 𝓤 H 𝓣.C 𝓣.Λ code.function)
-      (λ κs. (mut_slice_vals, (mut_vals, (LL.vals Q.the_type Q'.the_laws, (shr_slice_vals, (shr_slice_vals, tt)))))) (λ κs. (mut_slice_Tells (named 0) κs.0 u8, (mut_Tells (named 1) κs.1.0 (Array u8 mostColumns), (LL.tells Q.the_type Q'.the_laws, (shr_slice_Tells (named 2) κs.1.1.0 T.the_row, (shr_slice_Tells (named 3) κs.1.1.1.0 u8, tt))))))
-      (λ κs qs bounds a g are. needs 𝓤 (FitsAll a.1.1.1.1.0.now (length a.0.now) a.1.1.0.walk a.1.1.1.0.now) _ (λ fits.
+      (λ κs. (mut_slice_vals, (mut_vals, (LL.vals Q.the_type Q'.the_laws, (shr_slice_vals, (shr_slice_vals, tt)))))) (λ κs. (mut_slice_Tells (named 0) κs.0 u8, (mut_Tells (named 1) κs.1.0 (Array u8 most_columns), (LL.tells Q.the_type Q'.the_laws, (shr_slice_Tells (named 2) κs.1.1.0 T.the_row, (shr_slice_Tells (named 3) κs.1.1.1.0 u8, tt))))))
+      (λ κs qs bounds a g are. needs 𝓤 (Fits_all a.1.1.1.1.0.now (length a.0.now) a.1.1.0.walk a.1.1.1.0.now) _ (λ fits.
       walk 𝓛 mem run κs.0 κs.1.0 κs.1.1.0 κs.1.1.1.0 qs.0 qs.1.0 qs.1.1.0 qs.1.1.1.0 a.0.ref_ptr.0 a.0.ref_ptr.1 a.0.ghost_name a.0.now are.0.0.1 a.1.0.ref_ptr.0 a.1.0.ref_ptr.1 a.1.0.ghost_name a.1.0.now a.1.1.0 a.1.1.1.0.ref_ptr.0 a.1.1.1.0.ref_ptr.1 a.1.1.1.0.ghost_name a.1.1.1.0.now are.1.1.1.0.0.1 a.1.1.1.1.0 fits
       𝓣 Known-start Known-step known-last are.1.1.0 are.1.1.1.0 are.1.1.1.1.0))
 
@@ -465,7 +465,7 @@ fn-meets : {M : Type 1} {𝓤 : Ura M} (𝓛 : Logic 𝓤) → (mem : Memory →
     → Triple 𝓤 (𝓣.C #columns·walk-in) (Start 𝓛 mem run) → Triple 𝓤 (𝓣.C #columns·put-column) (Step 𝓛 mem run) → Triple 𝓤 (𝓣.C #columns·step-in) (Last 𝓛 mem run)
     → Meets 𝓛 fn.signature (WpFn 𝓤 𝓛.H 𝓣.C 𝓣.Λ code.function) (fn.spec 𝓛 mem run)
 fn-meets {𝓤 = 𝓤} 𝓛 mem run 𝓣 Known-start Known-step known-last =
-    walk_Meets 𝓛 fn.ended stayed (Goes-slice 𝓛 4 0 tt (plain (λ _. u8)), (Goes-ref 𝓛 4 1 tt (array_of (plain (λ _. u8)) mostColumns), (Goes-none 𝓛 4 (λ _. Q.the_row) yes (λ κs x f. refl), (Goes-none_slice 𝓛 4 (2 ∷ []) tt (plain (λ _. T.the_row)) yes, (Goes-none_slice 𝓛 4 (3 ∷ []) tt (plain (λ _. u8)) yes, tt))))) (fn.clauses 𝓛 mem run)
+    walk_Meets 𝓛 fn.ended stayed (Goes-slice 𝓛 4 0 tt (plain (λ _. u8)), (Goes-ref 𝓛 4 1 tt (array_of (plain (λ _. u8)) most_columns), (Goes-none 𝓛 4 (λ _. Q.the_row) yes (λ κs x f. refl), (Goes-none_slice 𝓛 4 (2 ∷ []) tt (plain (λ _. T.the_row)) yes, (Goes-none_slice 𝓛 4 (3 ∷ []) tt (plain (λ _. u8)) yes, tt))))) (fn.clauses 𝓛 mem run)
     (WpFn 𝓤 𝓛.H 𝓣.C 𝓣.Λ code.function) (WpFn-mono 𝓤 𝓛.H 𝓛.laws 𝓣 code.function) (fn-walks 𝓛 mem run 𝓣 Known-start Known-step known-last)
 
 pub put-columns-spec : {M : Type 1} → stated.statement M

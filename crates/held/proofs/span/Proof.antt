@@ -2,7 +2,7 @@
 -- The struct and the slices are Copy: what each owns is had twice, one is kept for the exit, and the other goes to the callee, beside the lifetimes' tokens, which come back. What a number owns is made anew.
 -- Assumes nothing.
 use mathlib.Core.Path.{◌≡◌, refl}
-use Rattle.query.specs.Answers.{toldPart, askCellSpan}
+use Rattle.query.specs.Answers.{told_part, ask_cell_span}
 use Prim.Native.Nat.{ℕ, ◌<◌, ◌^◌}
 use mathlib.Core.List.{[], ◌∷◌}
 use lib.ListN.{length}
@@ -88,7 +88,7 @@ module _ {M : Type 1} {𝓤 : Ura M} (𝓛 : Logic 𝓤) (mem : Memory → SProp
 
   -- what is said of the result
   abbrev Said : Part → Type 0
-  Said res = toldPart res ≡ askCellSpan d.msg.now d.table x0 x1
+  Said res = told_part res ≡ ask_cell_span d.msg.now d.table x0 x1
 
   abbrev at : Vals fn.signature (κ0, tt)
   at = (mach ∷ [], (v0 ∷ [], (v1 ∷ [], tt)))

@@ -48,8 +48,8 @@ use denote.Triple.Table.{entered, cited}
 use denote.Triple.Walked.{says, needs, Stays, stay_none, stay_none_slice, walk_of, Goes-none, Goes-none_slice, Walks, ends_at, walked, walk_Meets}
 use denote.Triple.Clauses.{ensured, lasts}
 use denote.Exit.{yes}
-use Rattle.columns.specs.Entries.{noEntry}
-use Rattle.columns.specs.Walks.{added, addAll, Bounded}
+use Rattle.columns.specs.Entries.{no_entry}
+use Rattle.columns.specs.Walks.{added, add_all, Bounded}
 use Rattle.columns.proofs.Surveys.{bounded}
 use Rattle.columns.specs.declared.Column.{Column}
 use Rattle.columns.specs.declared.Survey.{Survey}
@@ -97,12 +97,12 @@ abbrev more : Body
 more = after (after (after mir'.turn-1))
 
 -- one column more on the left is one fewer on the right
-one_more : (names : List ℕ) (a : Survey) (ys : List Column) (i : ℕ) → i < length ys → addAll names (added names a (get_or ys i noEntry)) (drop_l (i + 1) ys) ≡ addAll names a (drop_l i ys)
-unfolding addAll
-one_more names a ys i l = rw (add-one i, drop-cons ys i noEntry l)
+one_more : (names : List ℕ) (a : Survey) (ys : List Column) (i : ℕ) → i < length ys → add_all names (added names a (get_or ys i no_entry)) (drop_l (i + 1) ys) ≡ add_all names a (drop_l i ys)
+unfolding add_all
+one_more names a ys i l = rw (add-one i, drop-cons ys i no_entry l)
 
-no-more-left : (names : List ℕ) (a : Survey) (ys : List Column) → addAll names a (drop_l (length ys) ys) ≡ a
-unfolding addAll
+no-more-left : (names : List ℕ) (a : Survey) (ys : List Column) → add_all names a (drop_l (length ys) ys) ≡ a
+unfolding add_all
 no-more-left names a ys = rw (drop-length ys)
 
 -- where a turn stands: i columns are in a, whose machine value is u
@@ -112,7 +112,7 @@ record Turn (names : List ℕ) (z : Survey) (ys : List Column) : Type 0 where
   u : Val
   upto : i ≤ length ys
   bound : Bounded a
-  so_far : addAll names a (drop_l i ys) ≡ addAll names z ys
+  so_far : add_all names a (drop_l i ys) ≡ add_all names z ys
 
 module _ {M : Type 1} {𝓤 : Ura M} (𝓛 : Logic 𝓤) (mem : Memory → SProp 𝓤) (run : Routine → Fun 𝓤) where
   -- the contract that the proof cites
@@ -152,7 +152,7 @@ module _ {M : Type 1} {𝓤 : Ura M} (𝓛 : Logic 𝓤) (mem : Memory → SProp
   abbrev OwnN : Fml
   OwnN = (ShrSlice (named 1) κ1 u8).own_val x3 (v3 ∷ [])
 
-  exits : (r : Survey) (u : Val) → r ≡ addAll names x0 ys → ent 𝓤 (⋆ 𝓛 (‵ ((S.the_row).own_val r (u ∷ [])) ∷ ‵ Own ∷ ‵ (flft κ q) ∷ ‵ OwnN ∷ ‵ (flft κ1 q1) ∷ ‵ OwnS ∷ [])) (Post u)
+  exits : (r : Survey) (u : Val) → r ≡ add_all names x0 ys → ent 𝓤 (⋆ 𝓛 (‵ ((S.the_row).own_val r (u ∷ [])) ∷ ‵ Own ∷ ‵ (flft κ q) ∷ ‵ OwnN ∷ ‵ (flft κ1 q1) ∷ ‵ OwnS ∷ [])) (Post u)
   exits r u e =
       qed 𝓛 (‵ ((S.the_row).own_val r (u ∷ [])) ∷ ‵ Own ∷ ‵ (flft κ q) ∷ ‵ OwnN ∷ ‵ (flft κ1 q1) ∷ ‵ OwnS ∷ []) ∵
       suffices ! _ (ends_at 𝓛 fn.ended stayed (fn.clauses 𝓛 mem run) (((κ, (κ1, tt)), (q, (q1, tt)), tt, (x0, (s, (x3, tt))), at), tt) u r (tt, (tt, (tt, tt))) (tt, (tt, (tt, tt)))) $ says ! e $
@@ -207,11 +207,11 @@ module _ {M : Type 1} {𝓤 : Ura M} (𝓛 : Logic 𝓤) (mem : Memory → SProp
           fsplit ! $ drop ! $ fsplit ! $ drop ! $ move ! (0 ∷ 3 ∷ []) $
           -- [the fractured borrow; the token; what cols owns; what a owns; _7; …]
           looks_slice ! tt T.the_row (Is T.the_row) (shows 𝓛 T.the_row) (LL.vals T.the_type T'.the_laws) (LL.tells T.the_type T'.the_laws) (LL.copy T.the_type T'.the_copy 𝓛) ys b o (λ q'.
-          elem_out ! T.the_row (Is T.the_row) (shows 𝓛 T.the_row) (LL.vals T.the_type T'.the_laws) (LL.tells T.the_type T'.the_laws) q' ys t.i noEntry b o (ltb→lt t.i (length ys) less) (λ g.
+          elem_out ! T.the_row (Is T.the_row) (shows 𝓛 T.the_row) (LL.vals T.the_type T'.the_laws) (LL.tells T.the_type T'.the_laws) q' ys t.i no_entry b o (ltb→lt t.i (length ys) less) (λ g.
           -- [cols[i]; what it owns; the others; what shuts; the fractured borrow; what cols owns; what a owns; _7; …; _6; …; _5; …; _4; …; _3; …; _2; …; _1; …; room for _0; …]
           assigns ! (of_opd ! (load ! (from ! (hop ! (look ! 9 refl) (stop !))) (look_raw ! 0 refl))) (from ! (stop !)) (init ! 7 refl ((LL.lawful T.the_type T'.the_laws 𝓛).typed (elem) _ g).0) $
           move ! (1 ∷ []) $ use1 𝓛 (‵ ((T.the_row).own_val elem (T'.lowered elem ∷ [])) ⊛ ‵ ((T.the_row).own_val elem (T'.lowered elem ∷ []))) ((LL.copy T.the_type T'.the_copy 𝓛).twice elem (T'.lowered elem ∷ [])) $ split ! $ move ! (2 ∷ 0 ∷ 3 ∷ []) $
-          elem_back ! T.the_row q' ys t.i noEntry (T'.lowered elem ∷ []) b o (ltb→lt t.i (length ys) less) $ move ! (0 ∷ 2 ∷ []) $ shuts_slice ! tt T.the_row q' ys b o $
+          elem_back ! T.the_row q' ys t.i no_entry (T'.lowered elem ∷ []) b o (ltb→lt t.i (length ys) less) $ move ! (0 ∷ 2 ∷ []) $ shuts_slice ! tt T.the_row q' ys b o $
           -- [the token; what the column owns; the fractured borrow; what cols owns; what a owns; _9 at 5; …; what names owns at 25; its token; what s owns]
           move ! (25 ∷ []) $ use1 𝓛 (‵ OwnN ⊛ ‵ OwnN) ((shr_slice_copy 𝓛 (named 1) κ1 u8).twice x3 (v3 ∷ [])) $ split ! $
           nothing ! $ move ! (1 ∷ 0 ∷ []) $ fjoin ! $ move ! (3 ∷ 0 ∷ []) $ fjoin ! $ move ! (5 ∷ 0 ∷ []) $ fjoin ! $ nothing ! $ move ! (26 ∷ 0 ∷ []) $ join ! $
@@ -234,7 +234,7 @@ module _ {M : Type 1} {𝓤 : Ura M} (𝓛 : Logic 𝓤) (mem : Memory → SProp
           by ! (exits t.a t.u (ended_at over))))
         where
           elem : Column
-          elem = get_or ys t.i noEntry
+          elem = get_or ys t.i no_entry
 
           far : Holds (ltb t.i (length ys)) → t.i * 24 < 2 ^ 64
           far less = let l : t.i < length ys = ltb→lt t.i (length ys) less in omega (arith, room.1, l)
@@ -249,11 +249,11 @@ module _ {M : Type 1} {𝓤 : Ura M} (𝓛 : Logic 𝓤) (mem : Memory → SProp
             u = u';
             upto = add-one-le (ltb→lt t.i (length ys) less);
             bound = subst Bounded (sym e) (bounded names t.a elem t.bound);
-            so_far = ap (λ (x : Survey). addAll names x (drop_l (t.i + 1) ys)) e ∙ one_more names t.a ys t.i (ltb→lt t.i (length ys) less) ∙ t.so_far;
+            so_far = ap (λ (x : Survey). add_all names x (drop_l (t.i + 1) ys)) e ∙ one_more names t.a ys t.i (ltb→lt t.i (length ys) less) ∙ t.so_far;
           }
 
-          ended_at : Holds (not (ltb t.i (length ys))) → t.a ≡ addAll names x0 ys
-          ended_at over = sym (no-more-left names t.a ys) ∙ ap (λ (j : ℕ). addAll names t.a (drop_l j ys)) (le_antisymm (nltb→le t.i (length ys) over) t.upto) ∙ t.so_far
+          ended_at : Holds (not (ltb t.i (length ys))) → t.a ≡ add_all names x0 ys
+          ended_at over = sym (no-more-left names t.a ys) ∙ ap (λ (j : ℕ). add_all names t.a (drop_l j ys)) (le_antisymm (nltb→le t.i (length ys) over) t.upto) ∙ t.so_far
 
       -- the loop, and what follows it, from where it begins
       abbrev first-turn : Turn names x0 ys

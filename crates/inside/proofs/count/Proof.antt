@@ -2,9 +2,9 @@
 use mathlib.Core.Path.{◌∙◌}
 use native.Mathlib.Omega.{arith}
 use lib.ListN.{replicate}
-use Rattle.tally.proofs.Tours.{bytes-all}
-use Rattle.fields.proofs.Calls.{count-told}
-use Rattle.inside.proofs.Bodies.{inside-tiled}
+use Rattle.tally.proofs.Tours.{bytes_all}
+use Rattle.fields.proofs.Calls.{count_told}
+use Rattle.inside.proofs.Bodies.{inside_tiled}
 use borrow.Author.Rules.{rules}
 use Rattle.inside.proofs.count.Statement.{statement}
 use Rattle.inside.proofs.count.Tie as tie
@@ -24,8 +24,8 @@ count-met-requires c κs = search rules
 returns : tie.Need-returns
 returns c =
     let a = c.before.before.before.before.before.before.args in
-    let tile = inside-tiled a.b.now (bytes-all a.b.now c.before.before.before.before.before.shared-slice-known.given) (omega arith) in
-    c.count-met.ensures ∙ count-told (replicate 6 0) tile c.before.before.before.before.list-task.ensures c.before.before.visit-inside.ensures
+    let tile = inside_tiled a.b.now (bytes_all a.b.now c.before.before.before.before.before.shared-slice-known.given) (omega arith) in
+    c.count-met.ensures ∙ count_told (replicate 6 0) tile c.before.before.before.before.list-task.ensures c.before.before.visit-inside.ensures
 
 pub count_spec : {M : Type 1} → statement M
 count_spec =

@@ -2,9 +2,9 @@
 use mathlib.Core.Path.{refl, ◌∙◌}
 use native.Mathlib.Omega.{arith}
 use lib.ListN.{replicate}
-use Rattle.tally.proofs.Tours.{bytes-all}
+use Rattle.tally.proofs.Tours.{bytes_all}
 use Rattle.fields.proofs.Calls.{field_told}
-use Rattle.inside.proofs.Bodies.{inside-tiled}
+use Rattle.inside.proofs.Bodies.{inside_tiled}
 use borrow.Author.Rules.{rules}
 use Rattle.inside.proofs.field.Statement.{statement}
 use Rattle.inside.proofs.field.Tie as tie
@@ -24,7 +24,7 @@ field-met-requires c κs = search rules
 returns : tie.Need-returns
 returns c =
     let a = c.before.before.before.before.before.before.before.args in
-    let tile = inside-tiled a.b.now (bytes-all a.b.now c.before.before.before.before.before.before.shared-slice-known.given) (omega arith) in
+    let tile = inside_tiled a.b.now (bytes_all a.b.now c.before.before.before.before.before.before.shared-slice-known.given) (omega arith) in
     c.field-met.ensures ∙ field_told (replicate 6 0) refl tile c.before.before.before.before.before.list-task.ensures c.before.before.before.visit-inside.ensures
 
 pub field-spec : {M : Type 1} → statement M

@@ -1,6 +1,6 @@
 -- `inside::visit_inside` meets its contract: what `areas::rings` says of the body, and the walk over one that is accepted. Assumes nothing.
 use Rattle.tally.specs.Task.{doing}
-use Rattle.inside.proofs.Bodies.{body_refused, body-accepted}
+use Rattle.inside.proofs.Bodies.{body_refused, body_accepted}
 use borrow.Author.Rules.{rules}
 use Rattle.inside.proofs.visit_inside.Statement.{statement}
 use Rattle.inside.proofs.visit_inside.Tie as tie
@@ -28,7 +28,7 @@ same_length c = search rules
 returns-2 : tie.Need-returns-2
 returns-2 c =
     let a = c.before.before.before.before.before.before.before.before.before.before.args in
-    body-accepted a.b.now a.task a.out.now c.before.before.before.before.before.before.before.rings.ensures c.before.before.before.before.before.enum_told.given.1 c.before.before.before.walk-polygon.ensures
+    body_accepted a.b.now a.task a.out.now c.before.before.before.before.before.before.before.rings.ensures c.before.before.before.before.before.enum_told.given.1 c.before.before.before.walk-polygon.ensures
 
 pub visit-inside-spec : {M : Type 1} → statement M
 visit-inside-spec =

@@ -1,10 +1,10 @@
 -- `inside::walk_polygon` meets its contract: three bytes, a count, so many rings, and its kept bytes. Assumes nothing.
 use mathlib.Core.Path.{◌∙◌}
-use Rattle.format.specs.Geography.{bodyKept}
-use Rattle.format.proofs.Laws.{lawful-number}
-use Rattle.scan.proofs.Answers.{number-stands}
-use Rattle.tally.proofs.Tours.{bytes-all, walked_block, walked_then}
-use Rattle.inside.proofs.Walks.{lawful-rings, walked-holed, walked-polygon}
+use Rattle.format.specs.Geography.{body_kept}
+use Rattle.format.proofs.Laws.{lawful_number}
+use Rattle.scan.proofs.Answers.{number_stands}
+use Rattle.tally.proofs.Tours.{bytes_all, walked_block, walked_then}
+use Rattle.inside.proofs.Walks.{lawful_rings, walked_holed, walked_polygon}
 use borrow.Author.Rules.{rules}
 use Rattle.inside.proofs.walk_polygon.Statement.{statement}
 use Rattle.inside.proofs.walk_polygon.Tie as tie
@@ -37,12 +37,12 @@ returns : tie.Need-returns
 returns c =
     let a = c.before.before.before.before.before.before.before.before.before.before.before.before.before.before.before.before.before.before.before.before.before.before.before.before.before.before.before.args in
     let b = a.b.now in
-    let by = bytes-all b c.before.before.before.before.before.before.before.before.before.before.before.before.before.before.before.before.before.before.before.before.before.before.before.before.before.before.shared-slice-known.given in
+    let by = bytes_all b c.before.before.before.before.before.before.before.before.before.before.before.before.before.before.before.before.before.before.before.before.before.before.before.before.before.before.shared-slice-known.given in
     let n = c.before.before.before.before.before.before.before.before.before.before.before.before.number_at in
-    walked-polygon b by (walked_then b by (lawful-number 1 60) c.before.before.before.before.before.before.before.before.before.before.before.before.before.before.before.before.before.before.before.before.before.before.before.walk-fixed.ensures
-    (walked_then b by (lawful-number 1 61) c.before.before.before.before.before.before.before.before.before.before.before.before.before.before.before.before.before.before.before.walk-fixed2.ensures
-    (walked-holed b by c.before.before.before.before.before.before.before.before.before.before.before.before.before.before.before.walk-fixed3.ensures (number-stands n.ensures) c.before.before.before.before.before.before.before.before.before.before.walk-fixed4.ensures
-    (walked_then b by (lawful-rings n.result) c.before.before.before.before.before.before.walk-rings.ensures (walked_block b bodyKept 68 c.before.before.walk-fixed5.ensures)))))
+    walked_polygon b by (walked_then b by (lawful_number 1 60) c.before.before.before.before.before.before.before.before.before.before.before.before.before.before.before.before.before.before.before.before.before.before.before.walk-fixed.ensures
+    (walked_then b by (lawful_number 1 61) c.before.before.before.before.before.before.before.before.before.before.before.before.before.before.before.before.before.before.before.walk-fixed2.ensures
+    (walked_holed b by c.before.before.before.before.before.before.before.before.before.before.before.before.before.before.before.walk-fixed3.ensures (number_stands n.ensures) c.before.before.before.before.before.before.before.before.before.before.walk-fixed4.ensures
+    (walked_then b by (lawful_rings n.result) c.before.before.before.before.before.before.walk-rings.ensures (walked_block b body_kept 68 c.before.before.walk-fixed5.ensures)))))
 
 pub walk-polygon-spec : {M : Type 1} → statement M
 walk-polygon-spec =

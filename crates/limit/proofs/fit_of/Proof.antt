@@ -41,7 +41,7 @@ use denote.Exit.{yes}
 use denote.Triple.Clauses.{ensured, lasts}
 use Rattle.format.specs.Result.{Res}
 use Rattle.cards.specs.declared.Reason.{Reason}
-use Rattle.cards.specs.Reasons.{askFit, toldFit}
+use Rattle.cards.specs.Reasons.{ask_fit, told_fit}
 use Rattle.held.specs.declared.TableReader.{TableReader}
 use Rattle.cards.specs.declared.Fit.{Fit}
 use Rattle.held.specs.contracts.TableReader as T
@@ -56,7 +56,7 @@ use Rattle.held.specs.contracts.fit as callee
 use Rattle.held.proofs.fit.Symbol as callee-def
 use Rattle.held.proofs.fit.Symbol.{name as #held·fit}
 use Rattle.held.proofs.fit.Met as callee-thm
-use Rattle.limit.proofs.Reader.{Made, B, αᵉ, to-reader, reader-asks, reader-said}
+use Rattle.limit.proofs.Reader.{Made, B, αᵉ, to_reader, reader_asks, reader_said}
 use Rattle.limit.specs.contracts.fit_of.Key.{name as #limit·fit-of}
 use Rattle.limit.specs.contracts.fit_of as fn
 use Rattle.limit.proofs.fit_of.Statement as stated
@@ -85,10 +85,10 @@ module _ {M : Type 1} {𝓤 : Ura M} (𝓛 : Logic 𝓤) (mem : Memory → SProp
 
   -- what is asked of a message and a table, and what is said of the result
   abbrev answer : Bor (List ℕ) → ℕ → Res (Option (Reason × Option ℕ))
-  answer m t = askFit m.now t x0.now
+  answer m t = ask_fit m.now t x0.now
 
   abbrev Said : Bor (List ℕ) → ℕ → Fit → Type 0
-  Said m t res = toldFit res ≡ answer m t
+  Said m t res = told_fit res ≡ answer m t
 
   abbrev Post : Val → SProp 𝓤
   Post = (walk_of 𝓛 fn.ended stayed (fn.clauses 𝓛 mem run)).post (((κ0, (κ1, tt)), (q0, (q1, tt)), tt, (s, (x0, tt)), at), tt)
@@ -99,10 +99,10 @@ module _ {M : Type 1} {𝓤 : Ura M} (𝓛 : Logic 𝓤) (mem : Memory → SProp
   abbrev Own0 : Fml
   Own0 = (ShrSlice (named 1) κ1 u8).own_val x0 (v0 ∷ [])
 
-  to_reads : ent 𝓤 (on_entry 𝓛 fn.signature (κ0, (κ1, tt)) (q0, (q1, tt)) (s, (x0, tt)) at) (sep 𝓤 ((Made 𝓛 mem run).pre (to-reader 𝓛 mem run κ0 q0 s)) (sep 𝓤 (sem 𝓛 Own) (sep 𝓤 (sem 𝓛 Own0) (sep 𝓤 (sem 𝓛 Own0) (sep 𝓤 (sem 𝓛 (flft κ1 q1)) (sem 𝓛 ftrue))))))
+  to_reads : ent 𝓤 (on_entry 𝓛 fn.signature (κ0, (κ1, tt)) (q0, (q1, tt)) (s, (x0, tt)) at) (sep 𝓤 ((Made 𝓛 mem run).pre (to_reader 𝓛 mem run κ0 q0 s)) (sep 𝓤 (sem 𝓛 Own) (sep 𝓤 (sem 𝓛 Own0) (sep 𝓤 (sem 𝓛 Own0) (sep 𝓤 (sem 𝓛 (flft κ1 q1)) (sem 𝓛 ftrue))))))
   to_reads =
       qed 𝓛 ((‵ (flft κ0 q0) ⊛ ‵ (flft κ1 q1) ⊛ ‵ ftrue) ∷ ‵ (owns (ShrSlice (named 0) κ0 u8 ∷ ShrSlice (named 1) κ1 u8 ∷ []) (s, (x0, tt)) at) ∷ []) ∵
-      split ! $ move ! (2 ∷ []) $ fsplit ! $ use1 𝓛 (‵ Own ⊛ ‵ Own) ((shr_slice_copy 𝓛 (named 0) κ0 u8).twice s (v ∷ [])) $ split ! $ move ! (2 ∷ []) $ fsplit ! $ use1 𝓛 (‵ Own0 ⊛ ‵ Own0) ((shr_slice_copy 𝓛 (named 1) κ1 u8).twice x0 (v0 ∷ [])) $ split ! $ move ! (2 ∷ []) $ discard ! $ nothing ! $ owned ! usize (Is usize) (uint_Makes 𝓛 w64) 0 _ (refl, lit< tt) $ fjoin ! $ move ! (3 ∷ 0 ∷ []) $ fjoin ! $ nothing ! $ move ! (5 ∷ 0 ∷ []) $ join ! $ use2 𝓛 (raw ((Made 𝓛 mem run).pre (to-reader 𝓛 mem run κ0 q0 s))) (reader-asks 𝓛 mem run κ0 q0 s) $ frame ! $ move ! (2 ∷ 1 ∷ 0 ∷ 3 ∷ []) $ done !
+      split ! $ move ! (2 ∷ []) $ fsplit ! $ use1 𝓛 (‵ Own ⊛ ‵ Own) ((shr_slice_copy 𝓛 (named 0) κ0 u8).twice s (v ∷ [])) $ split ! $ move ! (2 ∷ []) $ fsplit ! $ use1 𝓛 (‵ Own0 ⊛ ‵ Own0) ((shr_slice_copy 𝓛 (named 1) κ1 u8).twice x0 (v0 ∷ [])) $ split ! $ move ! (2 ∷ []) $ discard ! $ nothing ! $ owned ! usize (Is usize) (uint_Makes 𝓛 w64) 0 _ (refl, lit< tt) $ fjoin ! $ move ! (3 ∷ 0 ∷ []) $ fjoin ! $ nothing ! $ move ! (5 ∷ 0 ∷ []) $ join ! $ use2 𝓛 (raw ((Made 𝓛 mem run).pre (to_reader 𝓛 mem run κ0 q0 s))) (reader_asks 𝓛 mem run κ0 q0 s) $ frame ! $ move ! (2 ∷ 1 ∷ 0 ∷ 3 ∷ []) $ done !
 
   -- the call of `held::fit`, at the reader r with the machine value u
   abbrev to-callee : TableReader → Val → (Asked 𝓛 mem run).Ghost
@@ -131,11 +131,11 @@ module _ {M : Type 1} {𝓤 : Ura M} (𝓛 : Logic 𝓤) (mem : Memory → SProp
         qed 𝓛 (raw (on_entry 𝓛 fn.signature (κ0, (κ1, tt)) (q0, (q1, tt)) (s, (x0, tt)) at) ∷ []) ∵ enter ! C Λ code.function (v ∷ v0 ∷ []) _ $
         alloc1 ! (λ l0. alloc1 ! (λ l1. alloc1 ! (λ l2. alloc1 ! (λ l3. alloc0 ! $ params1 ! $
         pass1 ! (init ! 4 refl ((shr_slice_Lawful 𝓛 (named 0) κ0 u8).typed s (v ∷ []) p).0) $ pass1 ! (init ! 2 refl ((shr_slice_Lawful 𝓛 (named 1) κ1 u8).typed x0 (v0 ∷ []) p0).0) $ pass0 ! $
-        move ! (8 ∷ []) $ use1 𝓛 (raw ((Made 𝓛 mem run).pre (to-reader 𝓛 mem run κ0 q0 s)) ⊛ (‵ Own ⊛ ‵ Own0 ⊛ ‵ Own0 ⊛ ‵ (flft κ1 q1) ⊛ ‵ ftrue)) to_reads $ split ! $
+        move ! (8 ∷ []) $ use1 𝓛 (raw ((Made 𝓛 mem run).pre (to_reader 𝓛 mem run κ0 q0 s)) ⊛ (‵ Own ⊛ ‵ Own0 ⊛ ‵ Own0 ⊛ ‵ (flft κ1 q1) ⊛ ‵ ftrue)) to_reads $ split ! $
         -- [what `reader` asks; what is kept; the locals, the last first]
-        calls_at ! fm (Made 𝓛 mem run) known (to-reader 𝓛 mem run κ0 q0 s) (and_then ! (load ! (from ! (stop !)) (look ! 6 refl)) (and_then ! (lit ! tt) (no_more !))) (λ u.
+        calls_at ! fm (Made 𝓛 mem run) known (to_reader 𝓛 mem run κ0 q0 s) (and_then ! (load ! (from ! (stop !)) (look ! 6 refl)) (and_then ! (lit ! tt) (no_more !))) (λ u.
         use1 𝓛 (later (some (λ (r : TableReader). ((‵ (flft κ0 q0) ⊛ ‵ ftrue) ⊛ ‵ ((B κ0).own r (u ∷ []))) ⊛ raw (ensured 𝓛 reader.ended (reader.clauses 𝓛 mem run) (κ0, tt) (s, (0, tt)) tt r)))) (id⊢ 𝓤 _) $ await ! tt $ pick ! (λ r.
-        split ! $ move ! (1 ∷ []) $ use1 𝓛 (raw (fact 𝓤 ((r.msg ≡ s) × (r.table ≡ 0)))) (reader-said 𝓛 mem run κ0 s r) $ heard ! ((r.msg ≡ s) × (r.table ≡ 0)) (λ e. split ! $ move ! (1 ∷ []) $
+        split ! $ move ! (1 ∷ []) $ use1 𝓛 (raw (fact 𝓤 ((r.msg ≡ s) × (r.table ≡ 0)))) (reader_said 𝓛 mem run κ0 s r) $ heard ! ((r.msg ≡ s) × (r.table ≡ 0)) (λ e. split ! $ move ! (1 ∷ []) $
         -- [what the reader owns; the token; what is kept; the locals, the last first]
         peeks ! (B κ0) (Is (B κ0)) (shows 𝓛 (B κ0)) r (u ∷ []) (λ is.
         land ! (from ! (stop !)) (init ! 3 refl ((LL.lawful (T.the_type (αᵉ κ0)) (T'.the_laws (αᵉ κ0)) 𝓛).typed r _ is).0) $

@@ -40,7 +40,7 @@ use denote.Exit.{yes}
 use denote.Triple.Clauses.{ensured, lasts}
 use Rattle.format.specs.Result.{Res}
 use Rattle.query.specs.declared.TableLayout.{TableLayout}
-use Rattle.query.specs.Answers.{toldTable, askTable}
+use Rattle.query.specs.Answers.{told_table, ask_table}
 use Rattle.held.specs.declared.TableReader.{TableReader}
 use Rattle.query.specs.declared.TableAnswer.{TableAnswer}
 use Rattle.held.specs.contracts.TableReader as T
@@ -55,7 +55,7 @@ use Rattle.held.specs.contracts.layout as callee
 use Rattle.held.proofs.layout.Symbol as callee-def
 use Rattle.held.proofs.layout.Symbol.{name as #held·layout}
 use Rattle.held.proofs.layout.Met as callee-thm
-use Rattle.limit.proofs.Reader.{Made, B, αᵉ, to-reader, reader-asks, reader-said}
+use Rattle.limit.proofs.Reader.{Made, B, αᵉ, to_reader, reader_asks, reader_said}
 use Rattle.limit.specs.contracts.layout_of.Key.{name as #limit·layout-of}
 use Rattle.limit.specs.contracts.layout_of as fn
 use Rattle.limit.proofs.layout_of.Statement as stated
@@ -81,10 +81,10 @@ module _ {M : Type 1} {𝓤 : Ura M} (𝓛 : Logic 𝓤) (mem : Memory → SProp
 
   -- what is asked of a message and a table, and what is said of the result
   abbrev answer : Bor (List ℕ) → ℕ → Res TableLayout
-  answer m t = askTable m.now t
+  answer m t = ask_table m.now t
 
   abbrev Said : Bor (List ℕ) → ℕ → TableAnswer → Type 0
-  Said m t res = toldTable res ≡ answer m t
+  Said m t res = told_table res ≡ answer m t
 
   abbrev Post : Val → SProp 𝓤
   Post = (walk_of 𝓛 fn.ended stayed (fn.clauses 𝓛 mem run)).post (((κ0, tt), (q0, tt), tt, (s, tt), at), tt)
@@ -92,10 +92,10 @@ module _ {M : Type 1} {𝓤 : Ura M} (𝓛 : Logic 𝓤) (mem : Memory → SProp
   abbrev Own : Fml
   Own = (ShrSlice (named 0) κ0 u8).own_val s (v ∷ [])
 
-  to_reads : ent 𝓤 (on_entry 𝓛 fn.signature (κ0, tt) (q0, tt) (s, tt) at) (sep 𝓤 ((Made 𝓛 mem run).pre (to-reader 𝓛 mem run κ0 q0 s)) (sem 𝓛 Own))
+  to_reads : ent 𝓤 (on_entry 𝓛 fn.signature (κ0, tt) (q0, tt) (s, tt) at) (sep 𝓤 ((Made 𝓛 mem run).pre (to_reader 𝓛 mem run κ0 q0 s)) (sem 𝓛 Own))
   to_reads =
       qed 𝓛 ((‵ (flft κ0 q0) ⊛ ‵ ftrue) ∷ ‵ (owns (ShrSlice (named 0) κ0 u8 ∷ []) (s, tt) at) ∷ []) ∵
-      move ! (1 ∷ []) $ fsplit ! $ use1 𝓛 (‵ Own ⊛ ‵ Own) ((shr_slice_copy 𝓛 (named 0) κ0 u8).twice s (v ∷ [])) $ split ! $ move ! (2 ∷ []) $ discard ! $ nothing ! $ owned ! usize (Is usize) (uint_Makes 𝓛 w64) 0 _ (refl, lit< tt) $ fjoin ! $ move ! (1 ∷ 0 ∷ []) $ fjoin ! $ move ! (2 ∷ 0 ∷ []) $ use2 𝓛 (raw ((Made 𝓛 mem run).pre (to-reader 𝓛 mem run κ0 q0 s))) (reader-asks 𝓛 mem run κ0 q0 s) $ frame ! $ done !
+      move ! (1 ∷ []) $ fsplit ! $ use1 𝓛 (‵ Own ⊛ ‵ Own) ((shr_slice_copy 𝓛 (named 0) κ0 u8).twice s (v ∷ [])) $ split ! $ move ! (2 ∷ []) $ discard ! $ nothing ! $ owned ! usize (Is usize) (uint_Makes 𝓛 w64) 0 _ (refl, lit< tt) $ fjoin ! $ move ! (1 ∷ 0 ∷ []) $ fjoin ! $ move ! (2 ∷ 0 ∷ []) $ use2 𝓛 (raw ((Made 𝓛 mem run).pre (to_reader 𝓛 mem run κ0 q0 s))) (reader_asks 𝓛 mem run κ0 q0 s) $ frame ! $ done !
 
   -- the call of `held::layout`, at the reader r with the machine value u
   abbrev to-callee : TableReader → Val → (Asked 𝓛 mem run).Ghost
@@ -124,11 +124,11 @@ module _ {M : Type 1} {𝓤 : Ura M} (𝓛 : Logic 𝓤) (mem : Memory → SProp
         qed 𝓛 (raw (on_entry 𝓛 fn.signature (κ0, tt) (q0, tt) (s, tt) at) ∷ []) ∵ enter ! C Λ code.function (v ∷ []) _ $
         alloc1 ! (λ l0. alloc1 ! (λ l1. alloc1 ! (λ l2. alloc0 ! $ params1 ! $
         pass1 ! (init ! 2 refl ((shr_slice_Lawful 𝓛 (named 0) κ0 u8).typed s (v ∷ []) p).0) $ pass0 ! $
-        move ! (6 ∷ []) $ use1 𝓛 (raw ((Made 𝓛 mem run).pre (to-reader 𝓛 mem run κ0 q0 s)) ⊛ ‵ Own) to_reads $ split ! $
+        move ! (6 ∷ []) $ use1 𝓛 (raw ((Made 𝓛 mem run).pre (to_reader 𝓛 mem run κ0 q0 s)) ⊛ ‵ Own) to_reads $ split ! $
         -- [what `reader` asks; what is kept; the locals, the last first]
-        calls_at ! fm (Made 𝓛 mem run) known (to-reader 𝓛 mem run κ0 q0 s) (and_then ! (load ! (from ! (stop !)) (look ! 4 refl)) (and_then ! (lit ! tt) (no_more !))) (λ u.
+        calls_at ! fm (Made 𝓛 mem run) known (to_reader 𝓛 mem run κ0 q0 s) (and_then ! (load ! (from ! (stop !)) (look ! 4 refl)) (and_then ! (lit ! tt) (no_more !))) (λ u.
         use1 𝓛 (later (some (λ (r : TableReader). ((‵ (flft κ0 q0) ⊛ ‵ ftrue) ⊛ ‵ ((B κ0).own r (u ∷ []))) ⊛ raw (ensured 𝓛 reader.ended (reader.clauses 𝓛 mem run) (κ0, tt) (s, (0, tt)) tt r)))) (id⊢ 𝓤 _) $ await ! tt $ pick ! (λ r.
-        split ! $ move ! (1 ∷ []) $ use1 𝓛 (raw (fact 𝓤 ((r.msg ≡ s) × (r.table ≡ 0)))) (reader-said 𝓛 mem run κ0 s r) $ heard ! ((r.msg ≡ s) × (r.table ≡ 0)) (λ e. split ! $ move ! (1 ∷ []) $
+        split ! $ move ! (1 ∷ []) $ use1 𝓛 (raw (fact 𝓤 ((r.msg ≡ s) × (r.table ≡ 0)))) (reader_said 𝓛 mem run κ0 s r) $ heard ! ((r.msg ≡ s) × (r.table ≡ 0)) (λ e. split ! $ move ! (1 ∷ []) $
         -- [what the reader owns; the token; what is kept; the locals, the last first]
         peeks ! (B κ0) (Is (B κ0)) (shows 𝓛 (B κ0)) r (u ∷ []) (λ is.
         land ! (from ! (stop !)) (init ! 3 refl ((LL.lawful (T.the_type (αᵉ κ0)) (T'.the_laws (αᵉ κ0)) 𝓛).typed r _ is).0) $

@@ -1,6 +1,6 @@
 -- `listing::print` meets its contract: it answers what `judge` answers, which it printed.
 use mathlib.Core.Path.{sym, ap, ◌∙◌}
-use Rattle.message.specs.Verdict.{toldVerdict}
+use Rattle.message.specs.Verdict.{told_verdict}
 use borrow.Author.Rules.{rules}
 use Rattle.listing.proofs.print.Statement.{statement}
 use Rattle.listing.proofs.print.Tie as tie
@@ -24,7 +24,7 @@ print-refusal-requires : tie.Need-print-refusal-requires
 print-refusal-requires c κs = search rules
 
 returns-2 : tie.Need-returns-2
-returns-2 c = sym (ap toldVerdict c.before.before.verdict.given.1) ∙ c.before.before.before.before.judge.ensures
+returns-2 c = sym (ap told_verdict c.before.before.verdict.given.1) ∙ c.before.before.before.before.judge.ensures
 
 pub print-spec : {M : Type 1} → statement M
 print-spec =

@@ -7,12 +7,12 @@ use native.Mathlib.Omega.{arith}
 use lib.ListN.{length, take, get_or}
 use lib.Seq.{length-take-le}
 use borrow.Author.Rules.{rules}
-use Rattle.listing.specs.Text.{spelled, behindOf, words_of}
+use Rattle.listing.specs.Text.{spelled, behind_of, words_of}
 use Rattle.listing.proofs.put_line.Statement.{statement}
 use Rattle.listing.proofs.put_line.Tie as tie
 
 -- a number more
-turn : (numbers l l' : List ℕ) (from i end r after : ℕ) → take end l ≡ words_of numbers from i → after ≡ behindOf i
+turn : (numbers l l' : List ℕ) (from i end r after : ℕ) → take end l ≡ words_of numbers from i → after ≡ behind_of i
     → take r l' ≡ take end l ++ spelled (get_or numbers (from + i) 0) after → take r l' ≡ words_of numbers from (i + 1)
 unfolding words_of
 turn numbers l l' from i end r after before byte now' =

@@ -3,7 +3,7 @@ use Prim.Native.Nat.{ℕ, ◌≤◌, ◌<◌, ◌+◌}
 use mathlib.Core.Path.{◌≡◌, sym, ap, ◌∙◌}
 use native.Mathlib.Omega.{arith}
 use lib.ListN.{take}
-use Rattle.listing.proofs.Spelled.{at-most-20, places, puts}
+use Rattle.listing.proofs.Spelled.{at_most_20, places, puts}
 use borrow.Author.Rules.{rules}
 use Rattle.listing.proofs.put_number.Statement.{statement}
 use Rattle.listing.proofs.put_number.Tie as tie
@@ -18,19 +18,19 @@ slice-aggregate-copy : tie.Need-slice-aggregate-copy
 slice-aggregate-copy c = search rules
 
 copy-requires : tie.Need-copy-requires
-copy-requires c κs = let few = at-most-20 _ _ (search rules) c.before.before.decimal.ensures.1.0 in omega arith
+copy-requires c κs = let few = at_most_20 _ _ (search rules) c.before.before.decimal.ensures.1.0 in omega arith
 
 add-line : tie.Need-overflow-add-line
-add-line c = let few = at-most-20 _ _ (search rules) c.before.before.before.before.before.decimal.ensures.1.0 in omega arith
+add-line c = let few = at_most_20 _ _ (search rules) c.before.before.before.before.before.decimal.ensures.1.0 in omega arith
 
 slice-write-line : tie.Need-slice-write-line
-slice-write-line c = let few = at-most-20 _ _ (search rules) c.before.before.before.before.before.decimal.ensures.1.0 in omega arith
+slice-write-line c = let few = at_most_20 _ _ (search rules) c.before.before.before.before.before.decimal.ensures.1.0 in omega arith
 
 add-result : tie.Need-overflow-add-result
-add-result c = let few = at-most-20 _ _ (search rules) c.before.before.before.before.before.decimal.ensures.1.0 in omega arith
+add-result c = let few = at_most_20 _ _ (search rules) c.before.before.before.before.before.decimal.ensures.1.0 in omega arith
 
 add-result-2 : tie.Need-overflow-add-result-2
-add-result-2 c = let few = at-most-20 _ _ (search rules) c.before.before.before.before.before.decimal.ensures.1.0 in omega arith
+add-result-2 c = let few = at_most_20 _ _ (search rules) c.before.before.before.before.before.decimal.ensures.1.0 in omega arith
 
 same_length : tie.Need-same-length
 same_length c = search rules
@@ -38,7 +38,7 @@ same_length c = search rules
 returns : tie.Need-returns
 returns c =
     let made = c.before.before.before.before.before.decimal in
-    let few = at-most-20 _ _ (search rules) made.ensures.1.0 in (
+    let few = at_most_20 _ _ (search rules) made.ensures.1.0 in (
       omega arith,
       puts _ c.before.before.copy.new.1.0 (take made.result made.new.1.0) _ _ _ _
           c.before.before.copy.ensures

@@ -1,11 +1,11 @@
 -- `login::ask_request` meets its contract: its tests are those of the plan; its size is asked only where no argument is wrong. Assumes nothing.
 use mathlib.Core.Path.{refl, sym, ◌∙◌}
 use mathlib.Core.Bool.{true}
-use Rattle.format.specs.Message.{aLoginRequest, messageBytes}
+use Rattle.format.specs.Message.{a_login_request, message_bytes}
 use Rattle.steps.specs.Steps.{says}
-use Rattle.steps.specs.Logins.{requestFault, writtenRequest, loginPlan}
+use Rattle.steps.specs.Logins.{request_fault, written_request, login_plan}
 use Rattle.write.proofs.Taken.{answered}
-use Rattle.login.proofs.Parts.{is-fine, not-fine, request-limits, request-length-by}
+use Rattle.login.proofs.Parts.{is_fine, not_fine, request_limits, request_length-by}
 use borrow.Author.Rules.{rules}
 use Rattle.login.proofs.ask_request.Statement.{statement}
 use Rattle.login.proofs.ask_request.Tie as tie
@@ -24,19 +24,19 @@ judge-requires c κs = search rules
 
 returns : tie.Need-returns
 returns c =
-    answered (loginPlan (requestFault c.before.before.before.before.before.before.before.args.version c.before.before.before.before.before.before.before.args.hashing c.before.before.before.before.before.before.before.args.service.now c.before.before.before.before.before.before.before.args.user.now c.before.before.before.before.before.before.before.args.hash.now) (messageBytes 1 (says c.before.before.before.before.before.before.before.args.version (aLoginRequest (writtenRequest c.before.before.before.before.before.before.before.args.version c.before.before.before.before.before.before.before.args.hashing c.before.before.before.before.before.before.before.args.service.now c.before.before.before.before.before.before.before.args.user.now c.before.before.before.before.before.before.before.args.hash.now))))) c.before.before.before.before.before.before.before.args.size {limits = true} {n = 0}
-    c.judge.ensures refl c.before.before.before.request-fault.ensures (λ u w. absurd (not-fine c.before.enum-told2.given.1 c.before.before.before.request-fault.ensures w))
+    answered (login_plan (request_fault c.before.before.before.before.before.before.before.args.version c.before.before.before.before.before.before.before.args.hashing c.before.before.before.before.before.before.before.args.service.now c.before.before.before.before.before.before.before.args.user.now c.before.before.before.before.before.before.before.args.hash.now) (message_bytes 1 (says c.before.before.before.before.before.before.before.args.version (a_login_request (written_request c.before.before.before.before.before.before.before.args.version c.before.before.before.before.before.before.before.args.hashing c.before.before.before.before.before.before.before.args.service.now c.before.before.before.before.before.before.before.args.user.now c.before.before.before.before.before.before.before.args.hash.now))))) c.before.before.before.before.before.before.before.args.size {limits = true} {n = 0}
+    c.judge.ensures refl c.before.before.before.request-fault.ensures (λ u w. absurd (not_fine c.before.enum-told2.given.1 c.before.before.before.request-fault.ensures w))
 
 request-size-requires : tie.Need-request-size-requires
-request-size-requires c κs = request-limits c.before.before.before.before.before.before.args.version c.before.before.before.before.before.before.args.hashing c.before.before.before.before.before.before.args.service.now c.before.before.before.before.before.before.args.user.now c.before.before.before.before.before.before.args.hash.now (is-fine c.enum_told.given.1 c.before.before.request-fault.ensures)
+request-size-requires c κs = request_limits c.before.before.before.before.before.before.args.version c.before.before.before.before.before.before.args.hashing c.before.before.before.before.before.before.args.service.now c.before.before.before.before.before.before.args.user.now c.before.before.before.before.before.before.args.hash.now (is_fine c.enum_told.given.1 c.before.before.request-fault.ensures)
 
 judge-requires-2 : tie.Need-judge-requires-2
 judge-requires-2 c κs = search rules
 
 returns-2 : tie.Need-returns-2
 returns-2 c =
-    answered (loginPlan (requestFault c.before.before.before.before.before.before.before.before.args.version c.before.before.before.before.before.before.before.before.args.hashing c.before.before.before.before.before.before.before.before.args.service.now c.before.before.before.before.before.before.before.before.args.user.now c.before.before.before.before.before.before.before.before.args.hash.now) (messageBytes 1 (says c.before.before.before.before.before.before.before.before.args.version (aLoginRequest (writtenRequest c.before.before.before.before.before.before.before.before.args.version c.before.before.before.before.before.before.before.before.args.hashing c.before.before.before.before.before.before.before.before.args.service.now c.before.before.before.before.before.before.before.before.args.user.now c.before.before.before.before.before.before.before.before.args.hash.now))))) c.before.before.before.before.before.before.before.before.args.size
-    c.judge2.ensures refl c.before.before.before.before.request-fault.ensures (λ u w. (refl, c.before.request-size.ensures ∙ sym (request-length-by c.before.before.before.before.before.before.before.before.args.version c.before.before.before.before.before.before.before.before.args.hashing c.before.before.before.before.before.before.before.before.args.service.now c.before.before.before.before.before.before.before.before.args.user.now c.before.before.before.before.before.before.before.before.args.hash.now)))
+    answered (login_plan (request_fault c.before.before.before.before.before.before.before.before.args.version c.before.before.before.before.before.before.before.before.args.hashing c.before.before.before.before.before.before.before.before.args.service.now c.before.before.before.before.before.before.before.before.args.user.now c.before.before.before.before.before.before.before.before.args.hash.now) (message_bytes 1 (says c.before.before.before.before.before.before.before.before.args.version (a_login_request (written_request c.before.before.before.before.before.before.before.before.args.version c.before.before.before.before.before.before.before.before.args.hashing c.before.before.before.before.before.before.before.before.args.service.now c.before.before.before.before.before.before.before.before.args.user.now c.before.before.before.before.before.before.before.before.args.hash.now))))) c.before.before.before.before.before.before.before.before.args.size
+    c.judge2.ensures refl c.before.before.before.before.request-fault.ensures (λ u w. (refl, c.before.request-size.ensures ∙ sym (request_length-by c.before.before.before.before.before.before.before.before.args.version c.before.before.before.before.before.before.before.before.args.hashing c.before.before.before.before.before.before.before.before.args.service.now c.before.before.before.before.before.before.before.before.args.user.now c.before.before.before.before.before.before.before.before.args.hash.now)))
 
 pub ask-request-spec : {M : Type 1} → statement M
 ask-request-spec =

@@ -2,7 +2,7 @@
 use Prim.Native.Nat.{ℕ}
 use mathlib.Core.Path.{ap, ap₂, ◌∙◌}
 use Rattle.steps.specs.Plans.{also}
-use Rattle.steps.specs.Logins.{hashFault, requestFault}
+use Rattle.steps.specs.Logins.{hash_fault, request_fault}
 use borrow.Author.Rules.{rules}
 use Rattle.login.proofs.request_fault.Statement.{statement}
 use Rattle.login.proofs.request_fault.Tie as tie
@@ -38,13 +38,13 @@ also-requires-4 : tie.Need-also-requires-4
 also-requires-4 c κs = search rules
 
 returns : tie.Need-returns
-unfolding requestFault
+unfolding request_fault
 returns c =
     c.also4.ensures
     ∙ ap₂ also c.before.before.before.before.before.before.before.before.before.test.ensures (c.before.also3.ensures
     ∙ ap₂ also c.before.before.before.before.before.before.before.before.hash-version-fault.ensures (c.before.before.also2.ensures
     ∙ ap₂ also c.before.before.before.before.before.before.before.text-fault.ensures (c.before.before.before.also.ensures
-    ∙ ap₂ also c.before.before.before.before.before.before.text-fault2.ensures (c.before.before.before.before.hash-fault.ensures ∙ ap (λ (n : ℕ). hashFault n c.before.before.before.before.before.before.before.before.before.before.before.before.before.args.hash.now) c.before.before.before.before.before.hash-size.ensures))))
+    ∙ ap₂ also c.before.before.before.before.before.before.text-fault2.ensures (c.before.before.before.before.hash-fault.ensures ∙ ap (λ (n : ℕ). hash_fault n c.before.before.before.before.before.before.before.before.before.before.before.before.before.args.hash.now) c.before.before.before.before.before.hash-size.ensures))))
 
 pub request-fault-spec : {M : Type 1} → statement M
 request-fault-spec =

@@ -5,9 +5,9 @@ use mathlib.Core.Path.{sym, ap, ◌∙◌}
 use mathlib.Core.List.{List}
 use mathlib.Core.Option.{some}
 use Rattle.put.specs.Put.{put, sized}
-use Rattle.put.proofs.Laws.{puts-number, puts-both, sized-some}
+use Rattle.put.proofs.Laws.{puts_number, puts_both, sized_some}
 use Rattle.login.specs.Parts.{welcome}
-use Rattle.login.proofs.Parts.{puts_whole, server-bytes}
+use Rattle.login.proofs.Parts.{puts_whole, server_bytes}
 use borrow.Author.Rules.{rules}
 use Rattle.login.proofs.server_at.Statement.{statement}
 use Rattle.login.proofs.server_at.Tie as tie
@@ -26,11 +26,11 @@ number-at-requires-4 c κs = search rules
 
 text-at-requires : tie.Need-text-at-requires
 text-at-requires c κs =
-    let l = sized-some c.before.before.before.before.before.before.before.before.before.before.before.before.before.before.before.before.before.before.before.args.build.now in
-    let p = puts-number c.before.before.before.before.before.before.before.before.before.before.before.before.before.before.before.before.before.before.before.args.out.now c.before.before.before.before.before.before.before.before.before.before.before.before.before.before.before.before.before.before.before.args.at 4 c.before.before.before.before.before.before.before.before.before.before.before.before.before.before.before.before.before.before.before.args.host (omega arith) c.before.before.before.before.before.before.before.before.before.before.before.before.before.before.before.number_at.ensures in
-    let q = puts-number c.before.before.before.before.before.before.before.before.before.before.before.before.before.before.before.number_at.new.0 c.before.before.before.before.before.before.before.before.before.before.before.before.before.before.before.number_at.result 8 c.before.before.before.before.before.before.before.before.before.before.before.before.before.before.before.before.before.before.before.args.connection (omega arith) c.before.before.before.before.before.before.before.before.before.before.before.number-at2.ensures in
-    let r = puts-number c.before.before.before.before.before.before.before.before.before.before.before.number-at2.new.0 c.before.before.before.before.before.before.before.before.before.before.before.number-at2.result 8 c.before.before.before.before.before.before.before.before.before.before.before.before.before.before.before.before.before.before.before.args.start (omega arith) c.before.before.before.before.before.before.before.number-at3.ensures in
-    let s = puts-number c.before.before.before.before.before.before.before.number-at3.new.0 c.before.before.before.before.before.before.before.number-at3.result 4 c.before.before.before.before.before.before.before.before.before.before.before.before.before.before.before.before.before.before.before.args.leader (omega arith) c.before.before.before.number-at4.ensures in
+    let l = sized_some c.before.before.before.before.before.before.before.before.before.before.before.before.before.before.before.before.before.before.before.args.build.now in
+    let p = puts_number c.before.before.before.before.before.before.before.before.before.before.before.before.before.before.before.before.before.before.before.args.out.now c.before.before.before.before.before.before.before.before.before.before.before.before.before.before.before.before.before.before.before.args.at 4 c.before.before.before.before.before.before.before.before.before.before.before.before.before.before.before.before.before.before.before.args.host (omega arith) c.before.before.before.before.before.before.before.before.before.before.before.before.before.before.before.number_at.ensures in
+    let q = puts_number c.before.before.before.before.before.before.before.before.before.before.before.before.before.before.before.number_at.new.0 c.before.before.before.before.before.before.before.before.before.before.before.before.before.before.before.number_at.result 8 c.before.before.before.before.before.before.before.before.before.before.before.before.before.before.before.before.before.before.before.args.connection (omega arith) c.before.before.before.before.before.before.before.before.before.before.before.number-at2.ensures in
+    let r = puts_number c.before.before.before.before.before.before.before.before.before.before.before.number-at2.new.0 c.before.before.before.before.before.before.before.before.before.before.before.number-at2.result 8 c.before.before.before.before.before.before.before.before.before.before.before.before.before.before.before.before.before.before.before.args.start (omega arith) c.before.before.before.before.before.before.before.number-at3.ensures in
+    let s = puts_number c.before.before.before.before.before.before.before.number-at3.new.0 c.before.before.before.before.before.before.before.number-at3.result 4 c.before.before.before.before.before.before.before.before.before.before.before.before.before.before.before.before.before.before.before.args.leader (omega arith) c.before.before.before.number-at4.ensures in
     omega arith
 
 same_length : tie.Need-same-length
@@ -38,14 +38,14 @@ same_length c = search rules
 
 returns : tie.Need-returns
 returns c =
-    let l = sized-some c.before.before.before.before.before.before.before.before.before.before.before.before.before.before.before.before.before.before.before.before.before.before.args.build.now in
-    let p = puts-number c.before.before.before.before.before.before.before.before.before.before.before.before.before.before.before.before.before.before.before.before.before.before.args.out.now c.before.before.before.before.before.before.before.before.before.before.before.before.before.before.before.before.before.before.before.before.before.before.args.at 4 c.before.before.before.before.before.before.before.before.before.before.before.before.before.before.before.before.before.before.before.before.before.before.args.host (omega arith) c.before.before.before.before.before.before.before.before.before.before.before.before.before.before.before.before.before.before.number_at.ensures in
-    let q = puts-number c.before.before.before.before.before.before.before.before.before.before.before.before.before.before.before.before.before.before.number_at.new.0 c.before.before.before.before.before.before.before.before.before.before.before.before.before.before.before.before.before.before.number_at.result 8 c.before.before.before.before.before.before.before.before.before.before.before.before.before.before.before.before.before.before.before.before.before.before.args.connection (omega arith) c.before.before.before.before.before.before.before.before.before.before.before.before.before.before.number-at2.ensures in
-    let r = puts-number c.before.before.before.before.before.before.before.before.before.before.before.before.before.before.number-at2.new.0 c.before.before.before.before.before.before.before.before.before.before.before.before.before.before.number-at2.result 8 c.before.before.before.before.before.before.before.before.before.before.before.before.before.before.before.before.before.before.before.before.before.before.args.start (omega arith) c.before.before.before.before.before.before.before.before.before.before.number-at3.ensures in
-    let s = puts-number c.before.before.before.before.before.before.before.before.before.before.number-at3.new.0 c.before.before.before.before.before.before.before.before.before.before.number-at3.result 4 c.before.before.before.before.before.before.before.before.before.before.before.before.before.before.before.before.before.before.before.before.before.before.args.leader (omega arith) c.before.before.before.before.before.before.number-at4.ensures in
+    let l = sized_some c.before.before.before.before.before.before.before.before.before.before.before.before.before.before.before.before.before.before.before.before.before.before.args.build.now in
+    let p = puts_number c.before.before.before.before.before.before.before.before.before.before.before.before.before.before.before.before.before.before.before.before.before.before.args.out.now c.before.before.before.before.before.before.before.before.before.before.before.before.before.before.before.before.before.before.before.before.before.before.args.at 4 c.before.before.before.before.before.before.before.before.before.before.before.before.before.before.before.before.before.before.before.before.before.before.args.host (omega arith) c.before.before.before.before.before.before.before.before.before.before.before.before.before.before.before.before.before.before.number_at.ensures in
+    let q = puts_number c.before.before.before.before.before.before.before.before.before.before.before.before.before.before.before.before.before.before.number_at.new.0 c.before.before.before.before.before.before.before.before.before.before.before.before.before.before.before.before.before.before.number_at.result 8 c.before.before.before.before.before.before.before.before.before.before.before.before.before.before.before.before.before.before.before.before.before.before.args.connection (omega arith) c.before.before.before.before.before.before.before.before.before.before.before.before.before.before.number-at2.ensures in
+    let r = puts_number c.before.before.before.before.before.before.before.before.before.before.before.before.before.before.number-at2.new.0 c.before.before.before.before.before.before.before.before.before.before.before.before.before.before.number-at2.result 8 c.before.before.before.before.before.before.before.before.before.before.before.before.before.before.before.before.before.before.before.before.before.before.args.start (omega arith) c.before.before.before.before.before.before.before.before.before.before.number-at3.ensures in
+    let s = puts_number c.before.before.before.before.before.before.before.before.before.before.number-at3.new.0 c.before.before.before.before.before.before.before.before.before.before.number-at3.result 4 c.before.before.before.before.before.before.before.before.before.before.before.before.before.before.before.before.before.before.before.before.before.before.args.leader (omega arith) c.before.before.before.before.before.before.number-at4.ensures in
     let t = puts_whole c.before.before.before.before.before.before.number-at4.new.0 c.before.before.before.before.before.before.number-at4.result (sized (some c.before.before.before.before.before.before.before.before.before.before.before.before.before.before.before.before.before.before.before.before.before.before.args.build.now)) (omega arith) c.before.before.text_at.ensures in
-    (puts-both p (puts-both q (puts-both r (puts-both s t)))).is
-    ∙ ap (λ (bs : List ℕ). put c.before.before.before.before.before.before.before.before.before.before.before.before.before.before.before.before.before.before.before.before.before.before.args.out.now c.before.before.before.before.before.before.before.before.before.before.before.before.before.before.before.before.before.before.before.before.before.before.args.at bs) (sym (server-bytes (welcome c.before.before.before.before.before.before.before.before.before.before.before.before.before.before.before.before.before.before.before.before.before.before.args.host c.before.before.before.before.before.before.before.before.before.before.before.before.before.before.before.before.before.before.before.before.before.before.args.connection c.before.before.before.before.before.before.before.before.before.before.before.before.before.before.before.before.before.before.before.before.before.before.args.start c.before.before.before.before.before.before.before.before.before.before.before.before.before.before.before.before.before.before.before.before.before.before.args.leader c.before.before.before.before.before.before.before.before.before.before.before.before.before.before.before.before.before.before.before.before.before.before.args.build.now)))
+    (puts_both p (puts_both q (puts_both r (puts_both s t)))).is
+    ∙ ap (λ (bs : List ℕ). put c.before.before.before.before.before.before.before.before.before.before.before.before.before.before.before.before.before.before.before.before.before.before.args.out.now c.before.before.before.before.before.before.before.before.before.before.before.before.before.before.before.before.before.before.before.before.before.before.args.at bs) (sym (server_bytes (welcome c.before.before.before.before.before.before.before.before.before.before.before.before.before.before.before.before.before.before.before.before.before.before.args.host c.before.before.before.before.before.before.before.before.before.before.before.before.before.before.before.before.before.before.before.before.before.before.args.connection c.before.before.before.before.before.before.before.before.before.before.before.before.before.before.before.before.before.before.before.before.before.before.args.start c.before.before.before.before.before.before.before.before.before.before.before.before.before.before.before.before.before.before.before.before.before.before.args.leader c.before.before.before.before.before.before.before.before.before.before.before.before.before.before.before.before.before.before.before.before.before.before.args.build.now)))
 
 pub server-at-spec : {M : Type 1} → statement M
 server-at-spec =

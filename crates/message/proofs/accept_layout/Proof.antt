@@ -1,9 +1,9 @@
 -- `message::accept_layout` meets its contract: the layout, the length, the message, and that nothing is left over. Assumes nothing.
 use mathlib.Core.Path.{sym, ap, ◌∙◌}
 use borrow.Author.Tests.{not-true, not-false}
-use Rattle.scan.proofs.Answers.{next-go, next-stop}
-use Rattle.message.specs.Verdict.{verdictOf}
-use Rattle.message.proofs.Whole.{unknown, bad-length, bad-message, left_over, all_read}
+use Rattle.scan.proofs.Answers.{next_go, next_stop}
+use Rattle.message.specs.Verdict.{verdict_of}
+use Rattle.message.proofs.Whole.{unknown, bad_length, bad_message, left_over, all_read}
 use borrow.Author.Rules.{rules}
 use Rattle.message.proofs.accept_layout.Statement.{statement}
 use Rattle.message.proofs.accept_layout.Tie as tie
@@ -14,7 +14,7 @@ is-layout-requires c κs = search rules
 returns : tie.Need-returns
 returns c =
     let a = c.before.before.before.args in
-    sym (ap verdictOf (unknown a.layout a.m.now (sym c.before.is-layout.ensures ∙ not-true _ c.if1.true)))
+    sym (ap verdict_of (unknown a.layout a.m.now (sym c.before.is-layout.ensures ∙ not-true _ c.if1.true)))
 
 skip-length-requires : tie.Need-skip-length-requires
 skip-length-requires c κs = search rules
@@ -32,8 +32,8 @@ returns-2 : tie.Need-returns-2
 returns-2 c =
     let a = c.before.before.before.before.before.before.before.args in
     let known = sym c.before.before.before.before.before.is-layout.ensures ∙ not-false _ c.before.before.before.before.if1.false in
-    let stop = next-stop _ c.before.before.before.skip-length.ensures c.before.enum_told.given.1 c.next-refusal.ensures in
-    sym (ap verdictOf (bad-length a.layout a.m.now known stop))
+    let stop = next_stop _ c.before.before.before.skip-length.ensures c.before.enum_told.given.1 c.next-refusal.ensures in
+    sym (ap verdict_of (bad_length a.layout a.m.now known stop))
 
 skip-message-requires : tie.Need-skip-message-requires
 skip-message-requires c κs = search rules
@@ -51,25 +51,25 @@ returns-3 : tie.Need-returns-3
 returns-3 c =
     let a = c.before.before.before.before.before.before.before.before.before.before.before.args in
     let known = sym c.before.before.before.before.before.before.before.before.before.is-layout.ensures ∙ not-false _ c.before.before.before.before.before.before.before.before.if1.false in
-    let size = next-go _ c.before.before.before.before.before.before.before.skip-length.ensures c.before.before.before.before.before.decreases.given.1 in
-    let stop = next-stop _ c.before.before.before.skip-message.ensures c.before.enum-told2.given.1 c.next-refusal2.ensures in
-    sym (ap verdictOf (bad-message a.layout a.m.now known size.1 stop))
+    let size = next_go _ c.before.before.before.before.before.before.before.skip-length.ensures c.before.before.before.before.before.decreases.given.1 in
+    let stop = next_stop _ c.before.before.before.skip-message.ensures c.before.enum-told2.given.1 c.next-refusal2.ensures in
+    sym (ap verdict_of (bad_message a.layout a.m.now known size.1 stop))
 
 returns-4 : tie.Need-returns-4
 returns-4 c =
     let a = c.before.before.before.before.before.before.before.before.before.before.before.before.args in
     let known = sym c.before.before.before.before.before.before.before.before.before.before.is-layout.ensures ∙ not-false _ c.before.before.before.before.before.before.before.before.before.if1.false in
-    let size = next-go _ c.before.before.before.before.before.before.before.before.skip-length.ensures c.before.before.before.before.before.before.decreases.given.1 in
-    let go = next-go _ c.before.before.before.before.skip-message.ensures c.before.before.step.given.1 in
-    sym (ap verdictOf (left_over a.layout a.m.now known size.1 go.1 c.if2.true))
+    let size = next_go _ c.before.before.before.before.before.before.before.before.skip-length.ensures c.before.before.before.before.before.before.decreases.given.1 in
+    let go = next_go _ c.before.before.before.before.skip-message.ensures c.before.before.step.given.1 in
+    sym (ap verdict_of (left_over a.layout a.m.now known size.1 go.1 c.if2.true))
 
 returns-5 : tie.Need-returns-5
 returns-5 c =
     let a = c.before.before.before.before.before.before.before.before.before.before.before.before.args in
     let known = sym c.before.before.before.before.before.before.before.before.before.before.is-layout.ensures ∙ not-false _ c.before.before.before.before.before.before.before.before.before.if1.false in
-    let size = next-go _ c.before.before.before.before.before.before.before.before.skip-length.ensures c.before.before.before.before.before.before.decreases.given.1 in
-    let go = next-go _ c.before.before.before.before.skip-message.ensures c.before.before.step.given.1 in
-    sym (ap verdictOf (all_read a.layout a.m.now known size.1 go.1 c.if2.false))
+    let size = next_go _ c.before.before.before.before.before.before.before.before.skip-length.ensures c.before.before.before.before.before.before.decreases.given.1 in
+    let go = next_go _ c.before.before.before.before.skip-message.ensures c.before.before.step.given.1 in
+    sym (ap verdict_of (all_read a.layout a.m.now known size.1 go.1 c.if2.false))
 
 pub accept-layout-spec : {M : Type 1} → statement M
 accept-layout-spec =

@@ -3,10 +3,10 @@ use mathlib.Core.Path.{sym, ap, ◌∙◌}
 use mathlib.Core.Bool.{false}
 use lib.Seq.{length-take-le}
 use Rattle.format.specs.Message.{unlimited}
-use Rattle.scan.proofs.Counted.{here, refuses, room-stop, room-fault, room-left, room-full}
-use Rattle.message.specs.Columns.{shownColumns}
+use Rattle.scan.proofs.Counted.{here, refuses, room_stop, room_fault, room_left, room_full}
+use Rattle.message.specs.Columns.{shown_columns}
 use Rattle.message.specs.Inner.{described}
-use Rattle.message.proofs.Rooms.{columns-go, columns-stop, same-columns, types-place, metadata-room}
+use Rattle.message.proofs.Rooms.{columns_go, columns_stop, same_columns, types_place, metadata_room}
 use borrow.Author.Rules.{rules}
 use Rattle.message.proofs.read_columns.Statement.{statement}
 use Rattle.message.proofs.read_columns.Tie as tie
@@ -24,7 +24,7 @@ returns : tie.Need-returns
 returns c =
     let a = c.before.before.before.before.args in
     let stop = refuses unlimited a.s.now a.at c.before.before.read-room.ensures c.before.match.keys2 c.body-refusal.ensures in
-    sym (ap (shownColumns _) (metadata-room _ _ ∙ room-stop unlimited 42 described a.s.now a.at stop))
+    sym (ap (shown_columns _) (metadata_room _ _ ∙ room_stop unlimited 42 described a.s.now a.at stop))
 
 slice-aggregate-read-described : tie.Need-slice-aggregate-read-described
 slice-aggregate-read-described c =
@@ -48,22 +48,22 @@ returns-2 : tie.Need-returns-2
 returns-2 c =
     let a = c.before.before.before.before.before.before.before.before.before.before.args in
     let h = here false unlimited a.s.now a.at c.before.before.before.before.before.before.before.before.read-room.ensures c.before.before.before.before.before.before.room.given.1 in
-    let stop = columns-stop _ _ c.before.before.before.read-described.ensures c.before.enum_told.given.1 c.columns-refusal.ensures in
-    sym (ap (shownColumns _) (metadata-room _ _ ∙ room-fault unlimited 42 described a.s.now a.at h stop))
+    let stop = columns_stop _ _ c.before.before.before.read-described.ensures c.before.enum_told.given.1 c.columns-refusal.ensures in
+    sym (ap (shown_columns _) (metadata_room _ _ ∙ room_fault unlimited 42 described a.s.now a.at h stop))
 
 returns-3 : tie.Need-returns-3
 returns-3 c =
     let a = c.before.before.before.before.before.before.before.before.before.before.before.args in
     let h = here false unlimited a.s.now a.at c.before.before.before.before.before.before.before.before.before.read-room.ensures c.before.before.before.before.before.before.before.room.given.1 in
-    let go = columns-go _ _ c.before.before.before.before.read-described.ensures c.before.before.inner.given.1 in
-    sym (ap (shownColumns _) (metadata-room _ _ ∙ room-left unlimited 42 described a.s.now a.at h go.1 c.if1.true))
+    let go = columns_go _ _ c.before.before.before.before.read-described.ensures c.before.before.inner.given.1 in
+    sym (ap (shown_columns _) (metadata_room _ _ ∙ room_left unlimited 42 described a.s.now a.at h go.1 c.if1.true))
 
 returns-4 : tie.Need-returns-4
 returns-4 c =
     let a = c.before.before.before.before.before.before.before.before.before.before.before.args in
     let h = here false unlimited a.s.now a.at c.before.before.before.before.before.before.before.before.before.read-room.ensures c.before.before.before.before.before.before.before.room.given.1 in
-    let go = columns-go _ _ c.before.before.before.before.read-described.ensures c.before.before.inner.given.1 in
-    same-columns _ (types-place _ a.at go.2 h.place) go.3 ∙ sym (ap (shownColumns _) (metadata-room _ _ ∙ room-full unlimited 42 described a.s.now a.at h go.1 c.if1.false))
+    let go = columns_go _ _ c.before.before.before.before.read-described.ensures c.before.before.inner.given.1 in
+    same_columns _ (types_place _ a.at go.2 h.place) go.3 ∙ sym (ap (shown_columns _) (metadata_room _ _ ∙ room_full unlimited 42 described a.s.now a.at h go.1 c.if1.false))
 
 pub read-columns-spec : {M : Type 1} → statement M
 read-columns-spec =

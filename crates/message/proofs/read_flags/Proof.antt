@@ -5,9 +5,9 @@ use lib.Dec.{eqb}
 use borrow.Author.Tests.{eq-eqb, ne_eqb}
 use Rattle.format.specs.declared.Fault.TheVariants.{Flags}
 use Rattle.format.specs.Format.{number}
-use Rattle.scan.specs.Shown.{shownByte}
-use Rattle.scan.proofs.Answers.{byte-go, byte-stop}
-use Rattle.scan.proofs.Steps.{ruled-go, ruled-bad, ruled-stop}
+use Rattle.scan.specs.Shown.{shown_byte}
+use Rattle.scan.proofs.Answers.{byte_go, byte_stop}
+use Rattle.scan.proofs.Steps.{ruled_go, ruled_bad, ruled_stop}
 use borrow.Author.Rules.{rules}
 use Rattle.message.proofs.read_flags.Statement.{statement}
 use Rattle.message.proofs.read_flags.Tie as tie
@@ -26,18 +26,18 @@ byte-refusal-requires c κs = search rules
 
 returns : tie.Need-returns
 returns c =
-    let stop = byte-stop _ c.before.before.before.read_byte.ensures c.before.enum_told.given.1 c.byte-refusal.ensures in
-    sym (ap shownByte (ruled-stop (λ n. eqb (n % 32) 0) Flags (number 1 0) _ _ stop))
+    let stop = byte_stop _ c.before.before.before.read_byte.ensures c.before.enum_told.given.1 c.byte-refusal.ensures in
+    sym (ap shown_byte (ruled_stop (λ n. eqb (n % 32) 0) Flags (number 1 0) _ _ stop))
 
 returns-2 : tie.Need-returns-2
 returns-2 c =
-    let go = byte-go _ c.before.before.before.before.read_byte.ensures c.before.before.byte.given.1 in
-    sym (ap shownByte (ruled-bad (λ n. eqb (n % 32) 0) Flags (number 1 0) _ _ go (ne_eqb _ 0 c.if1.true)))
+    let go = byte_go _ c.before.before.before.before.read_byte.ensures c.before.before.byte.given.1 in
+    sym (ap shown_byte (ruled_bad (λ n. eqb (n % 32) 0) Flags (number 1 0) _ _ go (ne_eqb _ 0 c.if1.true)))
 
 returns-3 : tie.Need-returns-3
 returns-3 c =
-    let go = byte-go _ c.before.before.before.before.read_byte.ensures c.before.before.byte.given.1 in
-    sym (ap shownByte (ruled-go (λ n. eqb (n % 32) 0) Flags (number 1 0) _ _ go (eq-eqb _ 0 c.if1.false)))
+    let go = byte_go _ c.before.before.before.before.read_byte.ensures c.before.before.byte.given.1 in
+    sym (ap shown_byte (ruled_go (λ n. eqb (n % 32) 0) Flags (number 1 0) _ _ go (eq-eqb _ 0 c.if1.false)))
 
 pub read-flags-spec : {M : Type 1} → statement M
 read-flags-spec =

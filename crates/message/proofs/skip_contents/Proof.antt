@@ -5,9 +5,9 @@ use lib.ListN.{take}
 use lib.Seq.{length-take-le}
 use native.Mathlib.Omega.{arith}
 use Rattle.format.specs.Message.{unlimited, second, row}
-use Rattle.scan.proofs.Answers.{number-go, number-stop}
-use Rattle.scan.proofs.Params.{list-go, list-stop}
-use Rattle.message.proofs.Rooms.{columns-go, columns-stop, contents-go, contents-stop, metadata-types, types-part, rows_same, count-took}
+use Rattle.scan.proofs.Answers.{number_go, number_stop}
+use Rattle.scan.proofs.Params.{list_go, list_stop}
+use Rattle.message.proofs.Rooms.{columns_go, columns_stop, contents_go, contents_stop, metadata_types, types_part, rows_same, count_took}
 use borrow.Author.Rules.{rules}
 use Rattle.message.proofs.skip_contents.Statement.{statement}
 use Rattle.message.proofs.skip_contents.Tie as tie
@@ -31,8 +31,8 @@ columns-refusal-requires c κs = search rules
 
 returns : tie.Need-returns
 returns c =
-    let stop = columns-stop _ _ c.before.before.before.read-columns.ensures c.before.enum_told.given.1 c.columns-refusal.ensures in
-    sym (contents-stop _ _ stop)
+    let stop = columns_stop _ _ c.before.before.before.read-columns.ensures c.before.enum_told.given.1 c.columns-refusal.ensures in
+    sym (contents_stop _ _ stop)
 
 slice-aggregate-read-row-count : tie.Need-slice-aggregate-read-row-count
 slice-aggregate-read-row-count c =
@@ -53,15 +53,15 @@ number-refusal-requires c κs = search rules
 
 returns-2 : tie.Need-returns-2
 returns-2 c =
-    let go = columns-go _ _ c.before.before.before.before.before.before.before.before.read-columns.ensures c.before.before.before.before.before.before.columns.given.1 in
-    let stop = number-stop _ c.before.before.before.read-row-count.ensures c.before.enum-told2.given.1 c.number-refusal.ensures in
-    sym (contents-go _ _ go.1 ∙ list-stop _ _ 4 unlimited 48 second (row go.0.types) stop)
+    let go = columns_go _ _ c.before.before.before.before.before.before.before.before.read-columns.ensures c.before.before.before.before.before.before.columns.given.1 in
+    let stop = number_stop _ c.before.before.before.read-row-count.ensures c.before.enum-told2.given.1 c.number-refusal.ensures in
+    sym (contents_go _ _ go.1 ∙ list_stop _ _ 4 unlimited 48 second (row go.0.types) stop)
 
 add-past : tie.Need-overflow-add-past
 add-past c =
     let a = c.before.before.before.before.before.before.before.before.before.before.before.args in
-    let go = columns-go _ _ c.before.before.before.before.before.before.before.before.read-columns.ensures c.before.before.before.before.before.before.columns.given.1 in
-    let part = types-part a.m.now a.start a.«end» _ _ go.0 (metadata-types _ _ _ _ go.1) c.before.before.before.before.before.before.before.before.before.before.before.requires.1 go.2 go.3 in
+    let go = columns_go _ _ c.before.before.before.before.before.before.before.before.read-columns.ensures c.before.before.before.before.before.before.columns.given.1 in
+    let part = types_part a.m.now a.start a.«end» _ _ go.0 (metadata_types _ _ _ _ go.1) c.before.before.before.before.before.before.before.before.before.before.before.requires.1 go.2 go.3 in
     omega (arith, part.0)
 
 sub-skip-part : tie.Need-overflow-sub-skip-part
@@ -73,27 +73,27 @@ part-skip-part-start c = search rules
 part-skip-part-end : tie.Need-slice-bounds-skip-part-end
 part-skip-part-end c =
     let a = c.before.before.before.before.before.before.before.before.before.before.before.args in
-    let go = columns-go _ _ c.before.before.before.before.before.before.before.before.read-columns.ensures c.before.before.before.before.before.before.columns.given.1 in
-    let part = types-part a.m.now a.start a.«end» _ _ go.0 (metadata-types _ _ _ _ go.1) c.before.before.before.before.before.before.before.before.before.before.before.requires.1 go.2 go.3 in
+    let go = columns_go _ _ c.before.before.before.before.before.before.before.before.read-columns.ensures c.before.before.before.before.before.before.columns.given.1 in
+    let part = types_part a.m.now a.start a.«end» _ _ go.0 (metadata_types _ _ _ _ go.1) c.before.before.before.before.before.before.before.before.before.before.before.requires.1 go.2 go.3 in
     le_trans part.0 c.before.before.before.before.before.before.before.before.before.before.before.requires.1
 
 skip-part-requires : tie.Need-skip-part-requires
 skip-part-requires c κs =
     let a = c.before.before.before.before.before.before.before.before.before.before.before.before.args in
-    let count = number-go _ c.before.before.before.before.read-row-count.ensures c.before.before.count.given.1 in
-    let two = count-took 4 unlimited _ _ _ _ count in
+    let count = number_go _ c.before.before.before.before.read-row-count.ensures c.before.before.count.given.1 in
+    let two = count_took 4 unlimited _ _ _ _ count in
     let whole = length-take-le a.«end» a.m.now c.before.before.before.before.before.before.before.before.before.before.before.before.requires.1 in
     (omega (arith, two.0, two.1), c.before.before.before.before.before.before.before.before.before.before.before.before.requires.1)
 
 returns-3 : tie.Need-returns-3
 returns-3 c =
     let a = c.before.before.before.before.before.before.before.before.before.before.before.before.before.args in
-    let go = columns-go _ _ c.before.before.before.before.before.before.before.before.before.before.read-columns.ensures c.before.before.before.before.before.before.before.before.columns.given.1 in
-    let part = types-part a.m.now a.start a.«end» _ _ go.0 (metadata-types _ _ _ _ go.1) c.before.before.before.before.before.before.before.before.before.before.before.before.before.requires.1 go.2 go.3 in
-    let count = number-go _ c.before.before.before.before.before.read-row-count.ensures c.before.before.before.count.given.1 in
+    let go = columns_go _ _ c.before.before.before.before.before.before.before.before.before.before.read-columns.ensures c.before.before.before.before.before.before.before.before.columns.given.1 in
+    let part = types_part a.m.now a.start a.«end» _ _ go.0 (metadata_types _ _ _ _ go.1) c.before.before.before.before.before.before.before.before.before.before.before.before.before.requires.1 go.2 go.3 in
+    let count = number_go _ c.before.before.before.before.before.read-row-count.ensures c.before.before.before.count.given.1 in
     let k = c.before.before.before.count.given.0.0 in
     let rows = c.before.before.before.count.given.0.1.0 in
-    c.skip-part.ensures ∙ rows_same (take a.«end» a.m.now) rows k part.1 ∙ sym (contents-go _ _ go.1 ∙ list-go _ _ 4 unlimited 48 second (row go.0.types) count)
+    c.skip-part.ensures ∙ rows_same (take a.«end» a.m.now) rows k part.1 ∙ sym (contents_go _ _ go.1 ∙ list_go _ _ 4 unlimited 48 second (row go.0.types) count)
 
 pub skip-contents-spec : {M : Type 1} → statement M
 skip-contents-spec =

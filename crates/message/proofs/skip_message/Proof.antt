@@ -4,12 +4,12 @@ use lib.Dec.{leb}
 use borrow.Author.Tests.{le-leb, lt-leb}
 use Rattle.format.specs.declared.Fault.TheVariants.{Version}
 use Rattle.format.specs.Format.{number}
-use Rattle.format.specs.Message.{newest, contentOf}
-use Rattle.scan.specs.Shown.{shownNext}
-use Rattle.scan.proofs.Answers.{byte-go, byte-stop}
-use Rattle.scan.proofs.Steps.{both_ends, both-stop, ruled-go, ruled-bad, ruled-stop}
-use Rattle.scan.proofs.Params.{number-fields}
-use Rattle.message.proofs.Whole.{versioned, message-ends}
+use Rattle.format.specs.Message.{newest, content_of}
+use Rattle.scan.specs.Shown.{shown_next}
+use Rattle.scan.proofs.Answers.{byte_go, byte_stop}
+use Rattle.scan.proofs.Steps.{both_ends, both_stop, ruled_go, ruled_bad, ruled_stop}
+use Rattle.scan.proofs.Params.{number_fields}
+use Rattle.message.proofs.Whole.{versioned, message_ends}
 use borrow.Author.Rules.{rules}
 use Rattle.message.proofs.skip_message.Statement.{statement}
 use Rattle.message.proofs.skip_message.Tie as tie
@@ -29,8 +29,8 @@ byte-refusal-requires c κs = search rules
 returns : tie.Need-returns
 returns c =
     let layout = c.before.before.before.before.before.args.layout in
-    let stop = byte-stop _ c.before.before.before.read_byte.ensures c.before.enum_told.given.1 c.byte-refusal.ensures in
-    sym (message-ends _ _ layout ∙ ap shownNext (both-stop (versioned layout) (contentOf layout) _ _ (ruled-stop (λ n. leb n (newest layout)) Version (number 1 2) _ _ (number-fields _ _ 1 2 ∙ stop))))
+    let stop = byte_stop _ c.before.before.before.read_byte.ensures c.before.enum_told.given.1 c.byte-refusal.ensures in
+    sym (message_ends _ _ layout ∙ ap shown_next (both_stop (versioned layout) (content_of layout) _ _ (ruled_stop (λ n. leb n (newest layout)) Version (number 1 2) _ _ (number_fields _ _ 1 2 ∙ stop))))
 
 newest-version-requires : tie.Need-newest-version-requires
 newest-version-requires c κs = search rules
@@ -38,8 +38,8 @@ newest-version-requires c κs = search rules
 returns-2 : tie.Need-returns-2
 returns-2 c =
     let layout = c.before.before.before.before.before.before.before.args.layout in
-    let go = byte-go _ c.before.before.before.before.before.read_byte.ensures c.before.before.before.byte.given.1 in
-    sym (message-ends _ _ layout ∙ ap shownNext (both-stop (versioned layout) (contentOf layout) _ _ (ruled-bad (λ n. leb n (newest layout)) Version (number 1 2) _ _ (number-fields _ _ 1 2 ∙ go) (rw (sym c.before.newest-version.ensures) (lt-leb _ _ c.if1.true)))))
+    let go = byte_go _ c.before.before.before.before.before.read_byte.ensures c.before.before.before.byte.given.1 in
+    sym (message_ends _ _ layout ∙ ap shown_next (both_stop (versioned layout) (content_of layout) _ _ (ruled_bad (λ n. leb n (newest layout)) Version (number 1 2) _ _ (number_fields _ _ 1 2 ∙ go) (rw (sym c.before.newest-version.ensures) (lt-leb _ _ c.if1.true)))))
 
 skip-content-requires : tie.Need-skip-content-requires
 skip-content-requires c κs = search rules
@@ -47,9 +47,9 @@ skip-content-requires c κs = search rules
 returns-3 : tie.Need-returns-3
 returns-3 c =
     let layout = c.before.before.before.before.before.before.before.before.args.layout in
-    let go = byte-go _ c.before.before.before.before.before.before.read_byte.ensures c.before.before.before.before.byte.given.1 in
+    let go = byte_go _ c.before.before.before.before.before.before.read_byte.ensures c.before.before.before.before.byte.given.1 in
     c.skip-content.ensures
-    ∙ sym (message-ends _ _ layout ∙ both_ends (versioned layout) (contentOf layout) _ _ (ruled-go (λ n. leb n (newest layout)) Version (number 1 2) _ _ (number-fields _ _ 1 2 ∙ go) (rw (sym c.before.before.newest-version.ensures) (le-leb _ _ c.before.if1.false))))
+    ∙ sym (message_ends _ _ layout ∙ both_ends (versioned layout) (content_of layout) _ _ (ruled_go (λ n. leb n (newest layout)) Version (number 1 2) _ _ (number_fields _ _ 1 2 ∙ go) (rw (sym c.before.before.newest-version.ensures) (le-leb _ _ c.before.if1.false))))
 
 pub skip-message-spec : {M : Type 1} → statement M
 skip-message-spec =

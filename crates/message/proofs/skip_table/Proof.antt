@@ -3,11 +3,11 @@ use mathlib.Core.Path.{sym, ap, ◌∙◌}
 use mathlib.Core.Bool.{false}
 use Rattle.format.specs.Message.{unlimited}
 use Rattle.scan.specs.declared.Next.{Next}
-use Rattle.scan.specs.Shown.{shownNext}
-use Rattle.scan.proofs.Answers.{next-go, next-stop}
-use Rattle.scan.proofs.Counted.{here, refuses, room-stop, room-fault, room-left, room-full}
+use Rattle.scan.specs.Shown.{shown_next}
+use Rattle.scan.proofs.Answers.{next_go, next_stop}
+use Rattle.scan.proofs.Counted.{here, refuses, room_stop, room_fault, room_left, room_full}
 use Rattle.message.specs.Inner.{contents}
-use Rattle.message.proofs.Rooms.{table-room}
+use Rattle.message.proofs.Rooms.{table_room}
 use borrow.Author.Rules.{rules}
 use Rattle.message.proofs.skip_table.Statement.{statement}
 use Rattle.message.proofs.skip_table.Tie as tie
@@ -25,7 +25,7 @@ returns : tie.Need-returns
 returns c =
     let a = c.before.before.before.before.args in
     let stop = refuses unlimited a.m.now a.at c.before.before.read-room.ensures c.before.match.keys2 c.body-refusal.ensures in
-    sym (ap shownNext (table-room _ _ ∙ room-stop unlimited 41 contents a.m.now a.at stop))
+    sym (ap shown_next (table_room _ _ ∙ room_stop unlimited 41 contents a.m.now a.at stop))
 
 skip-contents-requires : tie.Need-skip-contents-requires
 skip-contents-requires c κs =
@@ -46,22 +46,22 @@ returns-2 : tie.Need-returns-2
 returns-2 c =
     let a = c.before.before.before.before.before.before.before.before.before.args in
     let h = here false unlimited a.m.now a.at c.before.before.before.before.before.before.before.read-room.ensures c.before.before.before.before.before.room.given.1 in
-    let stop = next-stop _ c.before.before.before.skip-contents.ensures c.before.enum_told.given.1 c.next-refusal.ensures in
-    sym (ap shownNext (table-room _ _ ∙ room-fault unlimited 41 contents a.m.now a.at h stop))
+    let stop = next_stop _ c.before.before.before.skip-contents.ensures c.before.enum_told.given.1 c.next-refusal.ensures in
+    sym (ap shown_next (table_room _ _ ∙ room_fault unlimited 41 contents a.m.now a.at h stop))
 
 returns-3 : tie.Need-returns-3
 returns-3 c =
     let a = c.before.before.before.before.before.before.before.before.before.before.args in
     let h = here false unlimited a.m.now a.at c.before.before.before.before.before.before.before.before.read-room.ensures c.before.before.before.before.before.before.room.given.1 in
-    let go = next-go _ c.before.before.before.before.skip-contents.ensures c.before.before.step.given.1 in
-    sym (ap shownNext (table-room _ _ ∙ room-left unlimited 41 contents a.m.now a.at h go.1 c.if1.true))
+    let go = next_go _ c.before.before.before.before.skip-contents.ensures c.before.before.step.given.1 in
+    sym (ap shown_next (table_room _ _ ∙ room_left unlimited 41 contents a.m.now a.at h go.1 c.if1.true))
 
 returns-4 : tie.Need-returns-4
 returns-4 c =
     let a = c.before.before.before.before.before.before.before.before.before.before.args in
     let h = here false unlimited a.m.now a.at c.before.before.before.before.before.before.before.before.read-room.ensures c.before.before.before.before.before.before.room.given.1 in
-    let go = next-go _ c.before.before.before.before.skip-contents.ensures c.before.before.step.given.1 in
-    ap Next.At (sym c.if1.false) ∙ sym (ap shownNext (table-room _ _ ∙ room-full unlimited 41 contents a.m.now a.at h go.1 c.if1.false))
+    let go = next_go _ c.before.before.before.before.skip-contents.ensures c.before.before.step.given.1 in
+    ap Next.At (sym c.if1.false) ∙ sym (ap shown_next (table_room _ _ ∙ room_full unlimited 41 contents a.m.now a.at h go.1 c.if1.false))
 
 pub skip-table-spec : {M : Type 1} → statement M
 skip-table-spec =

@@ -5,7 +5,7 @@ use borrow.Author.Tests.{not-true, not-false}
 use Rattle.format.specs.Format.{number, present}
 use Rattle.format.specs.Message.{binary}
 use Rattle.scan.proofs.Steps.{goes_on, halts}
-use Rattle.message.proofs.Heads.{timed-ends, untimed-ends}
+use Rattle.message.proofs.Heads.{timed_ends, untimed_ends}
 use borrow.Author.Rules.{rules}
 use Rattle.message.proofs.skip_trip.Statement.{statement}
 use Rattle.message.proofs.skip_trip.Tie as tie
@@ -14,7 +14,7 @@ skip-exception-requires : tie.Need-skip-exception-requires
 skip-exception-requires c κs = search rules
 
 returns : tie.Need-returns
-returns c = c.skip-exception.ensures ∙ sym (untimed-ends _ _ _ _ (not-true _ c.before.if1.true))
+returns c = c.skip-exception.ensures ∙ sym (untimed_ends _ _ _ _ (not-true _ c.before.if1.true))
 
 skip-fixed-requires : tie.Need-skip-fixed-requires
 skip-fixed-requires c κs = search rules
@@ -31,7 +31,7 @@ next-refusal-requires c κs = search rules
 returns-2 : tie.Need-returns-2
 returns-2 c =
     let a = c.before.before.before.before.before.before.args in
-    sym (timed-ends _ _ _ _ (not-false _ c.before.before.before.before.if1.false)
+    sym (timed_ends _ _ _ _ (not-false _ c.before.before.before.before.if1.false)
     ∙ halts (number 4 0) (present a.there none (binary 0 0)) _ _ c.before.before.before.skip-fixed.ensures c.before.enum_told.given.1 c.next-refusal.ensures)
 
 skip-exception-requires-2 : tie.Need-skip-exception-requires-2
@@ -40,7 +40,7 @@ skip-exception-requires-2 c κs = search rules
 returns-3 : tie.Need-returns-3
 returns-3 c =
     let a = c.before.before.before.before.before.before.before.args in
-    c.skip-exception2.ensures ∙ sym (timed-ends _ _ _ _ (not-false _ c.before.before.before.before.before.if1.false)
+    c.skip-exception2.ensures ∙ sym (timed_ends _ _ _ _ (not-false _ c.before.before.before.before.before.if1.false)
     ∙ goes_on (number 4 0) (present a.there none (binary 0 0)) _ _ c.before.before.before.before.skip-fixed.ensures c.before.before.round_trip.given.1)
 
 pub skip-trip-spec : {M : Type 1} → statement M

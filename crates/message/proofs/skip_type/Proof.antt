@@ -1,8 +1,8 @@
 -- `message::skip_type` meets its contract: the type that was read, and nothing of it. Assumes nothing.
 use mathlib.Core.Path.{sym, ap, ◌∙◌}
-use Rattle.scan.specs.Shown.{shownNext}
-use Rattle.scan.proofs.Answers.{byte-go, byte-stop}
-use Rattle.scan.proofs.Params.{type-fields}
+use Rattle.scan.specs.Shown.{shown_next}
+use Rattle.scan.proofs.Answers.{byte_go, byte_stop}
+use Rattle.scan.proofs.Params.{type_fields}
 use borrow.Author.Rules.{rules}
 use Rattle.message.proofs.skip_type.Statement.{statement}
 use Rattle.message.proofs.skip_type.Tie as tie
@@ -21,13 +21,13 @@ byte-refusal-requires c κs = search rules
 
 returns : tie.Need-returns
 returns c =
-    let stop = byte-stop _ c.before.before.before.read-type.ensures c.before.enum_told.given.1 c.byte-refusal.ensures in
-    sym (ap shownNext (type-fields _ _ 45 ∙ stop))
+    let stop = byte_stop _ c.before.before.before.read-type.ensures c.before.enum_told.given.1 c.byte-refusal.ensures in
+    sym (ap shown_next (type_fields _ _ 45 ∙ stop))
 
 returns-2 : tie.Need-returns-2
 returns-2 c =
-    let go = byte-go _ c.before.before.before.read-type.ensures c.before.byte.given.1 in
-    sym (ap shownNext (type-fields _ _ 45 ∙ go))
+    let go = byte_go _ c.before.before.before.read-type.ensures c.before.byte.given.1 in
+    sym (ap shown_next (type_fields _ _ 45 ∙ go))
 
 pub skip-type-spec : {M : Type 1} → statement M
 skip-type-spec =

@@ -2,13 +2,13 @@
 use mathlib.Core.Path.{◌≡◌, refl, sym, ◌∙◌}
 use Prim.Native.Nat.{◌-◌, ◌≤◌}
 use borrow.Author.Rules.{rules}
-use Rattle.format.specs.Message.{third, columnType}
-use Rattle.scan.proofs.Loops.{Rest, loop-same, loop-done, loop-turn, loop-stop}
+use Rattle.format.specs.Message.{third, column_type}
+use Rattle.scan.proofs.Loops.{Rest, loop_same, loop_done, loop_turn, loop_stop}
 use Rattle.message.proofs.skip_types.Statement.{statement}
 use Rattle.message.proofs.skip_types.Tie as tie
 
 abbrev invariant-loop : tie.invariant-loop
-invariant-loop s from n at₀ i₀ at i = (i ≤ n) × (Rest third (λ j. columnType 45) s n i at ≡ Rest third (λ j. columnType 45) s n 0 from)
+invariant-loop s from n at₀ i₀ at i = (i ≤ n) × (Rest third (λ j. column_type 45) s n i at ≡ Rest third (λ j. column_type 45) s n 0 from)
 
 abbrev decreases-loop : tie.decreases-loop
 decreases-loop s from n at₀ i₀ at i = n - i
@@ -33,7 +33,7 @@ returns c =
     let a = c.before.before.before.before.before.before.before.args in
     let l = c.before.before.before.before.before.loop in
     let step = c.before.before.before.skip-type.ensures in
-    sym (loop-stop third (λ j. columnType 45) a.s.now a.n l.i l.at c.before.before.before.before.loop-test.true step c.before.enum_told.given.1 c.next-refusal.ensures) ∙ l.invariant.1 ∙ loop-same third a.s.now (columnType 45) a.n a.from
+    sym (loop_stop third (λ j. column_type 45) a.s.now a.n l.i l.at c.before.before.before.before.loop-test.true step c.before.enum_told.given.1 c.next-refusal.ensures) ∙ l.invariant.1 ∙ loop_same third a.s.now (column_type 45) a.n a.from
 
 add-i : tie.Need-overflow-add-i invariant-loop decreases-loop
 add-i c = search rules
@@ -46,13 +46,13 @@ loop-again c =
     let a = c.before.before.before.before.before.before.before.args in
     let l = c.before.before.before.before.before.loop in
     let step = c.before.before.before.skip-type.ensures in
-    (search rules, loop-turn third (λ j. columnType 45) a.s.now a.n l.i l.at c.before.before.before.before.loop-test.true step c.before.step.given.1 ∙ l.invariant.1)
+    (search rules, loop_turn third (λ j. column_type 45) a.s.now a.n l.i l.at c.before.before.before.before.loop-test.true step c.before.step.given.1 ∙ l.invariant.1)
 
 returns-2 : tie.Need-returns-2 invariant-loop decreases-loop
 returns-2 c =
     let a = c.before.before.before.args in
     let l = c.before.loop in
-    sym (loop-done third (λ j. columnType 45) a.s.now a.n l.i l.at c.loop-test.false) ∙ l.invariant.1 ∙ loop-same third a.s.now (columnType 45) a.n a.from
+    sym (loop_done third (λ j. column_type 45) a.s.now a.n l.i l.at c.loop-test.false) ∙ l.invariant.1 ∙ loop_same third a.s.now (column_type 45) a.n a.from
 
 pub skip-types-spec : {M : Type 1} → statement M
 skip-types-spec =

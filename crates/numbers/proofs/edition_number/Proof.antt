@@ -4,7 +4,7 @@ use mir.Syntax.{w8}
 use mir.Val.{SFits}
 use mir.ValLaws.{to_z-of_z}
 use Rattle.scan.specs.Signed.{unsigned}
-use Rattle.numbers.specs.Records.{editionNumber}
+use Rattle.numbers.specs.Records.{edition_number}
 use borrow.Author.Rules.{rules}
 use Rattle.numbers.proofs.edition_number.Statement.{statement}
 use Rattle.numbers.proofs.edition_number.Tie as tie
@@ -22,7 +22,7 @@ returns : tie.Need-returns
 returns c =
     let told = c.before.before.e.given in
     let f : SFits w8 told.0.0 = search rules in
-    c.wide8.ensures ∙ ap (unsigned 8) (to_z-of_z w8 told.0.0 f) ∙ sym (ap editionNumber told.1)
+    c.wide8.ensures ∙ ap (unsigned 8) (to_z-of_z w8 told.0.0 f) ∙ sym (ap edition_number told.1)
 
 returns-2 : tie.Need-returns-2
 returns-2 c = search rules

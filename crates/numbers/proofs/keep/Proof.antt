@@ -2,7 +2,7 @@
 use Prim.Native.Nat.{ℕ}
 use mathlib.Core.Path.{◌≡◌, sym, ap, ◌∙◌}
 use mathlib.Core.List.{List}
-use Rattle.format.specs.Result.{toldAnswer}
+use Rattle.format.specs.Result.{told_answer}
 use Rattle.format.specs.declared.Answer.{Answer}
 use Rattle.numbers.specs.Packed.{packed, itself}
 use Rattle.numbers.specs.Stored.{kept}
@@ -29,13 +29,13 @@ returns : tie.Need-returns
 returns c =
     let told = c.before.before.before.before.answer.given.1 in
     let a = c.before.before.before.before.before.before.before.args in
-    (c.above.ensures ∙ sym (ap (λ (z : Answer). packed itself (toldAnswer z)) told), c.before.save.ensures ∙ sym (ap (λ (z : Answer). kept a.numbers.now z a.step.state) told))
+    (c.above.ensures ∙ sym (ap (λ (z : Answer). packed itself (told_answer z)) told), c.before.save.ensures ∙ sym (ap (λ (z : Answer). kept a.numbers.now z a.step.state) told))
 
 returns-2 : tie.Need-returns-2
 returns-2 c =
     let told = c.before.before.answer2.given.1 in
     let a = c.before.before.before.before.before.args in
-    (c.refused.ensures ∙ sym (ap (λ (z : Answer). packed itself (toldAnswer z)) told), sym (ap (λ (z : Answer). kept a.numbers.now z a.step.state) told))
+    (c.refused.ensures ∙ sym (ap (λ (z : Answer). packed itself (told_answer z)) told), sym (ap (λ (z : Answer). kept a.numbers.now z a.step.state) told))
 
 pub keep_spec : {M : Type 1} → statement M
 keep_spec =

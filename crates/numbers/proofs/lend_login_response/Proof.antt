@@ -1,10 +1,10 @@
 -- `numbers::lend_login_response` meets its contract, case by case. Assumes nothing.
 use mathlib.Core.Path.{sym, ap, ◌∙◌}
 use Rattle.message.specs.declared.Verdict.{Verdict}
-use Rattle.message.specs.Verdict.{toldVerdict}
+use Rattle.message.specs.Verdict.{told_verdict}
 use Rattle.numbers.specs.Packed.{packed, nothing}
 use Rattle.numbers.specs.Listed.{lent}
-use Rattle.numbers.specs.Records.{loginResponseNumbers}
+use Rattle.numbers.specs.Records.{login_response_numbers}
 use borrow.Author.Rules.{rules}
 use Rattle.numbers.proofs.lend_login_response.Statement.{statement}
 use Rattle.numbers.proofs.lend_login_response.Tie as tie
@@ -25,16 +25,16 @@ returns : tie.Need-returns
 returns c =
     let told = c.before.enum_told.given.1 in
     let a = c.before.before.before.before.args in (
-      sym (ap (λ (v : Verdict). packed nothing (toldVerdict v)) told),
-      c.list-login-response.ensures ∙ sym (ap (λ (v : Verdict). lent (λ (u : Unit). loginResponseNumbers a.answer.shown) (toldVerdict v) a.list.now) told),
+      sym (ap (λ (v : Verdict). packed nothing (told_verdict v)) told),
+      c.list-login-response.ensures ∙ sym (ap (λ (v : Verdict). lent (λ (u : Unit). login_response_numbers a.answer.shown) (told_verdict v) a.list.now) told),
     )
 
 returns-2 : tie.Need-returns-2
 returns-2 c =
     let told = c.before.before.verdict.given.1 in
     let a = c.before.before.before.before.before.args in (
-      c.refused.ensures ∙ sym (ap (λ (v : Verdict). packed nothing (toldVerdict v)) told),
-      sym (ap (λ (v : Verdict). lent (λ (u : Unit). loginResponseNumbers a.answer.shown) (toldVerdict v) a.list.now) told),
+      c.refused.ensures ∙ sym (ap (λ (v : Verdict). packed nothing (told_verdict v)) told),
+      sym (ap (λ (v : Verdict). lent (λ (u : Unit). login_response_numbers a.answer.shown) (told_verdict v) a.list.now) told),
     )
 
 pub lend-login-response-spec : {M : Type 1} → statement M

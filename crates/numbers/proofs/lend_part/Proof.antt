@@ -1,9 +1,9 @@
 -- `numbers::lend_part` meets its contract, case by case. Assumes nothing.
 use mathlib.Core.Path.{sym, ap, ◌∙◌}
 use Rattle.query.specs.declared.Part.{Part}
-use Rattle.query.specs.Answers.{toldPart}
+use Rattle.query.specs.Answers.{told_part}
 use Rattle.numbers.specs.Packed.{packed, nothing}
-use Rattle.numbers.specs.Listed.{lent, partNumbers}
+use Rattle.numbers.specs.Listed.{lent, part_numbers}
 use borrow.Author.Rules.{rules}
 use Rattle.numbers.proofs.lend_part.Statement.{statement}
 use Rattle.numbers.proofs.lend_part.Tie as tie
@@ -24,19 +24,19 @@ returns : tie.Need-returns
 returns c =
     let told = c.before.before.answer.given.1 in
     let before = c.before.before.before.before.args.list.now in
-    (sym (ap (λ (a : Part). packed nothing (toldPart a)) told), sym (ap (λ (a : Part). lent partNumbers (toldPart a) before) told))
+    (sym (ap (λ (a : Part). packed nothing (told_part a)) told), sym (ap (λ (a : Part). lent part_numbers (told_part a) before) told))
 
 returns-2 : tie.Need-returns-2
 returns-2 c =
     let told = c.before.enum_told.given.1 in
     let before = c.before.before.before.args.list.now in
-    (sym (ap (λ (a : Part). packed nothing (toldPart a)) told), sym (ap (λ (a : Part). lent partNumbers (toldPart a) before) told))
+    (sym (ap (λ (a : Part). packed nothing (told_part a)) told), sym (ap (λ (a : Part). lent part_numbers (told_part a) before) told))
 
 returns-3 : tie.Need-returns-3
 returns-3 c =
     let told = c.before.before.answer2.given.1 in
     let before = c.before.before.before.before.args.list.now in
-    (c.refused.ensures ∙ sym (ap (λ (a : Part). packed nothing (toldPart a)) told), sym (ap (λ (a : Part). lent partNumbers (toldPart a) before) told))
+    (c.refused.ensures ∙ sym (ap (λ (a : Part). packed nothing (told_part a)) told), sym (ap (λ (a : Part). lent part_numbers (told_part a) before) told))
 
 pub lend-part-spec : {M : Type 1} → statement M
 lend-part-spec =

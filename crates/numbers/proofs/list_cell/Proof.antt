@@ -1,6 +1,6 @@
 -- `numbers::list_cell` meets its contract: by what the value is on the wire.
 use mathlib.Core.Path.{sym, ap, ◌∙◌}
-use Rattle.numbers.specs.Listed.{rawNumbers}
+use Rattle.numbers.specs.Listed.{raw_numbers}
 use borrow.Author.Rules.{rules}
 use Rattle.numbers.proofs.list_cell.Statement.{statement}
 use Rattle.numbers.proofs.list_cell.Tie as tie
@@ -27,13 +27,13 @@ four-requires-2 : tie.Need-four-requires-2
 four-requires-2 c κs = search rules
 
 returns : tie.Need-returns
-returns c = c.list-bits.ensures ∙ ap rawNumbers (sym c.before.before.raw.given.1 ∙ c.before.before.before.before.raw_of.ensures)
+returns c = c.list-bits.ensures ∙ ap raw_numbers (sym c.before.before.raw.given.1 ∙ c.before.before.before.before.raw_of.ensures)
 
 returns-2 : tie.Need-returns-2
-returns-2 c = c.four.ensures ∙ ap rawNumbers (sym c.before.before.raw2.given.1 ∙ c.before.before.before.before.raw_of.ensures)
+returns-2 c = c.four.ensures ∙ ap raw_numbers (sym c.before.before.raw2.given.1 ∙ c.before.before.before.before.raw_of.ensures)
 
 returns-3 : tie.Need-returns-3
-returns-3 c = c.four2.ensures ∙ ap rawNumbers (sym c.before.before.raw3.given.1 ∙ c.before.before.before.before.raw_of.ensures)
+returns-3 c = c.four2.ensures ∙ ap raw_numbers (sym c.before.before.raw3.given.1 ∙ c.before.before.before.before.raw_of.ensures)
 
 pub list-cell-spec : {M : Type 1} → statement M
 list-cell-spec =

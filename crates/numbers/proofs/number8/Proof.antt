@@ -1,5 +1,5 @@
 -- `numbers::number8` meets its contract: the upper four bytes and the lower. Assumes nothing.
-use Rattle.numbers.proofs.Lent.{eight-bytes}
+use Rattle.numbers.proofs.Lent.{eight_bytes}
 use borrow.Author.Rules.{rules}
 use Rattle.numbers.proofs.number8.Statement.{statement}
 use Rattle.numbers.proofs.number8.Tie as tie
@@ -41,7 +41,7 @@ add-result : tie.Need-overflow-add-result
 add-result c = search rules
 
 returns : tie.Need-returns
-returns c = eight-bytes _ c.before.number4.ensures.0 c.number42.ensures.0
+returns c = eight_bytes _ c.before.number4.ensures.0 c.number42.ensures.0
 
 pub number8-spec : {M : Type 1} → statement M
 number8-spec =

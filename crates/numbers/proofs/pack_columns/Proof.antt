@@ -1,8 +1,8 @@
 -- `numbers::pack_columns` meets its contract, case by case.
 use mathlib.Core.Path.{sym, ap, ◌∙◌}
 use Rattle.query.specs.declared.TableAnswer.{TableAnswer}
-use Rattle.query.specs.Answers.{toldTable}
-use Rattle.numbers.specs.Packed.{packed, columnsOf}
+use Rattle.query.specs.Answers.{told_table}
+use Rattle.numbers.specs.Packed.{packed, columns_of}
 use borrow.Author.Rules.{rules}
 use Rattle.numbers.proofs.pack_columns.Statement.{statement}
 use Rattle.numbers.proofs.pack_columns.Tie as tie
@@ -20,10 +20,10 @@ refused-requires : tie.Need-refused-requires
 refused-requires c κs = search rules
 
 returns : tie.Need-returns
-returns c = c.above.ensures ∙ sym (ap (λ (a : TableAnswer). packed columnsOf (toldTable a)) c.before.before.answer.given.1)
+returns c = c.above.ensures ∙ sym (ap (λ (a : TableAnswer). packed columns_of (told_table a)) c.before.before.answer.given.1)
 
 returns-2 : tie.Need-returns-2
-returns-2 c = c.refused.ensures ∙ sym (ap (λ (a : TableAnswer). packed columnsOf (toldTable a)) c.before.before.answer2.given.1)
+returns-2 c = c.refused.ensures ∙ sym (ap (λ (a : TableAnswer). packed columns_of (told_table a)) c.before.before.answer2.given.1)
 
 pub pack-columns-spec : {M : Type 1} → statement M
 pack-columns-spec =

@@ -1,7 +1,7 @@
 -- `numbers::pack_owned` meets its contract, case by case.
 use mathlib.Core.Path.{sym, ap, ◌∙◌}
 use Rattle.fields.specs.declared.Owned.{Owned}
-use Rattle.fields.specs.Told.{toldOwned}
+use Rattle.fields.specs.Told.{told_owned}
 use Rattle.numbers.specs.Packed.{packed, number_in}
 use borrow.Author.Rules.{rules}
 use Rattle.numbers.proofs.pack_owned.Statement.{statement}
@@ -20,10 +20,10 @@ refused-requires : tie.Need-refused-requires
 refused-requires c κs = search rules
 
 returns : tie.Need-returns
-returns c = c.above.ensures ∙ sym (ap (λ (a : Owned). packed number_in (toldOwned a)) c.before.before.answer.given.1)
+returns c = c.above.ensures ∙ sym (ap (λ (a : Owned). packed number_in (told_owned a)) c.before.before.answer.given.1)
 
 returns-2 : tie.Need-returns-2
-returns-2 c = c.refused.ensures ∙ sym (ap (λ (a : Owned). packed number_in (toldOwned a)) c.before.before.answer2.given.1)
+returns-2 c = c.refused.ensures ∙ sym (ap (λ (a : Owned). packed number_in (told_owned a)) c.before.before.answer2.given.1)
 
 pub pack-owned-spec : {M : Type 1} → statement M
 pack-owned-spec =

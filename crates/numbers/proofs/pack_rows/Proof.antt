@@ -1,7 +1,7 @@
 -- `numbers::pack_rows` meets its contract, case by case.
 use mathlib.Core.Path.{sym, ap, ◌∙◌}
 use Rattle.query.specs.declared.TableAnswer.{TableAnswer}
-use Rattle.query.specs.Answers.{toldTable}
+use Rattle.query.specs.Answers.{told_table}
 use Rattle.numbers.specs.Packed.{packed, rows_of}
 use borrow.Author.Rules.{rules}
 use Rattle.numbers.proofs.pack_rows.Statement.{statement}
@@ -20,10 +20,10 @@ refused-requires : tie.Need-refused-requires
 refused-requires c κs = search rules
 
 returns : tie.Need-returns
-returns c = c.above.ensures ∙ sym (ap (λ (a : TableAnswer). packed rows_of (toldTable a)) c.before.before.answer.given.1)
+returns c = c.above.ensures ∙ sym (ap (λ (a : TableAnswer). packed rows_of (told_table a)) c.before.before.answer.given.1)
 
 returns-2 : tie.Need-returns-2
-returns-2 c = c.refused.ensures ∙ sym (ap (λ (a : TableAnswer). packed rows_of (toldTable a)) c.before.before.answer2.given.1)
+returns-2 c = c.refused.ensures ∙ sym (ap (λ (a : TableAnswer). packed rows_of (told_table a)) c.before.before.answer2.given.1)
 
 pub pack-rows-spec : {M : Type 1} → statement M
 pack-rows-spec =

@@ -1,7 +1,7 @@
 -- `numbers::pack_type` meets its contract, case by case.
 use mathlib.Core.Path.{sym, ap, ◌∙◌}
 use Rattle.query.specs.declared.ColumnAnswer.{ColumnAnswer}
-use Rattle.query.specs.Answers.{toldColumn}
+use Rattle.query.specs.Answers.{told_column}
 use Rattle.numbers.specs.Packed.{packed, type_of}
 use borrow.Author.Rules.{rules}
 use Rattle.numbers.proofs.pack_type.Statement.{statement}
@@ -23,10 +23,10 @@ refused-requires : tie.Need-refused-requires
 refused-requires c κs = search rules
 
 returns : tie.Need-returns
-returns c = c.above.ensures ∙ sym (ap (λ (a : ColumnAnswer). packed type_of (toldColumn a)) c.before.before.before.answer.given.1)
+returns c = c.above.ensures ∙ sym (ap (λ (a : ColumnAnswer). packed type_of (told_column a)) c.before.before.before.answer.given.1)
 
 returns-2 : tie.Need-returns-2
-returns-2 c = c.refused.ensures ∙ sym (ap (λ (a : ColumnAnswer). packed type_of (toldColumn a)) c.before.before.answer2.given.1)
+returns-2 c = c.refused.ensures ∙ sym (ap (λ (a : ColumnAnswer). packed type_of (told_column a)) c.before.before.answer2.given.1)
 
 pub pack-type-spec : {M : Type 1} → statement M
 pack-type-spec =

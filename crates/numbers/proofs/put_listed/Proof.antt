@@ -6,9 +6,9 @@ use mathlib.Core.List.{List, []}
 use lib.ListN.{length, drop, length-drop}
 use Rattle.columns.specs.declared.Column.{Column}
 use Rattle.columns.specs.declared.Walk.{Walk}
-use Rattle.columns.specs.Walks.{Fits, FitsAll, Page, put_all}
-use Rattle.numbers.specs.Entries.{entry_at, entriesOf}
-use Rattle.numbers.proofs.Entries.{no_more, page, fits_next, put-turn}
+use Rattle.columns.specs.Walks.{Fits, Fits_all, Page, put_all}
+use Rattle.numbers.specs.Entries.{entry_at, entries_of}
+use Rattle.numbers.proofs.Entries.{no_more, page, fits_next, put_turn}
 use borrow.Author.Rules.{rules}
 use Rattle.numbers.proofs.put_listed.Statement.{statement}
 use Rattle.numbers.proofs.put_listed.Tie as tie
@@ -18,7 +18,7 @@ use Rattle.columns.proofs.walk_in.Reads as walk-in-reads
 use Rattle.numbers.proofs.column_at.Reads as column-at-reads
 
 abbrev invariant-loop : tie.invariant-loop
-invariant-loop out₀ types₀ head list names walk₀ i₀ out types walk i = (i ≤ length list) × (length out ≡ length out₀) × FitsAll names (length out) walk (entriesOf (drop i list)) × (put_all names (page out types walk) (entriesOf (drop i list)) ≡ put_all names (page out₀ types₀ walk₀) (entriesOf list))
+invariant-loop out₀ types₀ head list names walk₀ i₀ out types walk i = (i ≤ length list) × (length out ≡ length out₀) × Fits_all names (length out) walk (entries_of (drop i list)) × (put_all names (page out types walk) (entries_of (drop i list)) ≡ put_all names (page out₀ types₀ walk₀) (entries_of list))
 
 abbrev decreases-loop : tie.decreases-loop
 decreases-loop out₀ types₀ head list names walk₀ i₀ out types walk i = length list - i
@@ -29,7 +29,7 @@ walk-in-requires c κs = search rules
 loop-holds : tie.Need-loop-init invariant-loop decreases-loop
 loop-holds c =
     let b = c.before.before.before.before in
-    (search rules, refl, subst (λ (w : Walk). FitsAll b.args.names.now (length b.args.out.now) w (entriesOf b.args.list.now)) (sym c.walk-in.ensures) b.requires, refl)
+    (search rules, refl, subst (λ (w : Walk). Fits_all b.args.names.now (length b.args.out.now) w (entries_of b.args.list.now)) (sym c.walk-in.ensures) b.requires, refl)
 
 sub-loop : tie.Need-overflow-sub-loop invariant-loop decreases-loop
 sub-loop c = search rules
@@ -54,7 +54,7 @@ loop-again c =
     let a = c.before.before.before.before.before.before.before.before.before.before.before.before.args in
     let l = c.before.before.before.before.before.before.before.loop in
     let same : length c.before.before.put-column.new.0 ≡ length l.out = search rules in
-    let turn = put-turn a.names.now a.list.now l.out l.types l.walk c.before.before.before.column-at.result l.i (search rules) l.invariant.2 c.before.before.before.column-at.ensures c.before.before.put-column.ensures same in
+    let turn = put_turn a.names.now a.list.now l.out l.types l.walk c.before.before.before.column-at.result l.i (search rules) l.invariant.2 c.before.before.before.column-at.ensures c.before.before.put-column.ensures same in
     (search rules, same ∙ l.invariant.1, turn.0, turn.1 ∙ l.invariant.3)
 
 step-in-requires : tie.Need-step-in-requires invariant-loop decreases-loop
@@ -73,7 +73,7 @@ returns c =
     let l = c.before.before.loop in
     let few : length (drop l.i a.list.now) ≡ length a.list.now - l.i = length-drop l.i a.list.now in
     let all = ended a.names.now (page l.out l.types l.walk) _ (no_more (drop l.i a.list.now) (omega arith)) ∙ l.invariant.3
-    ∙ ap (λ (w : Walk). put_all a.names.now (page a.out.now a.types.now w) (entriesOf a.list.now)) c.before.before.before.walk-in.ensures in
+    ∙ ap (λ (w : Walk). put_all a.names.now (page a.out.now a.types.now w) (entries_of a.list.now)) c.before.before.before.walk-in.ensures in
     (c.step_in.ensures, ap (λ (p : Page). p.out) all, ap (λ (p : Page). p.types) all)
 
 pub put-listed-spec : {M : Type 1} → statement M

@@ -1,24 +1,24 @@
 -- `numbers::stage_of` meets its contract, case by case. Assumes nothing.
 use mathlib.Core.Path.{◌≡◌, sym, ap}
 use borrow.Author.Tests.{ne_eqb}
-use Rattle.numbers.specs.Stored.{stageOf}
+use Rattle.numbers.specs.Stored.{stage_of}
 use Rattle.numbers.proofs.stage_of.Statement.{statement}
 use Rattle.numbers.proofs.stage_of.Tie as tie
 
 returns : tie.Need-returns
-returns c = sym (ap stageOf c.match.keys1)
+returns c = sym (ap stage_of c.match.keys1)
 
 returns-2 : tie.Need-returns-2
-returns-2 c = sym (ap stageOf c.match.keys2)
+returns-2 c = sym (ap stage_of c.match.keys2)
 
 returns-3 : tie.Need-returns-3
-returns-3 c = sym (ap stageOf c.match.keys3)
+returns-3 c = sym (ap stage_of c.match.keys3)
 
 returns-4 : tie.Need-returns-4
-returns-4 c = sym (ap stageOf c.match.keys4)
+returns-4 c = sym (ap stage_of c.match.keys4)
 
 returns-5 : tie.Need-returns-5
-returns-5 c = sym (ap stageOf c.match.keys5)
+returns-5 c = sym (ap stage_of c.match.keys5)
 
 returns-6 : tie.Need-returns-6
 returns-6 c =

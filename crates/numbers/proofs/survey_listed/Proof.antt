@@ -6,9 +6,9 @@ use mathlib.Core.List.{List, []}
 use lib.ListN.{length, drop, length-drop}
 use Rattle.columns.specs.declared.Column.{Column}
 use Rattle.columns.specs.declared.Survey.{Survey}
-use Rattle.columns.specs.Walks.{addAll, Bounded}
-use Rattle.numbers.specs.Entries.{entriesOf}
-use Rattle.numbers.proofs.Entries.{no_more, survey-turn}
+use Rattle.columns.specs.Walks.{add_all, Bounded}
+use Rattle.numbers.specs.Entries.{entries_of}
+use Rattle.numbers.proofs.Entries.{no_more, survey_turn}
 use borrow.Author.Rules.{rules}
 use Rattle.numbers.proofs.survey_listed.Statement.{statement}
 use Rattle.numbers.proofs.survey_listed.Tie as tie
@@ -16,7 +16,7 @@ use Rattle.columns.proofs.surveyed.Reads as surveyed-reads
 use Rattle.numbers.proofs.column_at.Reads as column-at-reads
 
 abbrev invariant-loop : tie.invariant-loop
-invariant-loop list names found₀ i₀ found i = (i ≤ length list) × Bounded found × (addAll names found (entriesOf (drop i list)) ≡ addAll names found₀ (entriesOf list))
+invariant-loop list names found₀ i₀ found i = (i ≤ length list) × Bounded found × (add_all names found (entries_of (drop i list)) ≡ add_all names found₀ (entries_of list))
 
 abbrev decreases-loop : tie.decreases-loop
 decreases-loop list names found₀ i₀ found i = length list - i
@@ -43,12 +43,12 @@ loop-again : tie.Need-loop-preserved invariant-loop decreases-loop
 loop-again c =
     let a = c.before.before.before.before.before.before.args in
     let l = c.before.before.before.loop in
-    let turn = survey-turn a.names.now a.list.now l.found c.surveyed.result c.before.column-at.result l.i (search rules) l.invariant.1 c.before.column-at.ensures c.surveyed.ensures in
+    let turn = survey_turn a.names.now a.list.now l.found c.surveyed.result c.before.column-at.result l.i (search rules) l.invariant.1 c.before.column-at.ensures c.surveyed.ensures in
     (search rules, turn.0, turn.1 ∙ l.invariant.2)
 
-ended : (names : List ℕ) (s : Survey) (es : List Column) → es ≡ [] → s ≡ addAll names s es
-unfolding addAll
-ended names s es e = sym (ap (addAll names s) e)
+ended : (names : List ℕ) (s : Survey) (es : List Column) → es ≡ [] → s ≡ add_all names s es
+unfolding add_all
+ended names s es e = sym (ap (add_all names s) e)
 
 returns : tie.Need-returns invariant-loop decreases-loop
 returns c =

@@ -5,12 +5,12 @@ use native.Mathlib.Omega.{arith}
 use lib.ListN.{length}
 use Rattle.format.specs.Message.{unlimited}
 use Rattle.put.specs.Put.{put}
-use Rattle.put.proofs.Laws.{puts-number, puts-both}
+use Rattle.put.proofs.Laws.{puts_number, puts_both}
 use Rattle.write.proofs.Taken.{room, counts}
-use Rattle.outline.specs.Steps.{addVertex}
-use Rattle.outline.proofs.Bytes.{vertex-bytes, vertex-size}
-use Rattle.outline.proofs.Taken.{step-refused, step-accepted, step-taken, in-ring}
-use Rattle.outline.proofs.Answers.{vertex-answer}
+use Rattle.outline.specs.Steps.{add_vertex}
+use Rattle.outline.proofs.Bytes.{vertex_bytes, vertex_size}
+use Rattle.outline.proofs.Taken.{step_refused, step_accepted, step_taken, in_ring}
+use Rattle.outline.proofs.Answers.{vertex_answer}
 use borrow.Author.Rules.{rules}
 use Rattle.outline.proofs.add_vertex.Statement.{statement}
 use Rattle.outline.proofs.add_vertex.Tie as tie
@@ -26,7 +26,7 @@ judge-requires c κs =
     let s = c.before.before.before in
     let st = s.args.st in
     let b = s.args.out.now in
-    ((λ p. (in-ring st (length b) (sym c.before.at-ring.ensures ∙ p)).inside), omega arith, omega arith)
+    ((λ p. (in_ring st (length b) (sym c.before.at-ring.ensures ∙ p)).inside), omega arith, omega arith)
 
 enum-known-a : tie.Need-enum-known-a
 enum-known-a c = search rules
@@ -42,8 +42,8 @@ returns c =
     let x = s.args.x in
     let y = s.args.y in
     let z = s.args.z in
-    let e = vertex-answer st (length b) x y z c.before.before.before.before.at-ring.ensures c.before.before.before.one_more.ensures c.before.before.judge.ensures in
-    step-refused (addVertex x y z) st b e c.enum_told.given.1
+    let e = vertex_answer st (length b) x y z c.before.before.before.before.at-ring.ensures c.before.before.before.one_more.ensures c.before.before.judge.ensures in
+    step_refused (add_vertex x y z) st b e c.enum_told.given.1
 
 number-at-requires : tie.Need-number-at-requires
 number-at-requires c κs =
@@ -53,9 +53,9 @@ number-at-requires c κs =
     let x = s.args.x in
     let y = s.args.y in
     let z = s.args.z in
-    let e = vertex-answer st (length b) x y z c.before.before.before.before.before.before.at-ring.ensures c.before.before.before.before.before.one_more.ensures c.before.before.before.before.judge.ensures in
-    let a = step-accepted (addVertex x y z) st b e c.before.before.a.given.1 in
-    let h : st.position + 24 ≤ length b = room a (vertex-size x y z) in
+    let e = vertex_answer st (length b) x y z c.before.before.before.before.before.before.at-ring.ensures c.before.before.before.before.before.one_more.ensures c.before.before.before.before.judge.ensures in
+    let a = step_accepted (add_vertex x y z) st b e c.before.before.a.given.1 in
+    let h : st.position + 24 ≤ length b = room a (vertex_size x y z) in
     omega arith
 
 number-at-requires-2 : tie.Need-number-at-requires-2
@@ -66,10 +66,10 @@ number-at-requires-2 c κs =
     let x = s.args.x in
     let y = s.args.y in
     let z = s.args.z in
-    let e = vertex-answer st (length b) x y z c.before.before.before.before.before.before.before.before.before.before.at-ring.ensures c.before.before.before.before.before.before.before.before.before.one_more.ensures c.before.before.before.before.before.before.before.before.judge.ensures in
-    let a = step-accepted (addVertex x y z) st b e c.before.before.before.before.before.before.a.given.1 in
-    let h : st.position + 24 ≤ length b = room a (vertex-size x y z) in
-    let p = puts-number b st.position 8 _ (omega arith) c.before.before.before.number_at.ensures in
+    let e = vertex_answer st (length b) x y z c.before.before.before.before.before.before.before.before.before.before.at-ring.ensures c.before.before.before.before.before.before.before.before.before.one_more.ensures c.before.before.before.before.before.before.before.before.judge.ensures in
+    let a = step_accepted (add_vertex x y z) st b e c.before.before.before.before.before.before.a.given.1 in
+    let h : st.position + 24 ≤ length b = room a (vertex_size x y z) in
+    let p = puts_number b st.position 8 _ (omega arith) c.before.before.before.number_at.ensures in
     omega arith
 
 number-at-requires-3 : tie.Need-number-at-requires-3
@@ -80,11 +80,11 @@ number-at-requires-3 c κs =
     let x = s.args.x in
     let y = s.args.y in
     let z = s.args.z in
-    let e = vertex-answer st (length b) x y z c.before.before.before.before.before.before.before.before.before.before.before.before.before.before.at-ring.ensures c.before.before.before.before.before.before.before.before.before.before.before.before.before.one_more.ensures c.before.before.before.before.before.before.before.before.before.before.before.before.judge.ensures in
-    let a = step-accepted (addVertex x y z) st b e c.before.before.before.before.before.before.before.before.before.before.a.given.1 in
-    let h : st.position + 24 ≤ length b = room a (vertex-size x y z) in
-    let p = puts-number b st.position 8 _ (omega arith) c.before.before.before.before.before.before.before.number_at.ensures in
-    let q = puts-number c.before.before.before.before.before.before.before.number_at.new.0 c.before.before.before.before.before.before.before.number_at.result 8 _ (omega arith) c.before.before.before.number-at2.ensures in
+    let e = vertex_answer st (length b) x y z c.before.before.before.before.before.before.before.before.before.before.before.before.before.before.at-ring.ensures c.before.before.before.before.before.before.before.before.before.before.before.before.before.one_more.ensures c.before.before.before.before.before.before.before.before.before.before.before.before.judge.ensures in
+    let a = step_accepted (add_vertex x y z) st b e c.before.before.before.before.before.before.before.before.before.before.a.given.1 in
+    let h : st.position + 24 ≤ length b = room a (vertex_size x y z) in
+    let p = puts_number b st.position 8 _ (omega arith) c.before.before.before.before.before.before.before.number_at.ensures in
+    let q = puts_number c.before.before.before.before.before.before.before.number_at.new.0 c.before.before.before.before.before.before.before.number_at.result 8 _ (omega arith) c.before.before.before.number-at2.ensures in
     omega arith
 
 add-in-ring : tie.Need-overflow-add-in-ring
@@ -95,9 +95,9 @@ add-in-ring c =
     let x = s.args.x in
     let y = s.args.y in
     let z = s.args.z in
-    let e = vertex-answer st (length b) x y z c.before.before.before.before.before.before.before.before.before.before.before.before.before.before.before.before.before.before.at-ring.ensures c.before.before.before.before.before.before.before.before.before.before.before.before.before.before.before.before.before.one_more.ensures c.before.before.before.before.before.before.before.before.before.before.before.before.before.before.before.before.judge.ensures in
-    let a = step-accepted (addVertex x y z) st b e c.before.before.before.before.before.before.before.before.before.before.before.before.before.before.a.given.1 in
-    let h : st.position + 24 ≤ length b = room a (vertex-size x y z) in
+    let e = vertex_answer st (length b) x y z c.before.before.before.before.before.before.before.before.before.before.before.before.before.before.before.before.before.before.at-ring.ensures c.before.before.before.before.before.before.before.before.before.before.before.before.before.before.before.before.before.one_more.ensures c.before.before.before.before.before.before.before.before.before.before.before.before.before.before.before.before.judge.ensures in
+    let a = step_accepted (add_vertex x y z) st b e c.before.before.before.before.before.before.before.before.before.before.before.before.before.before.a.given.1 in
+    let h : st.position + 24 ≤ length b = room a (vertex_size x y z) in
     let few : st.vertices + 1 ≤ unlimited = counts st.vertices unlimited a refl in
     omega arith
 
@@ -115,13 +115,13 @@ returns-2 c =
     let x = s.args.x in
     let y = s.args.y in
     let z = s.args.z in
-    let e = vertex-answer st (length b) x y z c.before.before.before.before.before.before.before.before.before.before.before.before.before.before.before.before.before.before.before.at-ring.ensures c.before.before.before.before.before.before.before.before.before.before.before.before.before.before.before.before.before.before.one_more.ensures c.before.before.before.before.before.before.before.before.before.before.before.before.before.before.before.before.before.judge.ensures in
-    let a = step-accepted (addVertex x y z) st b e c.before.before.before.before.before.before.before.before.before.before.before.before.before.before.before.a.given.1 in
-    let h : st.position + 24 ≤ length b = room a (vertex-size x y z) in
-    let p = puts-number b st.position 8 _ (omega arith) c.before.before.before.before.before.before.before.before.before.before.before.before.number_at.ensures in
-    let q = puts-number c.before.before.before.before.before.before.before.before.before.before.before.before.number_at.new.0 c.before.before.before.before.before.before.before.before.before.before.before.before.number_at.result 8 _ (omega arith) c.before.before.before.before.before.before.before.before.number-at2.ensures in
-    let r = puts-number c.before.before.before.before.before.before.before.before.number-at2.new.0 c.before.before.before.before.before.before.before.before.number-at2.result 8 _ (omega arith) c.before.before.before.before.number-at3.ensures in
-    step-taken (addVertex x y z) st b e c.before.before.before.before.before.before.before.before.before.before.before.before.before.before.before.a.given.1 c.in-ring.ensures ((puts-both p (puts-both q r)).is ∙ sym (ap (put b st.position) (vertex-bytes x y z)))
+    let e = vertex_answer st (length b) x y z c.before.before.before.before.before.before.before.before.before.before.before.before.before.before.before.before.before.before.before.at-ring.ensures c.before.before.before.before.before.before.before.before.before.before.before.before.before.before.before.before.before.before.one_more.ensures c.before.before.before.before.before.before.before.before.before.before.before.before.before.before.before.before.before.judge.ensures in
+    let a = step_accepted (add_vertex x y z) st b e c.before.before.before.before.before.before.before.before.before.before.before.before.before.before.before.a.given.1 in
+    let h : st.position + 24 ≤ length b = room a (vertex_size x y z) in
+    let p = puts_number b st.position 8 _ (omega arith) c.before.before.before.before.before.before.before.before.before.before.before.before.number_at.ensures in
+    let q = puts_number c.before.before.before.before.before.before.before.before.before.before.before.before.number_at.new.0 c.before.before.before.before.before.before.before.before.before.before.before.before.number_at.result 8 _ (omega arith) c.before.before.before.before.before.before.before.before.number-at2.ensures in
+    let r = puts_number c.before.before.before.before.before.before.before.before.number-at2.new.0 c.before.before.before.before.before.before.before.before.number-at2.result 8 _ (omega arith) c.before.before.before.before.number-at3.ensures in
+    step_taken (add_vertex x y z) st b e c.before.before.before.before.before.before.before.before.before.before.before.before.before.before.before.a.given.1 c.in-ring.ensures ((puts_both p (puts_both q r)).is ∙ sym (ap (put b st.position) (vertex_bytes x y z)))
 
 pub add-vertex-spec : {M : Type 1} → statement M
 add-vertex-spec =

@@ -4,13 +4,13 @@ use mathlib.Core.Path.{sym, ap, ◌∙◌}
 use native.Mathlib.Omega.{arith}
 use lib.ListN.{length}
 use Rattle.put.specs.Put.{put}
-use Rattle.put.proofs.Laws.{puts-number, puts-both}
+use Rattle.put.proofs.Laws.{puts_number, puts_both}
 use Rattle.write.proofs.Taken.{room}
-use Rattle.outline.specs.State.{areaHead, closed}
-use Rattle.outline.specs.Steps.{beginArea}
-use Rattle.outline.proofs.Bytes.{begun-bytes, begun-size}
-use Rattle.outline.proofs.Taken.{step-refused, step-accepted, step-taken}
-use Rattle.outline.proofs.Answers.{begin-answer}
+use Rattle.outline.specs.State.{area_head, closed}
+use Rattle.outline.specs.Steps.{begin_area}
+use Rattle.outline.proofs.Bytes.{begun_bytes, begun_size}
+use Rattle.outline.proofs.Taken.{step_refused, step_accepted, step_taken}
+use Rattle.outline.proofs.Answers.{begin_answer}
 use borrow.Author.Rules.{rules}
 use Rattle.outline.proofs.begin.Statement.{statement}
 use Rattle.outline.proofs.begin.Tie as tie
@@ -33,8 +33,8 @@ returns c =
     let b = s.args.out.now in
     let first = s.args.edition in
     let next = s.args.internal in
-    let e = begin-answer first next (length b) c.before.before.before.judge.ensures in
-    rw c.nothing-open.ensures (step-refused (beginArea first next) (closed 0) b e c.before.enum_told.given.1)
+    let e = begin_answer first next (length b) c.before.before.before.judge.ensures in
+    rw c.nothing-open.ensures (step_refused (begin_area first next) (closed 0) b e c.before.enum_told.given.1)
 
 number-at-requires : tie.Need-number-at-requires
 number-at-requires c κs =
@@ -42,9 +42,9 @@ number-at-requires c κs =
     let b = s.args.out.now in
     let first = s.args.edition in
     let next = s.args.internal in
-    let e = begin-answer first next (length b) c.before.before.before.before.judge.ensures in
-    let a = step-accepted (beginArea first next) (closed 0) b e c.before.before.a.given.1 in
-    let h : 0 + areaHead ≤ length b = room a (begun-size first next) in
+    let e = begin_answer first next (length b) c.before.before.before.before.judge.ensures in
+    let a = step_accepted (begin_area first next) (closed 0) b e c.before.before.a.given.1 in
+    let h : 0 + area_head ≤ length b = room a (begun_size first next) in
     omega arith
 
 number-at-requires-2 : tie.Need-number-at-requires-2
@@ -53,10 +53,10 @@ number-at-requires-2 c κs =
     let b = s.args.out.now in
     let first = s.args.edition in
     let next = s.args.internal in
-    let e = begin-answer first next (length b) c.before.before.before.before.before.before.before.before.judge.ensures in
-    let a = step-accepted (beginArea first next) (closed 0) b e c.before.before.before.before.before.before.a.given.1 in
-    let h : 0 + areaHead ≤ length b = room a (begun-size first next) in
-    let p = puts-number b 0 1 _ (omega arith) c.before.before.before.number_at.ensures in
+    let e = begin_answer first next (length b) c.before.before.before.before.before.before.before.before.judge.ensures in
+    let a = step_accepted (begin_area first next) (closed 0) b e c.before.before.before.before.before.before.a.given.1 in
+    let h : 0 + area_head ≤ length b = room a (begun_size first next) in
+    let p = puts_number b 0 1 _ (omega arith) c.before.before.before.number_at.ensures in
     omega arith
 
 number-at-requires-3 : tie.Need-number-at-requires-3
@@ -65,11 +65,11 @@ number-at-requires-3 c κs =
     let b = s.args.out.now in
     let first = s.args.edition in
     let next = s.args.internal in
-    let e = begin-answer first next (length b) c.before.before.before.before.before.before.before.before.before.before.before.before.judge.ensures in
-    let a = step-accepted (beginArea first next) (closed 0) b e c.before.before.before.before.before.before.before.before.before.before.a.given.1 in
-    let h : 0 + areaHead ≤ length b = room a (begun-size first next) in
-    let p = puts-number b 0 1 _ (omega arith) c.before.before.before.before.before.before.before.number_at.ensures in
-    let q = puts-number c.before.before.before.before.before.before.before.number_at.new.0 c.before.before.before.before.before.before.before.number_at.result 1 _ (omega arith) c.before.before.before.number-at2.ensures in
+    let e = begin_answer first next (length b) c.before.before.before.before.before.before.before.before.before.before.before.before.judge.ensures in
+    let a = step_accepted (begin_area first next) (closed 0) b e c.before.before.before.before.before.before.before.before.before.before.a.given.1 in
+    let h : 0 + area_head ≤ length b = room a (begun_size first next) in
+    let p = puts_number b 0 1 _ (omega arith) c.before.before.before.before.before.before.before.number_at.ensures in
+    let q = puts_number c.before.before.before.before.before.before.before.number_at.new.0 c.before.before.before.before.before.before.before.number_at.result 1 _ (omega arith) c.before.before.before.number-at2.ensures in
     omega arith
 
 number-at-requires-4 : tie.Need-number-at-requires-4
@@ -78,12 +78,12 @@ number-at-requires-4 c κs =
     let b = s.args.out.now in
     let first = s.args.edition in
     let next = s.args.internal in
-    let e = begin-answer first next (length b) c.before.before.before.before.before.before.before.before.before.before.before.before.before.before.before.before.judge.ensures in
-    let a = step-accepted (beginArea first next) (closed 0) b e c.before.before.before.before.before.before.before.before.before.before.before.before.before.before.a.given.1 in
-    let h : 0 + areaHead ≤ length b = room a (begun-size first next) in
-    let p = puts-number b 0 1 _ (omega arith) c.before.before.before.before.before.before.before.before.before.before.before.number_at.ensures in
-    let q = puts-number c.before.before.before.before.before.before.before.before.before.before.before.number_at.new.0 c.before.before.before.before.before.before.before.before.before.before.before.number_at.result 1 _ (omega arith) c.before.before.before.before.before.before.before.number-at2.ensures in
-    let r = puts-number c.before.before.before.before.before.before.before.number-at2.new.0 c.before.before.before.before.before.before.before.number-at2.result 1 _ (omega arith) c.before.before.before.number-at3.ensures in
+    let e = begin_answer first next (length b) c.before.before.before.before.before.before.before.before.before.before.before.before.before.before.before.before.judge.ensures in
+    let a = step_accepted (begin_area first next) (closed 0) b e c.before.before.before.before.before.before.before.before.before.before.before.before.before.before.a.given.1 in
+    let h : 0 + area_head ≤ length b = room a (begun_size first next) in
+    let p = puts_number b 0 1 _ (omega arith) c.before.before.before.before.before.before.before.before.before.before.before.number_at.ensures in
+    let q = puts_number c.before.before.before.before.before.before.before.before.before.before.before.number_at.new.0 c.before.before.before.before.before.before.before.before.before.before.before.number_at.result 1 _ (omega arith) c.before.before.before.before.before.before.before.number-at2.ensures in
+    let r = puts_number c.before.before.before.before.before.before.before.number-at2.new.0 c.before.before.before.before.before.before.before.number-at2.result 1 _ (omega arith) c.before.before.before.number-at3.ensures in
     omega arith
 
 between-rings-requires : tie.Need-between-rings-requires
@@ -98,14 +98,14 @@ returns-2 c =
     let b = s.args.out.now in
     let first = s.args.edition in
     let next = s.args.internal in
-    let e = begin-answer first next (length b) c.before.before.before.before.before.before.before.before.before.before.before.before.before.before.before.before.before.before.before.before.judge.ensures in
-    let a = step-accepted (beginArea first next) (closed 0) b e c.before.before.before.before.before.before.before.before.before.before.before.before.before.before.before.before.before.before.a.given.1 in
-    let h : 0 + areaHead ≤ length b = room a (begun-size first next) in
-    let p = puts-number b 0 1 _ (omega arith) c.before.before.before.before.before.before.before.before.before.before.before.before.before.before.before.number_at.ensures in
-    let q = puts-number c.before.before.before.before.before.before.before.before.before.before.before.before.before.before.before.number_at.new.0 c.before.before.before.before.before.before.before.before.before.before.before.before.before.before.before.number_at.result 1 _ (omega arith) c.before.before.before.before.before.before.before.before.before.before.before.number-at2.ensures in
-    let r = puts-number c.before.before.before.before.before.before.before.before.before.before.before.number-at2.new.0 c.before.before.before.before.before.before.before.before.before.before.before.number-at2.result 1 _ (omega arith) c.before.before.before.before.before.before.before.number-at3.ensures in
-    let t = puts-number c.before.before.before.before.before.before.before.number-at3.new.0 c.before.before.before.before.before.before.before.number-at3.result 4 _ (omega arith) c.before.before.before.number-at4.ensures in
-    step-taken (beginArea first next) (closed 0) b e c.before.before.before.before.before.before.before.before.before.before.before.before.before.before.before.before.before.before.a.given.1 c.between-rings.ensures ((puts-both p (puts-both q (puts-both r t))).is ∙ sym (ap (put b 0) (begun-bytes first next)))
+    let e = begin_answer first next (length b) c.before.before.before.before.before.before.before.before.before.before.before.before.before.before.before.before.before.before.before.before.judge.ensures in
+    let a = step_accepted (begin_area first next) (closed 0) b e c.before.before.before.before.before.before.before.before.before.before.before.before.before.before.before.before.before.before.a.given.1 in
+    let h : 0 + area_head ≤ length b = room a (begun_size first next) in
+    let p = puts_number b 0 1 _ (omega arith) c.before.before.before.before.before.before.before.before.before.before.before.before.before.before.before.number_at.ensures in
+    let q = puts_number c.before.before.before.before.before.before.before.before.before.before.before.before.before.before.before.number_at.new.0 c.before.before.before.before.before.before.before.before.before.before.before.before.before.before.before.number_at.result 1 _ (omega arith) c.before.before.before.before.before.before.before.before.before.before.before.number-at2.ensures in
+    let r = puts_number c.before.before.before.before.before.before.before.before.before.before.before.number-at2.new.0 c.before.before.before.before.before.before.before.before.before.before.before.number-at2.result 1 _ (omega arith) c.before.before.before.before.before.before.before.number-at3.ensures in
+    let t = puts_number c.before.before.before.before.before.before.before.number-at3.new.0 c.before.before.before.before.before.before.before.number-at3.result 4 _ (omega arith) c.before.before.before.number-at4.ensures in
+    step_taken (begin_area first next) (closed 0) b e c.before.before.before.before.before.before.before.before.before.before.before.before.before.before.before.before.before.before.a.given.1 c.between-rings.ensures ((puts_both p (puts_both q (puts_both r t))).is ∙ sym (ap (put b 0) (begun_bytes first next)))
 
 pub begin-spec : {M : Type 1} → statement M
 begin-spec =

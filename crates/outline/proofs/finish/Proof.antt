@@ -4,14 +4,14 @@ use mathlib.Core.Path.{◌≡◌, refl, sym, ap, ◌∙◌}
 use mathlib.Core.List.{List}
 use native.Mathlib.Omega.{arith}
 use lib.ListN.{length}
-use Rattle.format.specs.Number.{numBytes}
-use Rattle.format.specs.Geography.{bodyKept}
+use Rattle.format.specs.Number.{num_bytes}
+use Rattle.format.specs.Geography.{body_kept}
 use Rattle.put.specs.Put.{put}
-use Rattle.put.proofs.Laws.{puts, puts-number}
+use Rattle.put.proofs.Laws.{puts, puts_number}
 use Rattle.write.proofs.Taken.{room}
-use Rattle.outline.specs.Steps.{finishArea}
-use Rattle.outline.proofs.Taken.{step-refused, step-accepted, step-taken, in_area}
-use Rattle.outline.proofs.Answers.{finish-answer}
+use Rattle.outline.specs.Steps.{finish_area}
+use Rattle.outline.proofs.Taken.{step_refused, step_accepted, step_taken, in_area}
+use Rattle.outline.proofs.Answers.{finish_answer}
 use borrow.Author.Rules.{rules}
 use Rattle.outline.proofs.finish.Statement.{statement}
 use Rattle.outline.proofs.finish.Tie as tie
@@ -38,9 +38,9 @@ returns c =
     let st = s.args.st in
     let b = s.args.out.now in
     let k = s.args.kept.now in
-    let l : length k ≡ bodyKept = omega (arith, c.before.before.before.before.before.block.given) in
-    let e = finish-answer st (length b) k l c.before.before.before.before.at-area.ensures c.before.before.judge.ensures in
-    step-refused (finishArea k) st b e c.enum_told.given.1
+    let l : length k ≡ body_kept = omega (arith, c.before.before.before.before.before.block.given) in
+    let e = finish_answer st (length b) k l c.before.before.before.before.at-area.ensures c.before.before.judge.ensures in
+    step_refused (finish_area k) st b e c.enum_told.given.1
 
 bytes-at-requires : tie.Need-bytes-at-requires
 bytes-at-requires c κs =
@@ -48,10 +48,10 @@ bytes-at-requires c κs =
     let st = s.args.st in
     let b = s.args.out.now in
     let k = s.args.kept.now in
-    let l : length k ≡ bodyKept = omega (arith, c.before.before.before.before.before.before.before.block.given) in
-    let e = finish-answer st (length b) k l c.before.before.before.before.before.before.at-area.ensures c.before.before.before.before.judge.ensures in
-    let a = step-accepted (finishArea k) st b e c.before.before.a.given.1 in
-    let h : st.position + bodyKept ≤ length b = room a l in
+    let l : length k ≡ body_kept = omega (arith, c.before.before.before.before.before.before.before.block.given) in
+    let e = finish_answer st (length b) k l c.before.before.before.before.before.before.at-area.ensures c.before.before.before.before.judge.ensures in
+    let a = step_accepted (finish_area k) st b e c.before.before.a.given.1 in
+    let h : st.position + body_kept ≤ length b = room a l in
     omega arith
 
 holes-of-requires : tie.Need-holes-of-requires
@@ -63,10 +63,10 @@ number-at-requires c κs =
     let st = s.args.st in
     let b = s.args.out.now in
     let k = s.args.kept.now in
-    let l : length k ≡ bodyKept = omega (arith, c.before.before.before.before.before.before.before.before.before.before.before.before.block.given) in
-    let e = finish-answer st (length b) k l c.before.before.before.before.before.before.before.before.before.before.before.at-area.ensures c.before.before.before.before.before.before.before.before.before.judge.ensures in
-    let a = step-accepted (finishArea k) st b e c.before.before.before.before.before.before.before.a.given.1 in
-    let h : st.position + bodyKept ≤ length b = room a l in
+    let l : length k ≡ body_kept = omega (arith, c.before.before.before.before.before.before.before.before.before.before.before.before.block.given) in
+    let e = finish_answer st (length b) k l c.before.before.before.before.before.before.before.before.before.before.before.at-area.ensures c.before.before.before.before.before.before.before.before.before.judge.ensures in
+    let a = step_accepted (finish_area k) st b e c.before.before.before.before.before.before.before.a.given.1 in
+    let h : st.position + body_kept ≤ length b = room a l in
     let o = in_area st (length b) a.fine.permitted in
     let p = puts b st.position (length k) k refl (omega arith) c.before.before.before.before.bytes-at.ensures in
     omega (arith, o.behind, o.inside, p.kept)
@@ -77,13 +77,13 @@ number-at-requires-2 c κs =
     let st = s.args.st in
     let b = s.args.out.now in
     let k = s.args.kept.now in
-    let l : length k ≡ bodyKept = omega (arith, c.before.before.before.before.before.before.before.before.before.before.before.before.before.before.before.before.block.given) in
-    let e = finish-answer st (length b) k l c.before.before.before.before.before.before.before.before.before.before.before.before.before.before.before.at-area.ensures c.before.before.before.before.before.before.before.before.before.before.before.before.before.judge.ensures in
-    let a = step-accepted (finishArea k) st b e c.before.before.before.before.before.before.before.before.before.before.before.a.given.1 in
-    let h : st.position + bodyKept ≤ length b = room a l in
+    let l : length k ≡ body_kept = omega (arith, c.before.before.before.before.before.before.before.before.before.before.before.before.before.before.before.before.block.given) in
+    let e = finish_answer st (length b) k l c.before.before.before.before.before.before.before.before.before.before.before.before.before.before.before.at-area.ensures c.before.before.before.before.before.before.before.before.before.before.before.before.before.judge.ensures in
+    let a = step_accepted (finish_area k) st b e c.before.before.before.before.before.before.before.before.before.before.before.a.given.1 in
+    let h : st.position + body_kept ≤ length b = room a l in
     let o = in_area st (length b) a.fine.permitted in
     let p = puts b st.position (length k) k refl (omega arith) c.before.before.before.before.before.before.before.before.bytes-at.ensures in
-    let q = puts-number c.before.before.before.before.before.before.before.before.bytes-at.new.0 2 1 _ (omega (arith, o.behind, o.inside, p.kept)) c.before.before.before.number_at.ensures in
+    let q = puts_number c.before.before.before.before.before.before.before.before.bytes-at.new.0 2 1 _ (omega (arith, o.behind, o.inside, p.kept)) c.before.before.before.number_at.ensures in
     omega (arith, o.behind, o.inside, p.kept, q.kept)
 
 nothing-open-requires : tie.Need-nothing-open-requires
@@ -98,12 +98,12 @@ returns-2 c =
     let st = s.args.st in
     let b = s.args.out.now in
     let k = s.args.kept.now in
-    let l : length k ≡ bodyKept = omega (arith, c.before.before.before.before.before.before.before.before.before.before.before.before.before.before.before.before.before.before.before.before.block.given) in
-    let e = finish-answer st (length b) k l c.before.before.before.before.before.before.before.before.before.before.before.before.before.before.before.before.before.before.before.at-area.ensures c.before.before.before.before.before.before.before.before.before.before.before.before.before.before.before.before.before.judge.ensures in
-    let a = step-accepted (finishArea k) st b e c.before.before.before.before.before.before.before.before.before.before.before.before.before.before.before.a.given.1 in
-    let h : st.position + bodyKept ≤ length b = room a l in
-    let holes = c.before.before.before.before.before.before.before.number_at.ensures.1 ∙ ap (λ (x : List ℕ). put x 2 (numBytes 1 c.before.before.before.before.before.before.before.before.holes-of.result)) c.before.before.before.before.before.before.before.before.before.before.before.before.bytes-at.ensures.1 ∙ ap (λ (x : ℕ). put (put b st.position k) 2 (numBytes 1 x)) c.before.before.before.before.before.before.before.before.holes-of.ensures in
-    step-taken (finishArea k) st b e c.before.before.before.before.before.before.before.before.before.before.before.before.before.before.before.a.given.1 c.nothing-open.ensures (c.before.before.before.number-at2.ensures.1 ∙ ap (λ (x : List ℕ). put x 3 (numBytes 4 st.rings)) holes)
+    let l : length k ≡ body_kept = omega (arith, c.before.before.before.before.before.before.before.before.before.before.before.before.before.before.before.before.before.before.before.before.block.given) in
+    let e = finish_answer st (length b) k l c.before.before.before.before.before.before.before.before.before.before.before.before.before.before.before.before.before.before.before.at-area.ensures c.before.before.before.before.before.before.before.before.before.before.before.before.before.before.before.before.before.judge.ensures in
+    let a = step_accepted (finish_area k) st b e c.before.before.before.before.before.before.before.before.before.before.before.before.before.before.before.a.given.1 in
+    let h : st.position + body_kept ≤ length b = room a l in
+    let holes = c.before.before.before.before.before.before.before.number_at.ensures.1 ∙ ap (λ (x : List ℕ). put x 2 (num_bytes 1 c.before.before.before.before.before.before.before.before.holes-of.result)) c.before.before.before.before.before.before.before.before.before.before.before.before.bytes-at.ensures.1 ∙ ap (λ (x : ℕ). put (put b st.position k) 2 (num_bytes 1 x)) c.before.before.before.before.before.before.before.before.holes-of.ensures in
+    step_taken (finish_area k) st b e c.before.before.before.before.before.before.before.before.before.before.before.before.before.before.before.a.given.1 c.nothing-open.ensures (c.before.before.before.number-at2.ensures.1 ∙ ap (λ (x : List ℕ). put x 3 (num_bytes 4 st.rings)) holes)
 
 pub finish_spec : {M : Type 1} → statement M
 finish_spec =

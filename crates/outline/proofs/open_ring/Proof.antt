@@ -5,13 +5,13 @@ use native.Mathlib.Omega.{arith}
 use lib.ListN.{length}
 use Rattle.format.specs.Message.{unlimited}
 use Rattle.put.specs.Put.{put}
-use Rattle.put.proofs.Laws.{puts-number, puts-both}
+use Rattle.put.proofs.Laws.{puts_number, puts_both}
 use Rattle.write.proofs.Taken.{room, counts}
-use Rattle.outline.specs.State.{ringHead}
-use Rattle.outline.specs.Steps.{openRing}
-use Rattle.outline.proofs.Bytes.{opened-bytes, opened-size}
-use Rattle.outline.proofs.Taken.{step-refused, step-accepted, step-taken, in_area}
-use Rattle.outline.proofs.Answers.{open-answer}
+use Rattle.outline.specs.State.{ring_head}
+use Rattle.outline.specs.Steps.{open_ring}
+use Rattle.outline.proofs.Bytes.{opened_bytes, opened_size}
+use Rattle.outline.proofs.Taken.{step_refused, step_accepted, step_taken, in_area}
+use Rattle.outline.proofs.Answers.{open_answer}
 use borrow.Author.Rules.{rules}
 use Rattle.outline.proofs.open_ring.Statement.{statement}
 use Rattle.outline.proofs.open_ring.Tie as tie
@@ -40,17 +40,17 @@ returns c =
     let s = c.before.before.before.before.before.before in
     let st = s.args.st in
     let b = s.args.out.now in
-    let e = open-answer st (length b) s.args.mark c.before.before.before.before.at-area.ensures c.before.before.before.one_more.ensures c.before.before.judge.ensures in
-    step-refused (openRing s.args.mark) st b e c.enum_told.given.1
+    let e = open_answer st (length b) s.args.mark c.before.before.before.before.at-area.ensures c.before.before.before.one_more.ensures c.before.before.judge.ensures in
+    step_refused (open_ring s.args.mark) st b e c.enum_told.given.1
 
 number-at-requires : tie.Need-number-at-requires
 number-at-requires c κs =
     let s = c.before.before.before.before.before.before.before.before in
     let st = s.args.st in
     let b = s.args.out.now in
-    let e = open-answer st (length b) s.args.mark c.before.before.before.before.before.before.at-area.ensures c.before.before.before.before.before.one_more.ensures c.before.before.before.before.judge.ensures in
-    let a = step-accepted (openRing s.args.mark) st b e c.before.before.a.given.1 in
-    let h : st.position + ringHead ≤ length b = room a (opened-size s.args.mark) in
+    let e = open_answer st (length b) s.args.mark c.before.before.before.before.before.before.at-area.ensures c.before.before.before.before.before.one_more.ensures c.before.before.before.before.judge.ensures in
+    let a = step_accepted (open_ring s.args.mark) st b e c.before.before.a.given.1 in
+    let h : st.position + ring_head ≤ length b = room a (opened_size s.args.mark) in
     omega arith
 
 number-at-requires-2 : tie.Need-number-at-requires-2
@@ -58,10 +58,10 @@ number-at-requires-2 c κs =
     let s = c.before.before.before.before.before.before.before.before.before.before.before.before in
     let st = s.args.st in
     let b = s.args.out.now in
-    let e = open-answer st (length b) s.args.mark c.before.before.before.before.before.before.before.before.before.before.at-area.ensures c.before.before.before.before.before.before.before.before.before.one_more.ensures c.before.before.before.before.before.before.before.before.judge.ensures in
-    let a = step-accepted (openRing s.args.mark) st b e c.before.before.before.before.before.before.a.given.1 in
-    let h : st.position + ringHead ≤ length b = room a (opened-size s.args.mark) in
-    let p = puts-number b st.position 1 _ (omega arith) c.before.before.before.number_at.ensures in
+    let e = open_answer st (length b) s.args.mark c.before.before.before.before.before.before.before.before.before.before.at-area.ensures c.before.before.before.before.before.before.before.before.before.one_more.ensures c.before.before.before.before.before.before.before.before.judge.ensures in
+    let a = step_accepted (open_ring s.args.mark) st b e c.before.before.before.before.before.before.a.given.1 in
+    let h : st.position + ring_head ≤ length b = room a (opened_size s.args.mark) in
+    let p = puts_number b st.position 1 _ (omega arith) c.before.before.before.number_at.ensures in
     omega arith
 
 add-in-ring : tie.Need-overflow-add-in-ring
@@ -69,9 +69,9 @@ add-in-ring c =
     let s = c.before.before.before.before.before.before.before.before.before.before.before.before.before.before.before.before in
     let st = s.args.st in
     let b = s.args.out.now in
-    let e = open-answer st (length b) s.args.mark c.before.before.before.before.before.before.before.before.before.before.before.before.before.before.at-area.ensures c.before.before.before.before.before.before.before.before.before.before.before.before.before.one_more.ensures c.before.before.before.before.before.before.before.before.before.before.before.before.judge.ensures in
-    let a = step-accepted (openRing s.args.mark) st b e c.before.before.before.before.before.before.before.before.before.before.a.given.1 in
-    let h : st.position + ringHead ≤ length b = room a (opened-size s.args.mark) in
+    let e = open_answer st (length b) s.args.mark c.before.before.before.before.before.before.before.before.before.before.before.before.before.before.at-area.ensures c.before.before.before.before.before.before.before.before.before.before.before.before.before.one_more.ensures c.before.before.before.before.before.before.before.before.before.before.before.before.judge.ensures in
+    let a = step_accepted (open_ring s.args.mark) st b e c.before.before.before.before.before.before.before.before.before.before.a.given.1 in
+    let h : st.position + ring_head ≤ length b = room a (opened_size s.args.mark) in
     let few : st.rings + 1 ≤ unlimited = counts st.rings unlimited a refl in
     omega arith
 
@@ -86,12 +86,12 @@ returns-2 c =
     let s = c.before.before.before.before.before.before.before.before.before.before.before.before.before.before.before.before.before in
     let st = s.args.st in
     let b = s.args.out.now in
-    let e = open-answer st (length b) s.args.mark c.before.before.before.before.before.before.before.before.before.before.before.before.before.before.before.at-area.ensures c.before.before.before.before.before.before.before.before.before.before.before.before.before.before.one_more.ensures c.before.before.before.before.before.before.before.before.before.before.before.before.before.judge.ensures in
-    let a = step-accepted (openRing s.args.mark) st b e c.before.before.before.before.before.before.before.before.before.before.before.a.given.1 in
-    let h : st.position + ringHead ≤ length b = room a (opened-size s.args.mark) in
-    let p = puts-number b st.position 1 _ (omega arith) c.before.before.before.before.before.before.before.before.number_at.ensures in
-    let q = puts-number c.before.before.before.before.before.before.before.before.number_at.new.0 c.before.before.before.before.before.before.before.before.number_at.result 4 _ (omega arith) c.before.before.before.before.number-at2.ensures in
-    step-taken (openRing s.args.mark) st b e c.before.before.before.before.before.before.before.before.before.before.before.a.given.1 c.in-ring.ensures ((puts-both p q).is ∙ sym (ap (put b st.position) (opened-bytes s.args.mark)))
+    let e = open_answer st (length b) s.args.mark c.before.before.before.before.before.before.before.before.before.before.before.before.before.before.before.at-area.ensures c.before.before.before.before.before.before.before.before.before.before.before.before.before.before.one_more.ensures c.before.before.before.before.before.before.before.before.before.before.before.before.before.judge.ensures in
+    let a = step_accepted (open_ring s.args.mark) st b e c.before.before.before.before.before.before.before.before.before.before.before.a.given.1 in
+    let h : st.position + ring_head ≤ length b = room a (opened_size s.args.mark) in
+    let p = puts_number b st.position 1 _ (omega arith) c.before.before.before.before.before.before.before.before.number_at.ensures in
+    let q = puts_number c.before.before.before.before.before.before.before.before.number_at.new.0 c.before.before.before.before.before.before.before.before.number_at.result 4 _ (omega arith) c.before.before.before.before.number-at2.ensures in
+    step_taken (open_ring s.args.mark) st b e c.before.before.before.before.before.before.before.before.before.before.before.a.given.1 c.in-ring.ensures ((puts_both p q).is ∙ sym (ap (put b st.position) (opened_bytes s.args.mark)))
 
 pub open-ring-spec : {M : Type 1} → statement M
 open-ring-spec =

@@ -1,7 +1,7 @@
 -- `pass::pass_body` meets its contract: a length, and its bytes where it isn't null's.
-use Rattle.format.specs.Value.{mostBytes}
-use Rattle.scan.proofs.Answers.{number-stands}
-use Rattle.pass.proofs.Parts.{passes-null, passes-some}
+use Rattle.format.specs.Value.{most_bytes}
+use Rattle.scan.proofs.Answers.{number_stands}
+use Rattle.pass.proofs.Parts.{passes_null, passes_some}
 use borrow.Author.Rules.{rules}
 use Rattle.pass.proofs.pass_body.Statement.{statement}
 use Rattle.pass.proofs.pass_body.Tie as tie
@@ -16,7 +16,7 @@ returns : tie.Need-returns
 returns c =
     λ nullable rule l b.
     let a = c.before.before.before.before.args in
-    passes-null a.s.now nullable mostBytes rule l b (number-stands c.before.before.number_at.ensures) (c.before.pass-fixed.ensures 0) c.if1.true
+    passes_null a.s.now nullable most_bytes rule l b (number_stands c.before.before.number_at.ensures) (c.before.pass-fixed.ensures 0) c.if1.true
 
 pass-fixed-requires-2 : tie.Need-pass-fixed-requires-2
 pass-fixed-requires-2 c κs = search rules
@@ -25,7 +25,7 @@ returns-2 : tie.Need-returns-2
 returns-2 c =
     λ nullable rule l b.
     let a = c.before.before.before.before.before.args in
-    passes-some a.s.now nullable mostBytes rule l b (number-stands c.before.before.before.number_at.ensures) (c.before.before.pass-fixed.ensures 0) c.before.if1.false (c.pass-fixed2.ensures 0)
+    passes_some a.s.now nullable most_bytes rule l b (number_stands c.before.before.before.number_at.ensures) (c.before.before.pass-fixed.ensures 0) c.before.if1.false (c.pass-fixed2.ensures 0)
 
 pub pass-body-spec : {M : Type 1} → statement M
 pass-body-spec =

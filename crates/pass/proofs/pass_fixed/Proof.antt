@@ -4,7 +4,7 @@ use mathlib.Core.Path.{refl, sym, ◌∙◌}
 use lib.ListN.{length}
 use native.Mathlib.Omega.{arith}
 use borrow.Author.Tests.{leb-true, leb-false, not-true, not-false}
-use Rattle.pass.proofs.Parts.{passes-number}
+use Rattle.pass.proofs.Parts.{passes_number}
 use borrow.Author.Rules.{rules}
 use Rattle.pass.proofs.pass_fixed.Statement.{statement}
 use Rattle.pass.proofs.pass_fixed.Tie as tie
@@ -17,7 +17,7 @@ returns c =
     λ field.
     let a = c.before.before.before.args in
     let over : length a.s.now < a.at + a.n = leb-false _ _ (sym c.before.fits2.ensures ∙ not-true _ c.if1.true) in
-    passes-number a.s.now a.n field (λ h. absurd (omega arith))
+    passes_number a.s.now a.n field (λ h. absurd (omega arith))
 
 add-result : tie.Need-overflow-add-result
 add-result c =
@@ -26,7 +26,7 @@ add-result c =
     omega arith
 
 returns-2 : tie.Need-returns-2
-returns-2 c = λ field. let a = c.before.before.before.args in passes-number a.s.now a.n field (λ h. refl)
+returns-2 c = λ field. let a = c.before.before.before.args in passes_number a.s.now a.n field (λ h. refl)
 
 pub pass-fixed-spec : {M : Type 1} → statement M
 pass-fixed-spec = tie.close (tie.spec fits-requires returns add-result returns-2)

@@ -3,8 +3,8 @@ use mathlib.Core.Option.{none}
 use mathlib.Core.Bool.{true, false}
 use Rattle.format.specs.Text.{utf8}
 use Rattle.format.specs.Value.{anything}
-use Rattle.format.specs.Message.{binary, nullText}
-use Rattle.pass.proofs.Parts.{passes_then, passes-if}
+use Rattle.format.specs.Message.{binary, null_text}
+use Rattle.pass.proofs.Parts.{passes_then, passes_if}
 use borrow.Author.Rules.{rules}
 use Rattle.pass.proofs.pass_flagged.Statement.{statement}
 use Rattle.pass.proofs.pass_flagged.Tie as tie
@@ -39,9 +39,9 @@ pass-optional-requires-3 c κs = search rules
 returns : tie.Need-returns
 returns c =
     let s = c.before.before.before.before.before.before.before.before.before.before.args.s.now in
-    let stated = passes_then s (c.before.before.before.before.before.before.before.before.pass-fixed.ensures 31) (passes-if none (nullText 32 33) s c.before.before.before.before.before.before.before.has-flag.ensures (c.before.before.before.before.before.before.pass-optional.ensures true utf8 32 33)) in
-    let application = passes_then s (c.before.before.before.before.before.pass-fixed2.ensures 34) (passes-if none (nullText 35 36) s c.before.before.before.before.has-flag2.ensures (c.before.before.before.pass-optional2.ensures true utf8 35 36)) in
-    let tripped = passes_then s c.before.before.pass-trip.ensures (passes-if none (binary 38 39) s c.before.has-flag3.ensures (c.pass-optional3.ensures false anything 38 39)) in
+    let stated = passes_then s (c.before.before.before.before.before.before.before.before.pass-fixed.ensures 31) (passes_if none (null_text 32 33) s c.before.before.before.before.before.before.before.has-flag.ensures (c.before.before.before.before.before.before.pass-optional.ensures true utf8 32 33)) in
+    let application = passes_then s (c.before.before.before.before.before.pass-fixed2.ensures 34) (passes_if none (null_text 35 36) s c.before.before.before.before.has-flag2.ensures (c.before.before.before.pass-optional2.ensures true utf8 35 36)) in
+    let tripped = passes_then s c.before.before.pass-trip.ensures (passes_if none (binary 38 39) s c.before.has-flag3.ensures (c.pass-optional3.ensures false anything 38 39)) in
     passes_then s stated (passes_then s application tripped)
 
 pub pass-flagged-spec : {M : Type 1} → statement M

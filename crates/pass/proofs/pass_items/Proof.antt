@@ -1,9 +1,9 @@
 -- `pass::pass_items` meets its contract: bytes, or a count and values.
 use mathlib.Core.Bool.{false}
 use Rattle.format.specs.Value.{anything, value}
-use Rattle.format.specs.Message.{mostItems, second}
-use Rattle.scan.proofs.Answers.{number-stands}
-use Rattle.pass.proofs.Values.{passes-list, passes-bytes, passes-values}
+use Rattle.format.specs.Message.{most_items, second}
+use Rattle.scan.proofs.Answers.{number_stands}
+use Rattle.pass.proofs.Values.{passes_list, passes_bytes, passes_values}
 use borrow.Author.Rules.{rules}
 use Rattle.pass.proofs.pass_items.Statement.{statement}
 use Rattle.pass.proofs.pass_items.Tie as tie
@@ -12,7 +12,7 @@ pass-body-requires : tie.Need-pass-body-requires
 pass-body-requires c κs = search rules
 
 returns : tie.Need-returns
-returns c = let a = c.before.before.before.args in passes-bytes a.s.now a.t c.before.if1.true (c.pass-body.ensures false anything 26 28)
+returns c = let a = c.before.before.before.args in passes_bytes a.s.now a.t c.before.if1.true (c.pass-body.ensures false anything 26 28)
 
 number-at-requires : tie.Need-number-at-requires
 number-at-requires c κs = search rules
@@ -26,8 +26,8 @@ pass-values-requires c κs = search rules
 returns-2 : tie.Need-returns-2
 returns-2 c =
     let a = c.before.before.before.before.before.args in
-    passes-values a.s.now a.t c.before.before.before.if1.false
-    (passes-list 2 mostItems 26 second (value 27 28 a.t) a.s.now (number-stands c.before.before.number_at.ensures) (c.before.pass-fixed.ensures 26) c.pass-values.ensures)
+    passes_values a.s.now a.t c.before.before.before.if1.false
+    (passes_list 2 most_items 26 second (value 27 28 a.t) a.s.now (number_stands c.before.before.number_at.ensures) (c.before.pass-fixed.ensures 26) c.pass-values.ensures)
 
 pub pass-items-spec : {M : Type 1} → statement M
 pass-items-spec =

@@ -2,7 +2,7 @@
 use Prim.Native.Nat.{◌-◌}
 use native.Mathlib.Omega.{arith}
 use Rattle.format.specs.Message.{first, param}
-use Rattle.pass.proofs.Rounds.{Round, round-first, round-next, round-last, all_same}
+use Rattle.pass.proofs.Rounds.{Round, round_first, round_next, round_last, all_same}
 use borrow.Author.Rules.{rules}
 use Rattle.pass.proofs.pass_params.Statement.{statement}
 use Rattle.pass.proofs.pass_params.Tie as tie
@@ -14,7 +14,7 @@ abbrev decreases-loop : tie.decreases-loop
 decreases-loop s from n at₀ i₀ at i = n - i
 
 loop-holds : tie.Need-loop-init invariant-loop decreases-loop
-loop-holds c = let a = c.before.args in round-first first (λ i. param) a.s.now a.n a.from
+loop-holds c = let a = c.before.args in round_first first (λ i. param) a.s.now a.n a.from
 
 pass-param-requires : tie.Need-pass-param-requires invariant-loop decreases-loop
 pass-param-requires c κs = search rules
@@ -29,12 +29,12 @@ loop-again : tie.Need-loop-preserved invariant-loop decreases-loop
 loop-again c =
     let a = c.before.before.before.before.args in
     let l = c.before.before.loop in
-    round-next first (λ i. param) a.s.now a.n a.from l.i c.before.loop-test.true l.invariant c.pass-param.ensures
+    round_next first (λ i. param) a.s.now a.n a.from l.i c.before.loop-test.true l.invariant c.pass-param.ensures
 
 returns : tie.Need-returns invariant-loop decreases-loop
 returns c =
     let a = c.before.before.before.args in
-    all_same first a.s.now param a.n (round-last first (λ i. param) a.s.now a.n a.from c.loop-test.false c.before.loop.invariant)
+    all_same first a.s.now param a.n (round_last first (λ i. param) a.s.now a.n a.from c.loop-test.false c.before.loop.invariant)
 
 pub pass-params-spec : {M : Type 1} → statement M
 pass-params-spec =

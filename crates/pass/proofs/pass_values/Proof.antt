@@ -3,7 +3,7 @@ use Prim.Native.Nat.{◌-◌}
 use native.Mathlib.Omega.{arith}
 use Rattle.format.specs.Value.{value}
 use Rattle.format.specs.Message.{second}
-use Rattle.pass.proofs.Rounds.{Round, round-first, round-next, round-last, all_same}
+use Rattle.pass.proofs.Rounds.{Round, round_first, round_next, round_last, all_same}
 use borrow.Author.Rules.{rules}
 use Rattle.pass.proofs.pass_values.Statement.{statement}
 use Rattle.pass.proofs.pass_values.Tie as tie
@@ -15,7 +15,7 @@ abbrev decreases-loop : tie.decreases-loop
 decreases-loop s from t n at₀ j₀ at j = n - j
 
 loop-holds : tie.Need-loop-init invariant-loop decreases-loop
-loop-holds c = let a = c.before.args in round-first second (λ i. value 27 28 a.t) a.s.now a.n a.from
+loop-holds c = let a = c.before.args in round_first second (λ i. value 27 28 a.t) a.s.now a.n a.from
 
 pass-value-requires : tie.Need-pass-value-requires invariant-loop decreases-loop
 pass-value-requires c κs = search rules
@@ -30,12 +30,12 @@ loop-again : tie.Need-loop-preserved invariant-loop decreases-loop
 loop-again c =
     let a = c.before.before.before.before.args in
     let l = c.before.before.loop in
-    round-next second (λ i. value 27 28 a.t) a.s.now a.n a.from l.j c.before.loop-test.true l.invariant (c.pass-value.ensures 27 28)
+    round_next second (λ i. value 27 28 a.t) a.s.now a.n a.from l.j c.before.loop-test.true l.invariant (c.pass-value.ensures 27 28)
 
 returns : tie.Need-returns invariant-loop decreases-loop
 returns c =
     let a = c.before.before.before.args in
-    all_same second a.s.now (value 27 28 a.t) a.n (round-last second (λ i. value 27 28 a.t) a.s.now a.n a.from c.loop-test.false c.before.loop.invariant)
+    all_same second a.s.now (value 27 28 a.t) a.n (round_last second (λ i. value 27 28 a.t) a.s.now a.n a.from c.loop-test.false c.before.loop.invariant)
 
 pub pass-values-spec : {M : Type 1} → statement M
 pass-values-spec =

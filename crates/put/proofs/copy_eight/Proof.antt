@@ -2,7 +2,7 @@
 use native.Mathlib.Omega.{arith}
 use lib.ListN.{length-set}
 use borrow.Author.Rules.{rules}
-use Rattle.put.proofs.Laws.{eight-copied}
+use Rattle.put.proofs.Laws.{eight_copied}
 use Rattle.put.proofs.copy_eight.Statement.{statement}
 use Rattle.put.proofs.copy_eight.Tie as tie
 
@@ -102,7 +102,7 @@ same_length c = simp length-set
 returns : tie.Need-returns
 returns c =
     let k = c.before.before.before.before.before.before.before.before in
-    eight-copied k.args.out.now k.args.s.now k.args.i k.requires.0 k.requires.1
+    eight_copied k.args.out.now k.args.s.now k.args.i k.requires.0 k.requires.1
 
 pub copy-eight-spec : {M : Type 1} → statement M
 copy-eight-spec =

@@ -5,11 +5,11 @@ use mathlib.Core.Bool.{true, false}
 use mathlib.Core.List.{List, ◌++◌}
 use native.Mathlib.Omega.{arith}
 use lib.ListN.{length, drop, length-take, length-drop}
-use Rattle.format.specs.Number.{numBytes, null4}
+use Rattle.format.specs.Number.{num_bytes, null4}
 use Rattle.format.specs.Value.{width_of}
-use Rattle.format.proofs.Numbers.{length-numBytes}
+use Rattle.format.proofs.Numbers.{length-num_bytes}
 use Rattle.put.specs.Put.{put, optional, sized}
-use Rattle.put.proofs.Laws.{lent, lent-sized, halves, lower-half, narrow, front-two, sized-null, sized-some}
+use Rattle.put.proofs.Laws.{lent, lent_sized, halves, lower_half, narrow, front_two, sized_null, sized_some}
 use borrow.Author.Rules.{rules}
 use Rattle.put.proofs.fixed_at.Statement.{statement}
 use Rattle.put.proofs.fixed_at.Tie as tie
@@ -36,7 +36,7 @@ same_length : tie.Need-same-length
 same_length c = search rules
 
 returns : tie.Need-returns
-returns c = (ap (λ (w : ℕ). c.before.before.before.before.before.before.args.at + w) c.width_of_lem.ensures, lent-sized (width_of c.before.before.before.before.before.before.args.t) _ _ (numBytes (width_of c.before.before.before.before.before.before.args.t) (c.before.before.before.before.before.before.args.upper * 2 ^ 64 + c.before.before.before.before.before.before.args.lower)) _ (length-numBytes _ _) c.before.before.before.before.before.before.requires c.before.before.before.put-fixed.ensures)
+returns c = (ap (λ (w : ℕ). c.before.before.before.before.before.before.args.at + w) c.width_of_lem.ensures, lent_sized (width_of c.before.before.before.before.before.before.args.t) _ _ (num_bytes (width_of c.before.before.before.before.before.before.args.t) (c.before.before.before.before.before.before.args.upper * 2 ^ 64 + c.before.before.before.before.before.before.args.lower)) _ (length-num_bytes _ _) c.before.before.before.before.before.before.requires c.before.before.before.put-fixed.ensures)
 
 pub fixed-at-spec : {M : Type 1} → statement M
 fixed-at-spec =

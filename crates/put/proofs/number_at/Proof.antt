@@ -1,7 +1,7 @@
 -- `put::number_at` meets its contract: the part from the place on is lent, and comes back with the number at its start. Assumes nothing.
-use Rattle.format.specs.Number.{numBytes}
-use Rattle.format.proofs.Numbers.{length-numBytes}
-use Rattle.put.proofs.Laws.{lent-sized}
+use Rattle.format.specs.Number.{num_bytes}
+use Rattle.format.proofs.Numbers.{length-num_bytes}
+use Rattle.put.proofs.Laws.{lent_sized}
 use borrow.Author.Rules.{rules}
 use Rattle.put.proofs.number_at.Statement.{statement}
 use Rattle.put.proofs.number_at.Tie as tie
@@ -25,7 +25,7 @@ same_length : tie.Need-same-length
 same_length c = search rules
 
 returns : tie.Need-returns
-returns c = let k = c.before.before.before.before.before in (search rules, lent-sized _ _ _ (numBytes k.args.k k.args.n) _ (length-numBytes _ _) k.requires c.before.before.put-number.ensures)
+returns c = let k = c.before.before.before.before.before in (search rules, lent_sized _ _ _ (num_bytes k.args.k k.args.n) _ (length-num_bytes _ _) k.requires c.before.before.put-number.ensures)
 
 pub number-at-spec : {M : Type 1} → statement M
 number-at-spec =

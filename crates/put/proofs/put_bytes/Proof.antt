@@ -7,7 +7,7 @@ use lib.ListN.{length, take, drop}
 use lib.Seq.{paste}
 use borrow.Author.Rules.{rules}
 use Rattle.put.specs.Put.{put}
-use Rattle.put.proofs.Laws.{copied-eight, copied_all}
+use Rattle.put.proofs.Laws.{copied_eight, copied_all}
 use Rattle.put.proofs.put_bytes.Statement.{statement}
 use Rattle.put.proofs.put_bytes.Tie as tie
 
@@ -44,7 +44,7 @@ loop-again c =
     let s = c.before.before.before.before.before.before.before.before.before.args.s.now in (
       search rules,
       search rules,
-      c.before.before.copy-eight.ensures ∙ ap (λ (zs : List ℕ). put zs l.i (take 8 (drop l.i s))) l.invariant.2 ∙ copied-eight _ s l.i l.i (omega arith) (omega arith) (omega arith) c.before.before.before.before.before.before.before.before.before.requires,
+      c.before.before.copy-eight.ensures ∙ ap (λ (zs : List ℕ). put zs l.i (take 8 (drop l.i s))) l.invariant.2 ∙ copied_eight _ s l.i l.i (omega arith) (omega arith) (omega arith) c.before.before.before.before.before.before.before.before.before.requires,
     )
 
 copy-eight-requires-2 : tie.Need-copy-eight-requires-2 invariant-loop decreases-loop
@@ -60,7 +60,7 @@ returns-2 c =
     let last = length s - 8 in
     c.before.before.copy-eight2.ensures
     ∙ ap (λ (zs : List ℕ). put zs last (take 8 (drop last s))) l.invariant.2
-    ∙ copied-eight _ s l.i last (omega arith) (omega arith) (omega arith) c.before.before.before.before.before.before.before.before.before.requires
+    ∙ copied_eight _ s l.i last (omega arith) (omega arith) (omega arith) c.before.before.before.before.before.before.before.before.before.requires
     ∙ copied_all _ s (last + 8) (omega arith)
 
 pub put-bytes-spec : {M : Type 1} → statement M

@@ -2,7 +2,7 @@
 use Prim.Native.Nat.{ℕ}
 use native.Mathlib.Omega.{arith}
 use borrow.Author.Rules.{rules}
-use Rattle.put.proofs.Laws.{Wrote, wrote_none, wrote-more, wrote-all, wrote-length}
+use Rattle.put.proofs.Laws.{Wrote, wrote_none, wrote_more, wrote_all, wrote_length}
 use Rattle.put.proofs.put_each.Statement.{statement}
 use Rattle.put.proofs.put_each.Tie as tie
 
@@ -22,19 +22,19 @@ cast-out : tie.Need-overflow-cast-out invariant-loop decreases-loop
 cast-out c = search rules
 
 slice-write-out : tie.Need-slice-write-out invariant-loop decreases-loop
-slice-write-out c = let w = c.before.loop.invariant in let e = wrote-length _ _ _ _ _ _ w in let h = w.inside in let r = w.room in omega arith
+slice-write-out c = let w = c.before.loop.invariant in let e = wrote_length _ _ _ _ _ _ w in let h = w.inside in let r = w.room in omega arith
 
 loop-less : tie.Need-loop-smaller invariant-loop decreases-loop
 loop-less c = search rules
 
 loop-again : tie.Need-loop-preserved invariant-loop decreases-loop
-loop-again c = wrote-more _ _ _ c.before.loop.i _ _ c.loop-test.true c.before.loop.invariant
+loop-again c = wrote_more _ _ _ c.before.loop.i _ _ c.loop-test.true c.before.loop.invariant
 
 same_length : tie.Need-same-length invariant-loop decreases-loop
-same_length c = wrote-length _ _ _ _ _ _ c.before.loop.invariant
+same_length c = wrote_length _ _ _ _ _ _ c.before.loop.invariant
 
 returns : tie.Need-returns invariant-loop decreases-loop
-returns c = wrote-all _ _ _ c.before.loop.i _ _ (omega arith) c.before.loop.invariant
+returns c = wrote_all _ _ _ c.before.loop.i _ _ (omega arith) c.before.loop.invariant
 
 pub put-each-spec : {M : Type 1} → statement M
 put-each-spec =

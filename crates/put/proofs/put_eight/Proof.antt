@@ -3,9 +3,9 @@ use mathlib.Core.Path.{sym, ap, ◌∙◌}
 use mathlib.Core.List.{List, ◌++◌}
 use Prim.Native.Nat.{ℕ, ◌/◌}
 use lib.ListN.{drop}
-use Rattle.format.specs.Number.{numBytes}
-use Rattle.format.proofs.Numbers.{length-numBytes}
-use Rattle.put.proofs.Laws.{front-two, numBytes-split}
+use Rattle.format.specs.Number.{num_bytes}
+use Rattle.format.proofs.Numbers.{length-num_bytes}
+use Rattle.put.proofs.Laws.{front_two, num_bytes_split}
 use borrow.Author.Rules.{rules}
 use Rattle.put.proofs.put_eight.Statement.{statement}
 use Rattle.put.proofs.put_eight.Tie as tie
@@ -33,8 +33,8 @@ returns c =
     let k = c.before.before.before.before.before.before.before.before.before in
     let xs = k.args.out.now in
     let n = k.args.n in
-    front-two xs (numBytes 4 (n / 4294967296)) (numBytes 4 n) _ _ 4 4 (length-numBytes 4 _) (length-numBytes 4 n) k.requires c.before.before.before.before.before.before.put_four.ensures c.before.before.put-four2.ensures
-    ∙ sym (ap (λ (bs : List ℕ). bs ++ drop 8 xs) (numBytes-split 4 4 n))
+    front_two xs (num_bytes 4 (n / 4294967296)) (num_bytes 4 n) _ _ 4 4 (length-num_bytes 4 _) (length-num_bytes 4 n) k.requires c.before.before.before.before.before.before.put_four.ensures c.before.before.put-four2.ensures
+    ∙ sym (ap (λ (bs : List ℕ). bs ++ drop 8 xs) (num_bytes_split 4 4 n))
 
 pub put-eight-spec : {M : Type 1} → statement M
 put-eight-spec =

@@ -6,7 +6,7 @@ use mathlib.Core.List.{List}
 use lib.ListN.{length, set, get_or, length-set}
 use lib.Seq.{paste, paste-zero}
 use borrow.Author.Rules.{rules}
-use Rattle.put.proofs.Laws.{copied-length, copied_more, copied_all}
+use Rattle.put.proofs.Laws.{copied_length, copied_more, copied_all}
 use Rattle.put.proofs.put_few.Statement.{statement}
 use Rattle.put.proofs.put_few.Tie as tie
 

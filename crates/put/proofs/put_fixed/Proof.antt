@@ -5,11 +5,11 @@ use mathlib.Core.Bool.{true, false}
 use mathlib.Core.List.{List, ◌++◌}
 use native.Mathlib.Omega.{arith}
 use lib.ListN.{length, drop, length-take, length-drop}
-use Rattle.format.specs.Number.{numBytes, null4}
+use Rattle.format.specs.Number.{num_bytes, null4}
 use Rattle.format.specs.Value.{width_of}
-use Rattle.format.proofs.Numbers.{length-numBytes}
+use Rattle.format.proofs.Numbers.{length-num_bytes}
 use Rattle.put.specs.Put.{put, optional, sized}
-use Rattle.put.proofs.Laws.{lent, lent-sized, halves, lower-half, narrow, front-two, sized-null, sized-some}
+use Rattle.put.proofs.Laws.{lent, lent_sized, halves, lower_half, narrow, front_two, sized_null, sized_some}
 use borrow.Author.Rules.{rules}
 use Rattle.put.proofs.put_fixed.Statement.{statement}
 use Rattle.put.proofs.put_fixed.Tie as tie
@@ -44,7 +44,7 @@ returns c =
     let w : width_of c.before.before.before.before.before.before.before.before.before.before.before.args.t ≡ 16 = sym c.before.before.before.before.before.before.before.before.before.width_of_lem.ensures ∙ c.before.before.before.before.before.before.before.before.if1.true in
     let e : 16 ≤ length c.before.before.before.before.before.before.before.before.before.before.before.args.out.now = rw w at c.before.before.before.before.before.before.before.before.before.before.before.requires in
     let small = c.before.before.before.before.before.before.before.before.before.before.before.ranges.lower.fits in
-    front-two c.before.before.before.before.before.before.before.before.before.before.before.args.out.now (numBytes 8 c.before.before.before.before.before.before.before.before.before.before.before.args.upper) (numBytes 8 c.before.before.before.before.before.before.before.before.before.before.before.args.lower) _ _ 8 8 (length-numBytes 8 c.before.before.before.before.before.before.before.before.before.before.before.args.upper) (length-numBytes 8 c.before.before.before.before.before.before.before.before.before.before.before.args.lower) e c.before.before.before.before.before.before.put-number.ensures c.before.before.put-number2.ensures
+    front_two c.before.before.before.before.before.before.before.before.before.before.before.args.out.now (num_bytes 8 c.before.before.before.before.before.before.before.before.before.before.before.args.upper) (num_bytes 8 c.before.before.before.before.before.before.before.before.before.before.before.args.lower) _ _ 8 8 (length-num_bytes 8 c.before.before.before.before.before.before.before.before.before.before.before.args.upper) (length-num_bytes 8 c.before.before.before.before.before.before.before.before.before.before.before.args.lower) e c.before.before.before.before.before.before.put-number.ensures c.before.before.put-number2.ensures
     ∙ sym (rw w (ap (λ (bs : List ℕ). bs ++ drop 16 c.before.before.before.before.before.before.before.before.before.before.before.args.out.now) (halves c.before.before.before.before.before.before.before.before.before.before.before.args.upper c.before.before.before.before.before.before.before.before.before.before.before.args.lower small)))
 
 put-number-requires-3 : tie.Need-put-number-requires-3
@@ -57,7 +57,7 @@ returns-2 : tie.Need-returns-2
 returns-2 c =
     let t = c.before.before.before.before.before.before.before.args.t in
     let w : width_of t ≡ 16 → ⊥ = λ e. c.before.before.before.before.if1.false (c.before.before.before.before.before.width_of_lem.ensures ∙ e) in
-    c.before.before.put-number3.ensures ∙ rw c.before.before.before.before.before.width_of_lem.ensures (ap (λ (bs : List ℕ). bs ++ drop (width_of t) c.before.before.before.before.before.before.before.args.out.now) (sym (lower-half (width_of t) c.before.before.before.before.before.before.before.args.upper c.before.before.before.before.before.before.before.args.lower (narrow t w))))
+    c.before.before.put-number3.ensures ∙ rw c.before.before.before.before.before.width_of_lem.ensures (ap (λ (bs : List ℕ). bs ++ drop (width_of t) c.before.before.before.before.before.before.before.args.out.now) (sym (lower_half (width_of t) c.before.before.before.before.before.before.before.args.upper c.before.before.before.before.before.before.before.args.lower (narrow t w))))
 
 pub put-fixed-spec : {M : Type 1} → statement M
 put-fixed-spec =

@@ -1,7 +1,7 @@
 -- `put::put_four` meets its contract: its bytes are stored one after the other. Assumes nothing.
 use native.Mathlib.Omega.{arith}
 use lib.ListN.{length-set}
-use Rattle.put.proofs.Laws.{four-stored}
+use Rattle.put.proofs.Laws.{four_stored}
 use borrow.Author.Rules.{rules}
 use Rattle.put.proofs.put_four.Statement.{statement}
 use Rattle.put.proofs.put_four.Tie as tie
@@ -34,7 +34,7 @@ same_length : tie.Need-same-length
 same_length c = search rules
 
 returns : tie.Need-returns
-returns c = four-stored c.args.out.now c.args.n c.requires
+returns c = four_stored c.args.out.now c.args.n c.requires
 
 pub put-four-spec : {M : Type 1} → statement M
 put-four-spec =

@@ -5,11 +5,11 @@ use mathlib.Core.Bool.{true, false}
 use mathlib.Core.List.{List, ◌++◌}
 use native.Mathlib.Omega.{arith}
 use lib.ListN.{length, drop, length-take, length-drop}
-use Rattle.format.specs.Number.{numBytes, null4}
+use Rattle.format.specs.Number.{num_bytes, null4}
 use Rattle.format.specs.Value.{width_of}
-use Rattle.format.proofs.Numbers.{length-numBytes}
+use Rattle.format.proofs.Numbers.{length-num_bytes}
 use Rattle.put.specs.Put.{put, optional, sized}
-use Rattle.put.proofs.Laws.{lent, lent-sized, halves, lower-half, narrow, front-two, sized-null, sized-some}
+use Rattle.put.proofs.Laws.{lent, lent_sized, halves, lower_half, narrow, front_two, sized_null, sized_some}
 use borrow.Author.Rules.{rules}
 use Rattle.put.proofs.text_at.Statement.{statement}
 use Rattle.put.proofs.text_at.Tie as tie

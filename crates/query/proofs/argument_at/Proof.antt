@@ -1,5 +1,5 @@
 -- `query::argument_at` meets its contract: null, a value or an array, by the type.
-use Rattle.query.proofs.Calls.{null_is, one-is, array-is}
+use Rattle.query.proofs.Calls.{null_is, one_is, array_is}
 use borrow.Author.Rules.{rules}
 use Rattle.query.proofs.argument_at.Statement.{statement}
 use Rattle.query.proofs.argument_at.Tie as tie
@@ -17,7 +17,7 @@ value-at-requires : tie.Need-value-at-requires
 value-at-requires c κs = search rules
 
 returns-2 : tie.Need-returns-2
-returns-2 c = λ q d. one-is _ d c.before.before.before.before.byte_at.ensures c.before.before.before.after.ensures c.before.before.if1.false c.before.if2.true c.value-at.ensures
+returns-2 c = λ q d. one_is _ d c.before.before.before.before.byte_at.ensures c.before.before.before.after.ensures c.before.before.if1.false c.before.if2.true c.value-at.ensures
 
 byte-at-requires-2 : tie.Need-byte-at-requires-2
 byte-at-requires-2 c κs = search rules
@@ -34,7 +34,7 @@ count-at-requires c κs = search rules
 returns-3 : tie.Need-returns-3
 returns-3 c =
     λ q d.
-    array-is _ d c.before.before.before.before.before.before.before.byte_at.ensures c.before.before.before.before.before.before.after.ensures c.before.before.before.before.if2.false c.before.before.before.byte-at2.ensures c.before.before.after2.ensures c.before.count-width.ensures c.count_at.ensures
+    array_is _ d c.before.before.before.before.before.before.before.byte_at.ensures c.before.before.before.before.before.before.after.ensures c.before.before.before.before.if2.false c.before.before.before.byte-at2.ensures c.before.before.after2.ensures c.before.count-width.ensures c.count_at.ensures
 
 pub argument-at-spec : {M : Type 1} → statement M
 argument-at-spec =

@@ -3,10 +3,10 @@ use mathlib.Core.Bool.{true}
 use mathlib.Core.Path.{◌∙◌, ap}
 use Rattle.format.specs.Result.{Res, bind}
 use Rattle.places.specs.Places.{tables_of, table_at}
-use Rattle.places.specs.Entries.{cellHere}
+use Rattle.places.specs.Entries.{cell_here}
 use Rattle.query.specs.declared.ShownCell.{ShownCell}
-use Rattle.query.specs.Answers.{partOf}
-use Rattle.query.specs.Shown.{shownOf}
+use Rattle.query.specs.Answers.{part_of}
+use Rattle.query.specs.Shown.{shown_of}
 use Rattle.query.proofs.Opened.{follows}
 use borrow.Author.Rules.{rules}
 use Rattle.query.proofs.cell_span.Statement.{statement}
@@ -21,7 +21,7 @@ span-of-requires c κs = search rules
 returns : tie.Need-returns
 returns c =
     let a = c.before.before.before.args in
-    c.Span-of.ensures ∙ ap (λ (r : Res ShownCell). bind r (λ s. partOf s.type_at s.cell)) c.before.find-cell.ensures ∙ follows 4 tables_of (table_at true) a.m.now a.t (λ at b. cellHere at b a.k a.c) shownOf (λ s. partOf s.type_at s.cell)
+    c.Span-of.ensures ∙ ap (λ (r : Res ShownCell). bind r (λ s. part_of s.type_at s.cell)) c.before.find-cell.ensures ∙ follows 4 tables_of (table_at true) a.m.now a.t (λ at b. cell_here at b a.k a.c) shown_of (λ s. part_of s.type_at s.cell)
 
 pub cell-span-spec : {M : Type 1} → statement M
 cell-span-spec = tie.close (tie.spec find-cell-requires span-of-requires returns)

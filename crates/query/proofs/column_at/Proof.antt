@@ -1,5 +1,5 @@
 -- `query::column_at` meets its contract: each step comes where the column's next part stands.
-use Rattle.query.proofs.Walks.{column-is}
+use Rattle.query.proofs.Walks.{column_is}
 use borrow.Author.Rules.{rules}
 use Rattle.query.proofs.column_at.Statement.{statement}
 use Rattle.query.proofs.column_at.Tie as tie
@@ -23,7 +23,7 @@ returns : tie.Need-returns
 returns c =
     λ at b d t n k.
     let a = c.before.before.before.before.before.before.args in
-    column-is _ d a.c k a.types a.names t n c.before.before.before.before.after.ensures c.before.before.before.byte_at.ensures c.before.before.over.ensures
+    column_is _ d a.c k a.types a.names t n c.before.before.before.before.after.ensures c.before.before.before.byte_at.ensures c.before.before.over.ensures
     c.before.count_at.ensures c.after2.ensures
 
 pub column-at-spec : {M : Type 1} → statement M

@@ -2,9 +2,9 @@
 use mathlib.Core.Path.{◌∙◌, ap}
 use Rattle.format.specs.Result.{Res, ok, bind}
 use Rattle.places.specs.Places.{params_of, param_at}
-use Rattle.places.specs.Entries.{elementOf}
+use Rattle.places.specs.Entries.{element_of}
 use Rattle.query.specs.declared.ShownCell.{ShownCell}
-use Rattle.query.specs.Shown.{shownOf}
+use Rattle.query.specs.Shown.{shown_of}
 use Rattle.query.proofs.Opened.{follows}
 use borrow.Author.Rules.{rules}
 use Rattle.query.proofs.element.Statement.{statement}
@@ -19,7 +19,7 @@ cell-of-requires c κs = search rules
 returns : tie.Need-returns
 returns c =
     let a = c.before.before.before.args in
-    c.cell-of.ensures ∙ ap (λ (r : Res ShownCell). bind r (λ s. ok s.cell)) c.before.find-element.ensures ∙ follows 3 params_of param_at a.m.now a.p (λ at q. elementOf at q.argument a.e) shownOf (λ s. ok s.cell)
+    c.cell-of.ensures ∙ ap (λ (r : Res ShownCell). bind r (λ s. ok s.cell)) c.before.find-element.ensures ∙ follows 3 params_of param_at a.m.now a.p (λ at q. element_of at q.argument a.e) shown_of (λ s. ok s.cell)
 
 pub element-spec : {M : Type 1} → statement M
 element-spec = tie.close (tie.spec find-element-requires cell-of-requires returns)

@@ -2,8 +2,8 @@
 use mathlib.Core.Path.{◌∙◌, sym, ap}
 use native.Mathlib.Omega.{arith}
 use Rattle.format.specs.Result.{ok}
-use Rattle.query.specs.Shown.{toldSpot, shownOf}
-use Rattle.query.proofs.Opened.{bytes-all, spotted, not-spotted, spot-shown}
+use Rattle.query.specs.Shown.{told_spot, shown_of}
+use Rattle.query.proofs.Opened.{bytes_all, spotted, not_spotted, spot_shown}
 use borrow.Author.Rules.{rules}
 use Rattle.query.proofs.find_cell.Statement.{statement}
 use Rattle.query.proofs.find_cell.Tie as tie
@@ -23,14 +23,14 @@ value-at-requires c κs = search rules
 returns : tie.Need-returns
 returns c =
     let a = c.before.before.before.before.before.args in
-    not-spotted a.timed a.m.now a.t a.k a.c (λ h. ok (shownOf h)) (sym (ap toldSpot c.before.found.given.1) ∙ c.before.before.before.find-spot.ensures)
+    not_spotted a.timed a.m.now a.t a.k a.c (λ h. ok (shown_of h)) (sym (ap told_spot c.before.found.given.1) ∙ c.before.before.before.find-spot.ensures)
 
 returns-2 : tie.Need-returns-2
 returns-2 c =
     let a = c.before.before.before.before.before.before.args in
-    let all = bytes-all a.m.now (λ k. omega (arith, c.before.before.before.before.before.shared-slice-known.given k)) in
-    let w = spotted a.timed a.m.now a.t a.k a.c all (sym (ap toldSpot c.before.before.found2.given.1) ∙ c.before.before.before.before.find-spot.ensures) in
-    spot-shown a.timed a.m.now a.t a.k a.c w c.value-at.ensures
+    let all = bytes_all a.m.now (λ k. omega (arith, c.before.before.before.before.before.shared-slice-known.given k)) in
+    let w = spotted a.timed a.m.now a.t a.k a.c all (sym (ap told_spot c.before.before.found2.given.1) ∙ c.before.before.before.before.find-spot.ensures) in
+    spot_shown a.timed a.m.now a.t a.k a.c w c.value-at.ensures
 
 pub find-cell-spec : {M : Type 1} → statement M
 find-cell-spec =

@@ -2,11 +2,11 @@
 use mathlib.Core.Path.{◌∙◌, sym, ap}
 use native.Mathlib.Omega.{arith}
 use Rattle.format.specs.Result.{Res, ok}
-use Rattle.format.specs.Message.{responseLayout}
+use Rattle.format.specs.Message.{response_layout}
 use Rattle.places.specs.Places.{tables_of, table_at}
 use Rattle.query.specs.declared.ColumnLayout.{ColumnLayout}
-use Rattle.query.specs.Answers.{toldTable, layout_of, columnOf, perhaps}
-use Rattle.query.proofs.Opened.{bytes-all, opened, not_found, asked, column-past, columns-are, types-at, names_at}
+use Rattle.query.specs.Answers.{told_table, layout_of, column_of, perhaps}
+use Rattle.query.proofs.Opened.{bytes_all, opened, not_found, asked, column_past, columns_are, types_at, names_at}
 use borrow.Author.Rules.{rules}
 use Rattle.query.proofs.find_placed.Statement.{statement}
 use Rattle.query.proofs.find_placed.Tie as tie
@@ -26,21 +26,21 @@ column-at-requires c κs = search rules
 returns : tie.Need-returns
 returns c =
     let a = c.before.before.before.before.before.args in
-    not_found (responseLayout a.timed) tables_of (table_at a.timed) a.m.now a.t layout_of (λ at b. ok (perhaps (columnOf at b a.c))) (sym (ap toldTable c.before.answer.given.1) ∙ c.before.before.before.find-table.ensures)
+    not_found (response_layout a.timed) tables_of (table_at a.timed) a.m.now a.t layout_of (λ at b. ok (perhaps (column_of at b a.c))) (sym (ap told_table c.before.answer.given.1) ∙ c.before.before.before.find-table.ensures)
 
 returns-2 : tie.Need-returns-2
 returns-2 c =
     let a = c.before.before.before.before.before.before.before.args in
-    let all = bytes-all a.m.now (λ k. omega (arith, c.before.before.before.before.before.before.shared-slice-known.given k)) in
-    let o = opened a.timed a.m.now all a.t (sym (ap toldTable c.before.before.before.answer2.given.1) ∙ c.before.before.before.before.before.find-table.ensures) in
-    ap (λ (r : Res ColumnLayout). ok (perhaps r)) (column-past o a.c c.if1.true ∙ asked o (λ at b. columnOf at b a.c)) ∙ sym (asked o (λ at b. ok (perhaps (columnOf at b a.c))))
+    let all = bytes_all a.m.now (λ k. omega (arith, c.before.before.before.before.before.before.shared-slice-known.given k)) in
+    let o = opened a.timed a.m.now all a.t (sym (ap told_table c.before.before.before.answer2.given.1) ∙ c.before.before.before.before.before.find-table.ensures) in
+    ap (λ (r : Res ColumnLayout). ok (perhaps r)) (column_past o a.c c.if1.true ∙ asked o (λ at b. column_of at b a.c)) ∙ sym (asked o (λ at b. ok (perhaps (column_of at b a.c))))
 
 returns-3 : tie.Need-returns-3
 returns-3 c =
     let a = c.before.before.before.before.before.before.before.before.args in
-    let all = bytes-all a.m.now (λ k. omega (arith, c.before.before.before.before.before.before.before.shared-slice-known.given k)) in
-    let o = opened a.timed a.m.now all a.t (sym (ap toldTable c.before.before.before.before.answer2.given.1) ∙ c.before.before.before.before.before.before.find-table.ensures) in
-    ap (λ (r : Res ColumnLayout). ok (perhaps r)) (c.column-at.ensures _ o.tab o.stands (types-at o) (names_at o) (omega (arith, columns-are o, c.before.if1.false))) ∙ sym (asked o (λ at b. ok (perhaps (columnOf at b a.c))))
+    let all = bytes_all a.m.now (λ k. omega (arith, c.before.before.before.before.before.before.before.shared-slice-known.given k)) in
+    let o = opened a.timed a.m.now all a.t (sym (ap told_table c.before.before.before.before.answer2.given.1) ∙ c.before.before.before.before.before.before.find-table.ensures) in
+    ap (λ (r : Res ColumnLayout). ok (perhaps r)) (c.column-at.ensures _ o.tab o.stands (types_at o) (names_at o) (omega (arith, columns_are o, c.before.if1.false))) ∙ sym (asked o (λ at b. ok (perhaps (column_of at b a.c))))
 
 pub find-placed-spec : {M : Type 1} → statement M
 find-placed-spec =

@@ -2,12 +2,12 @@
 use Prim.Native.Nat.{ℕ}
 use mathlib.Core.Path.{◌∙◌, ap}
 use Rattle.format.specs.Result.{ok, bind}
-use Rattle.format.specs.Message.{readMessage, responseLayout}
-use Rattle.message.specs.Verdict.{verdictOf}
+use Rattle.format.specs.Message.{read_message, response_layout}
+use Rattle.message.specs.Verdict.{verdict_of}
 use Rattle.places.specs.Places.{tables_of, table_at}
 use Rattle.places.specs.Entries.{entry}
 use Rattle.query.specs.Answers.{layout_of}
-use Rattle.query.proofs.Opened.{verdict-fine, verdict-no, refused, admitted}
+use Rattle.query.proofs.Opened.{verdict_fine, verdict_no_lem, refused, admitted}
 use borrow.Author.Rules.{rules}
 use Rattle.query.proofs.find_table.Statement.{statement}
 use Rattle.query.proofs.find_table.Tie as tie
@@ -30,13 +30,13 @@ table-in-requires c κs = search rules
 returns : tie.Need-returns
 returns c =
     let a = c.before.before.before.before.before.before.args in
-    refused (responseLayout a.timed) a.m.now (λ r. bind (entry (tables_of r) a.t) (λ b. ok (layout_of (table_at a.timed r a.t) b))) (verdict-no (readMessage (responseLayout a.timed) a.m.now) (c.before.before.before.accept-layout.ensures ∙ ap (λ (n : ℕ). verdictOf (readMessage n a.m.now)) c.before.before.before.before.response-layout.ensures) c.before.verdict.given.1)
+    refused (response_layout a.timed) a.m.now (λ r. bind (entry (tables_of r) a.t) (λ b. ok (layout_of (table_at a.timed r a.t) b))) (verdict_no_lem (read_message (response_layout a.timed) a.m.now) (c.before.before.before.accept-layout.ensures ∙ ap (λ (n : ℕ). verdict_of (read_message n a.m.now)) c.before.before.before.before.response-layout.ensures) c.before.verdict.given.1)
 
 returns-2 : tie.Need-returns-2
 returns-2 c =
     let a = c.before.before.before.before.before.before.args in
-    let w = verdict-fine (readMessage (responseLayout a.timed) a.m.now) (c.before.before.before.accept-layout.ensures ∙ ap (λ (n : ℕ). verdictOf (readMessage n a.m.now)) c.before.before.before.before.response-layout.ensures) c.before.enum_told.given.1 in
-    admitted (responseLayout a.timed) a.m.now (λ r. bind (entry (tables_of r) a.t) (λ b. ok (layout_of (table_at a.timed r a.t) b))) w.1 (c.table-in.ensures w.0 w.1)
+    let w = verdict_fine (read_message (response_layout a.timed) a.m.now) (c.before.before.before.accept-layout.ensures ∙ ap (λ (n : ℕ). verdict_of (read_message n a.m.now)) c.before.before.before.before.response-layout.ensures) c.before.enum_told.given.1 in
+    admitted (response_layout a.timed) a.m.now (λ r. bind (entry (tables_of r) a.t) (λ b. ok (layout_of (table_at a.timed r a.t) b))) w.1 (c.table-in.ensures w.0 w.1)
 
 pub find-table-spec : {M : Type 1} → statement M
 find-table-spec =

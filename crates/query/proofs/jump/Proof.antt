@@ -8,7 +8,7 @@ use mathlib.Core.Bool.{false}
 use Rattle.format.specs.Format.{counted}
 use Rattle.format.specs.Value.{anything}
 use Rattle.format.specs.Message.{first, unlimited}
-use Rattle.scan.proofs.Loops.{Rest, loop-same, loop-done, loop-turn, loop-stop}
+use Rattle.scan.proofs.Loops.{Rest, loop_same, loop_done, loop_turn, loop_stop}
 use Rattle.query.proofs.jump.Statement.{statement}
 use Rattle.query.proofs.jump.Tie as tie
 
@@ -38,7 +38,7 @@ returns c =
     let a = c.before.before.before.before.before.before.before.args in
     let l = c.before.before.before.before.before.loop in
     let step = c.before.before.before.skip-sized.ensures in
-    sym (loop-stop first (λ j. counted false unlimited anything 0 0) a.s.now (a.n) l.i l.at c.before.before.before.before.loop-test.true step c.before.enum_told.given.1 c.next-refusal.ensures) ∙ l.invariant.1 ∙ loop-same first (a.s.now) (counted false unlimited anything 0 0) (a.n) (a.from)
+    sym (loop_stop first (λ j. counted false unlimited anything 0 0) a.s.now (a.n) l.i l.at c.before.before.before.before.loop-test.true step c.before.enum_told.given.1 c.next-refusal.ensures) ∙ l.invariant.1 ∙ loop_same first (a.s.now) (counted false unlimited anything 0 0) (a.n) (a.from)
 
 add-i : tie.Need-overflow-add-i invariant-loop decreases-loop
 add-i c = search rules
@@ -51,13 +51,13 @@ loop-again c =
     let a = c.before.before.before.before.before.before.before.args in
     let l = c.before.before.before.before.before.loop in
     let step = c.before.before.before.skip-sized.ensures in
-    (search rules, loop-turn first (λ j. counted false unlimited anything 0 0) a.s.now (a.n) l.i l.at c.before.before.before.before.loop-test.true step c.before.step.given.1 ∙ l.invariant.1)
+    (search rules, loop_turn first (λ j. counted false unlimited anything 0 0) a.s.now (a.n) l.i l.at c.before.before.before.before.loop-test.true step c.before.step.given.1 ∙ l.invariant.1)
 
 returns-2 : tie.Need-returns-2 invariant-loop decreases-loop
 returns-2 c =
     let a = c.before.before.before.args in
     let l = c.before.loop in
-    sym (loop-done first (λ j. counted false unlimited anything 0 0) a.s.now (a.n) l.i l.at c.loop-test.false) ∙ l.invariant.1 ∙ loop-same first (a.s.now) (counted false unlimited anything 0 0) (a.n) (a.from)
+    sym (loop_done first (λ j. counted false unlimited anything 0 0) a.s.now (a.n) l.i l.at c.loop-test.false) ∙ l.invariant.1 ∙ loop_same first (a.s.now) (counted false unlimited anything 0 0) (a.n) (a.from)
 
 pub jump-spec : {M : Type 1} → statement M
 jump-spec =

@@ -1,11 +1,11 @@
 -- `query::parameter` meets its contract: the refusal of the place, or what stands there.
 use mathlib.Core.Path.{◌∙◌, sym, ap}
 use native.Mathlib.Omega.{arith}
-use Rattle.format.specs.Result.{ok, toldAnswer}
+use Rattle.format.specs.Result.{ok, told_answer}
 use Rattle.places.specs.Places.{params_of, param_at}
 use Rattle.query.specs.Answers.{given_of}
-use Rattle.query.proofs.Opened.{bytes-all, not_found}
-use Rattle.query.proofs.Calls.{param-asked}
+use Rattle.query.proofs.Opened.{bytes_all, not_found}
+use Rattle.query.proofs.Calls.{param_asked}
 use borrow.Author.Rules.{rules}
 use Rattle.query.proofs.parameter.Statement.{statement}
 use Rattle.query.proofs.parameter.Tie as tie
@@ -25,12 +25,12 @@ argument-at-requires c κs = search rules
 returns : tie.Need-returns
 returns c =
     let a = c.before.before.before.before.before.args in
-    not_found 3 params_of param_at a.m.now a.p (λ at q. at) (λ at q. ok (given_of at q.type q.argument)) (sym (ap toldAnswer c.before.place.given.1) ∙ c.before.before.before.find-param.ensures)
+    not_found 3 params_of param_at a.m.now a.p (λ at q. at) (λ at q. ok (given_of at q.type q.argument)) (sym (ap told_answer c.before.place.given.1) ∙ c.before.before.before.find-param.ensures)
 
 returns-2 : tie.Need-returns-2
 returns-2 c =
     let a = c.before.before.before.before.before.before.args in
-    param-asked a.m.now (bytes-all a.m.now (λ k. omega (arith, c.before.before.before.before.before.shared-slice-known.given k))) a.p (λ at q. ok (given_of at q.type q.argument)) (sym (ap toldAnswer c.before.before.place2.given.1) ∙ c.before.before.before.before.find-param.ensures) c.argument-at.ensures
+    param_asked a.m.now (bytes_all a.m.now (λ k. omega (arith, c.before.before.before.before.before.shared-slice-known.given k))) a.p (λ at q. ok (given_of at q.type q.argument)) (sym (ap told_answer c.before.before.place2.given.1) ∙ c.before.before.before.before.find-param.ensures) c.argument-at.ensures
 
 pub parameter-spec : {M : Type 1} → statement M
 parameter-spec =

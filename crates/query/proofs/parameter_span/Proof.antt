@@ -2,10 +2,10 @@
 use mathlib.Core.Path.{◌∙◌, ap}
 use Rattle.format.specs.Result.{Res, bind}
 use Rattle.places.specs.Places.{params_of, param_at}
-use Rattle.places.specs.Entries.{valueHere}
+use Rattle.places.specs.Entries.{value_here}
 use Rattle.query.specs.declared.ShownCell.{ShownCell}
-use Rattle.query.specs.Answers.{partOf}
-use Rattle.query.specs.Shown.{shownOf}
+use Rattle.query.specs.Answers.{part_of}
+use Rattle.query.specs.Shown.{shown_of}
 use Rattle.query.proofs.Opened.{follows}
 use borrow.Author.Rules.{rules}
 use Rattle.query.proofs.parameter_span.Statement.{statement}
@@ -20,7 +20,7 @@ span-of-requires c κs = search rules
 returns : tie.Need-returns
 returns c =
     let a = c.before.before.before.args in
-    c.Span-of.ensures ∙ ap (λ (r : Res ShownCell). bind r (λ s. partOf s.type_at s.cell)) c.before.find-value.ensures ∙ follows 3 params_of param_at a.m.now a.p (λ at q. valueHere at q.type q.argument) shownOf (λ s. partOf s.type_at s.cell)
+    c.Span-of.ensures ∙ ap (λ (r : Res ShownCell). bind r (λ s. part_of s.type_at s.cell)) c.before.find-value.ensures ∙ follows 3 params_of param_at a.m.now a.p (λ at q. value_here at q.type q.argument) shown_of (λ s. part_of s.type_at s.cell)
 
 pub parameter-span-spec : {M : Type 1} → statement M
 parameter-span-spec = tie.close (tie.spec find-value-requires span-of-requires returns)

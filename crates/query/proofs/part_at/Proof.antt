@@ -2,7 +2,7 @@
 use mathlib.Core.Path.{sym, subst}
 use Rattle.show.specs.Parts.{IsPart}
 use Rattle.query.specs.declared.Part.{Part}
-use Rattle.query.specs.Answers.{IsTold, toldPart}
+use Rattle.query.specs.Answers.{Is_told, told_part}
 use Rattle.query.proofs.Parts.{no_span}
 use borrow.Author.Rules.{rules}
 use Rattle.query.proofs.part_at.Statement.{statement}
@@ -25,7 +25,7 @@ body-at-requires-2 c κs = search rules
 returns-2 : tie.Need-returns-2
 returns-2 c =
     let m = c.before.before.before.before.before.args.m in
-    subst (λ (z : Part). IsTold m (toldPart z) c.body-at2.result) (sym c.before.before.span.given.1) c.body-at2.ensures
+    subst (λ (z : Part). Is_told m (told_part z) c.body-at2.result) (sym c.before.before.span.given.1) c.body-at2.ensures
 
 pub part-at-spec : {M : Type 1} → statement M
 part-at-spec =

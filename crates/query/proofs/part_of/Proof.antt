@@ -2,7 +2,7 @@
 use mathlib.Core.Path.{◌∙◌, sym, ap}
 use Rattle.format.specs.Result.{no}
 use Rattle.format.specs.declared.Refusal.{Refusal}
-use Rattle.query.specs.Answers.{rawPart}
+use Rattle.query.specs.Answers.{raw_part}
 use borrow.Author.Rules.{rules}
 use Rattle.query.proofs.part_of.Statement.{statement}
 use Rattle.query.proofs.part_of.Tie as tie
@@ -23,13 +23,13 @@ wrong-type-requires : tie.Need-wrong-type-requires
 wrong-type-requires c κs = search rules
 
 returns : tie.Need-returns
-returns c = sym (ap (rawPart _) (sym c.before.before.before.raw_of.ensures ∙ c.before.raw.given.1))
+returns c = sym (ap (raw_part _) (sym c.before.before.before.raw_of.ensures ∙ c.before.raw.given.1))
 
 returns-2 : tie.Need-returns-2
 returns-2 c = search rules
 
 returns-3 : tie.Need-returns-3
-returns-3 c = ap (λ (r : Refusal). no r.fault r.place) c.Wrong-type.ensures ∙ sym (ap (rawPart _) (sym c.before.before.before.raw_of.ensures ∙ c.before.enum-told2.given.1))
+returns-3 c = ap (λ (r : Refusal). no r.fault r.place) c.Wrong-type.ensures ∙ sym (ap (raw_part _) (sym c.before.before.before.raw_of.ensures ∙ c.before.enum-told2.given.1))
 
 pub part-of-spec : {M : Type 1} → statement M
 part-of-spec =

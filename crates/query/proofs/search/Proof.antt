@@ -13,20 +13,20 @@ use Rattle.format.specs.Message.{third, unlimited}
 use Rattle.scan.proofs.Counted.{here, refuses}
 use Rattle.places.specs.Stands.{Stands}
 use Rattle.places.proofs.Layouts.{name}
-use Rattle.query.specs.Answers.{firstNamed}
-use Rattle.query.proofs.Ends.{EqualFrom, none_seen, one_more}
-use Rattle.query.proofs.Names.{Left, starts, ends, turn, found_it, other_length, other_byte, never-refused}
+use Rattle.query.specs.Answers.{first_named}
+use Rattle.query.proofs.Ends.{Equal_from, none_seen, one_more}
+use Rattle.query.proofs.Names.{Left, starts, ends, turn, found_it, other_length, other_byte, never_refused}
 use Rattle.query.proofs.search.Statement.{statement}
 use Rattle.query.proofs.search.Tie as tie
 
 abbrev invariant-bytes : tie.invariant-bytes
-invariant-bytes m from count wanted at i start end rest₀ rest = (rest ≤ length wanted) × EqualFrom (λ k. get_or m (start + k) 0) wanted rest
+invariant-bytes m from count wanted at i start end rest₀ rest = (rest ≤ length wanted) × Equal_from (λ k. get_or m (start + k) 0) wanted rest
 
 abbrev decreases-bytes : tie.decreases-bytes
 decreases-bytes m from count wanted at i start end rest₀ rest = rest
 
 abbrev invariant-columns : tie.invariant-columns
-invariant-columns m from count wanted at₀ i₀ at i = (i ≤ count) × ((names : List (Option (List ℕ))) → Stands (each third 0 (replicate count name)) m from names → Left m count wanted i at (firstNamed wanted names 0))
+invariant-columns m from count wanted at₀ i₀ at i = (i ≤ count) × ((names : List (Option (List ℕ))) → Stands (each third 0 (replicate count name)) m from names → Left m count wanted i at (first_named wanted names 0))
 
 abbrev decreases-columns : tie.decreases-columns
 decreases-columns m from count wanted at₀ i₀ at i = count - i
@@ -44,7 +44,7 @@ returns : tie.Need-returns invariant-bytes decreases-bytes invariant-columns dec
 returns c =
     let a = c.before.before.before.before.before.before.args in
     let l = c.before.before.before.columns in
-    λ names d. absurd (never-refused a.m.now a.count a.name.now l.i l.at c.before.before.columns-test.true (l.invariant.1 names d) (refuses unlimited a.m.now l.at c.before.read-body.ensures c.match.keys2 refl))
+    λ names d. absurd (never_refused a.m.now a.count a.name.now l.i l.at c.before.before.columns-test.true (l.invariant.1 names d) (refuses unlimited a.m.now l.at c.before.read-body.ensures c.match.keys2 refl))
 
 sub-if1 : tie.Need-overflow-sub-if1 invariant-bytes decreases-bytes invariant-columns decreases-columns
 sub-if1 c =

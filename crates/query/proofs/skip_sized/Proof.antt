@@ -3,7 +3,7 @@ use mathlib.Core.Bool.{false}
 use Rattle.format.specs.Format.{counted}
 use Rattle.format.specs.Value.{anything}
 use Rattle.format.specs.Message.{unlimited}
-use Rattle.scan.proofs.Answers.{body-ends}
+use Rattle.scan.proofs.Answers.{body_ends}
 use borrow.Author.Rules.{rules}
 use Rattle.query.proofs.skip_sized.Statement.{statement}
 use Rattle.query.proofs.skip_sized.Tie as tie
@@ -17,7 +17,7 @@ body-end-requires c κs = search rules
 returns : tie.Need-returns
 returns c =
     let a = c.before.before.before.args in
-    body-ends a.at ((counted false unlimited anything 0 0).read a.s.now a.at) c.before.read-body.ensures c.body-end.ensures
+    body_ends a.at ((counted false unlimited anything 0 0).read a.s.now a.at) c.before.read-body.ensures c.body-end.ensures
 
 pub skip-sized-spec : {M : Type 1} → statement M
 skip-sized-spec = tie.close (tie.spec read-body-requires body-end-requires returns)

@@ -1,6 +1,6 @@
 -- `query::table_in` meets its contract: the jump over the tables before it comes to table t.
 use native.Mathlib.Omega.{arith}
-use Rattle.query.proofs.Opened.{bytes-all, tables-is, table-past, table-at-is, table-found}
+use Rattle.query.proofs.Opened.{bytes_all, tables_is, table_past, table_at_is, table_found}
 use borrow.Author.Rules.{rules}
 use Rattle.query.proofs.table_in.Statement.{statement}
 use Rattle.query.proofs.table_in.Tie as tie
@@ -15,9 +15,9 @@ returns : tie.Need-returns
 returns c =
     λ p e.
     let a = c.before.before.before.before.args in
-    let all = bytes-all a.m.now (λ k. omega (arith, c.before.before.before.shared-slice-known.given k)) in
-    let n = tables-is a.timed a.m.now all p e c.before.before.tables-counted.result c.before.before.tables-counted.ensures c.before.count_at.ensures in
-    table-past a.timed a.m.now all p e a.t (omega arith)
+    let all = bytes_all a.m.now (λ k. omega (arith, c.before.before.before.shared-slice-known.given k)) in
+    let n = tables_is a.timed a.m.now all p e c.before.before.tables-counted.result c.before.before.tables-counted.ensures c.before.count_at.ensures in
+    table_past a.timed a.m.now all p e a.t (omega arith)
 
 after-requires : tie.Need-after-requires
 after-requires c κs = search rules
@@ -32,11 +32,11 @@ returns-2 : tie.Need-returns-2
 returns-2 c =
     λ p e.
     let a = c.before.before.before.before.before.before.before.args in
-    let all = bytes-all a.m.now (λ k. omega (arith, c.before.before.before.before.before.before.shared-slice-known.given k)) in
+    let all = bytes_all a.m.now (λ k. omega (arith, c.before.before.before.before.before.before.shared-slice-known.given k)) in
     let counted = c.before.before.before.before.before.tables-counted in
-    let n = tables-is a.timed a.m.now all p e counted.result counted.ensures c.before.before.before.before.count_at.ensures in
-    let at = table-at-is a.timed a.m.now all p e a.t counted.result c.before.before.after.result (omega arith) counted.ensures c.before.before.after.ensures c.before.over.ensures in
-    table-found a.timed a.m.now all p e a.t c.before.over.result (omega arith) at c.layout-at.ensures
+    let n = tables_is a.timed a.m.now all p e counted.result counted.ensures c.before.before.before.before.count_at.ensures in
+    let at = table_at_is a.timed a.m.now all p e a.t counted.result c.before.before.after.result (omega arith) counted.ensures c.before.before.after.ensures c.before.over.ensures in
+    table_found a.timed a.m.now all p e a.t c.before.over.result (omega arith) at c.layout-at.ensures
 
 pub table-in-spec : {M : Type 1} → statement M
 table-in-spec =

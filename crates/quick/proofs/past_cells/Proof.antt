@@ -6,16 +6,16 @@ use native.Mathlib.Omega.{arith}
 use borrow.Author.Rules.{rules}
 use Rattle.format.specs.Message.{third}
 use Rattle.format.specs.Value.{value}
-use Rattle.scan.specs.Shown.{shownNext}
-use Rattle.scan.proofs.Values.{value-fields}
-use Rattle.scan.proofs.Loops.{Rest, loop-map, loop-done, loop-turn}
-use Rattle.quick.specs.Past.{mostValue}
+use Rattle.scan.specs.Shown.{shown_next}
+use Rattle.scan.proofs.Values.{value_fields}
+use Rattle.scan.proofs.Loops.{Rest, loop_map, loop_done, loop_turn}
+use Rattle.quick.specs.Past.{most_value}
 use Rattle.quick.proofs.past_cells.Statement.{statement}
 use Rattle.quick.proofs.past_cells.Tie as tie
 
 abbrev invariant-loop : tie.invariant-loop
 invariant-loop s from types at₀ i₀ at i =
-    (i ≤ length types) × (at ≤ from + i * mostValue)
+    (i ≤ length types) × (at ≤ from + i * most_value)
     × (at ≤ length s → Rest third (λ j. value 50 51 (get_or types j 0)) s (length types) i at ≡ Rest third (λ j. value 50 51 (get_or types j 0)) s (length types) 0 from)
 
 abbrev decreases-loop : tie.decreases-loop
@@ -51,8 +51,8 @@ loop-again c =
       omega (arith, c.before.before.before.loop-test.true),
       omega (arith, past.1, l.invariant.1),
       λ h.
-          let told = ap shownNext (value-fields a.s.now l.at 50 51 (get_or a.types.now l.i 0)) ∙ past.2 h in
-          loop-turn third (λ j. value 50 51 (get_or a.types.now j 0)) a.s.now (length a.types.now) l.i l.at c.before.before.before.loop-test.true refl told ∙ l.invariant.2 (omega (arith, past.0, h)),
+          let told = ap shown_next (value_fields a.s.now l.at 50 51 (get_or a.types.now l.i 0)) ∙ past.2 h in
+          loop_turn third (λ j. value 50 51 (get_or a.types.now j 0)) a.s.now (length a.types.now) l.i l.at c.before.before.before.loop-test.true refl told ∙ l.invariant.2 (omega (arith, past.0, h)),
     )
 
 returns-2 : tie.Need-returns-2 invariant-loop decreases-loop
@@ -60,8 +60,8 @@ returns-2 c =
     let a = c.before.before.before.before.args in
     let l = c.before.loop in
     λ there h.
-    sym (loop-map third a.s.now (value 50 51) a.types.now a.from) ∙ sym (l.invariant.2 h)
-    ∙ loop-done third (λ j. value 50 51 (get_or a.types.now j 0)) a.s.now (length a.types.now) l.i l.at c.loop-test.false
+    sym (loop_map third a.s.now (value 50 51) a.types.now a.from) ∙ sym (l.invariant.2 h)
+    ∙ loop_done third (λ j. value 50 51 (get_or a.types.now j 0)) a.s.now (length a.types.now) l.i l.at c.loop-test.false
 
 pub past-cells-spec : {M : Type 1} → statement M
 past-cells-spec =

@@ -5,10 +5,10 @@ use native.Mathlib.Omega.{arith}
 use borrow.Author.Tests.{eq-eqb}
 use Rattle.format.specs.declared.Fault.TheVariants.{Decimal}
 use Rattle.format.specs.Number.{num_at}
-use Rattle.format.specs.Value.{decimalFine}
+use Rattle.format.specs.Value.{decimal_fine}
 use Rattle.scan.proofs.Decimals.{small, large, at_null}
 use Rattle.quick.proofs.Numbers.{few}
-use Rattle.quick.proofs.Bodies.{sixteen-past}
+use Rattle.quick.proofs.Bodies.{sixteen_past}
 use borrow.Author.Rules.{rules}
 use Rattle.quick.proofs.past_decimal.Statement.{statement}
 use Rattle.quick.proofs.past_decimal.Tie as tie
@@ -30,7 +30,7 @@ returns-2 c =
     let a = c.before.before.before.before.args in
     let low = few a.s.now (λ k. omega (arith, c.before.before.before.shared-slice-known.given k)) 8 (a.at + 8) in
     let below : num_at 8 a.s.now a.at < 5421010862427522170 = omega (arith, c.before.eight.ensures, c.if2.true) in
-    sixteen-past a.s.now a.at decimalFine Decimal (small _ _ low below)
+    sixteen_past a.s.now a.at decimal_fine Decimal (small _ _ low below)
 
 add-result-2 : tie.Need-overflow-add-result-2
 add-result-2 c = search rules
@@ -40,7 +40,7 @@ returns-3 c =
     let a = c.before.before.before.before.before.args in
     let low = few a.s.now (λ k. omega (arith, c.before.before.before.before.shared-slice-known.given k)) 8 (a.at + 8) in
     let above : 13025733211282029445 < num_at 8 a.s.now a.at = omega (arith, c.before.before.eight.ensures, c.if3.true) in
-    sixteen-past a.s.now a.at decimalFine Decimal (large _ _ low above)
+    sixteen_past a.s.now a.at decimal_fine Decimal (large _ _ low above)
 
 returns-4 : tie.Need-returns-4
 returns-4 c = λ there. absurd (omega arith)
@@ -63,7 +63,7 @@ returns-6 c =
     let low = few a.s.now (λ k. omega (arith, c.before.before.before.before.before.before.before.shared-slice-known.given k)) 8 (a.at + 8) in
     let null : num_at 8 a.s.now a.at ≡ 9223372036854775808 = omega (arith, c.before.before.before.before.before.eight.ensures, c.before.before.if4.false) in
     let rest : num_at 8 a.s.now (a.at + 8) ≡ 0 = omega (arith, c.before.eight2.ensures, c.if5.false) in
-    sixteen-past a.s.now a.at decimalFine Decimal (at_null _ _ low null ∙ eq-eqb _ _ rest)
+    sixteen_past a.s.now a.at decimal_fine Decimal (at_null _ _ low null ∙ eq-eqb _ _ rest)
 
 pub past-decimal-spec : {M : Type 1} → statement M
 past-decimal-spec =

@@ -2,7 +2,7 @@
 use Prim.Native.Nat.{◌<◌}
 use native.Mathlib.Omega.{arith}
 use Rattle.format.specs.Number.{num_at}
-use Rattle.quick.proofs.Bodies.{geography-past}
+use Rattle.quick.proofs.Bodies.{geography_past}
 use borrow.Author.Rules.{rules}
 use Rattle.quick.proofs.past_geography.Statement.{statement}
 use Rattle.quick.proofs.past_geography.Tie as tie
@@ -26,7 +26,7 @@ returns-3 : tie.Need-returns-3
 returns-3 c =
     let a = c.before.before.before.before.before.args in
     let filled : 0 < num_at 4 a.s.now a.at = omega (arith, c.before.before.four.ensures.0, c.before.if2.false) in
-    geography-past a.s.now a.at c.past-body.result filled c.past-body.ensures
+    geography_past a.s.now a.at c.past-body.result filled c.past-body.ensures
 
 pub past-geography-spec : {M : Type 1} → statement M
 past-geography-spec =

@@ -1,7 +1,7 @@
 -- `quick::past_name` meets its contract: a body that is there, and whose bytes the rule of names permits. Assumes nothing.
 use native.Mathlib.Omega.{arith}
-use Rattle.format.specs.Value.{mostBytes}
-use Rattle.quick.proofs.Bodies.{sure, name-reads}
+use Rattle.format.specs.Value.{most_bytes}
+use Rattle.quick.proofs.Bodies.{sure, name_reads}
 use borrow.Author.Rules.{rules}
 use Rattle.quick.proofs.past_name.Statement.{statement}
 use Rattle.quick.proofs.past_name.Tie as tie
@@ -21,19 +21,19 @@ returns c = λ there. absurd (omega arith)
 sub-is-surely-name : tie.Need-overflow-sub-is-surely-name
 sub-is-surely-name c =
     let a = c.before.before.before.before.before.args in
-    let is = sure a.s.now a.at mostBytes c.before.before.before.sure-body.ensures c.before.start.given.1 in
+    let is = sure a.s.now a.at most_bytes c.before.before.before.sure-body.ensures c.before.start.given.1 in
     omega (arith, is.0, is.1)
 
 part-is-surely-name-start : tie.Need-slice-bounds-is-surely-name-start
 part-is-surely-name-start c =
     let a = c.before.before.before.before.before.args in
-    let is = sure a.s.now a.at mostBytes c.before.before.before.sure-body.ensures c.before.start.given.1 in
+    let is = sure a.s.now a.at most_bytes c.before.before.before.sure-body.ensures c.before.start.given.1 in
     omega (arith, is.0, is.1)
 
 part-is-surely-name-end : tie.Need-slice-bounds-is-surely-name-end
 part-is-surely-name-end c =
     let a = c.before.before.before.before.before.args in
-    (sure a.s.now a.at mostBytes c.before.before.before.sure-body.ensures c.before.start.given.1).3
+    (sure a.s.now a.at most_bytes c.before.before.before.sure-body.ensures c.before.start.given.1).3
 
 is-surely-name-requires : tie.Need-is-surely-name-requires
 is-surely-name-requires c κs = search rules
@@ -41,7 +41,7 @@ is-surely-name-requires c κs = search rules
 returns-2 : tie.Need-returns-2
 returns-2 c =
     let a = c.before.before.before.before.before.before.before.before.args in
-    λ there. name-reads a.s.now a.at mostBytes c.before.before.before.before.before.before.sure-body.ensures c.before.before.before.before.start.given.1 (omega arith) (c.before.is-surely-name.ensures c.if1.true)
+    λ there. name_reads a.s.now a.at most_bytes c.before.before.before.before.before.before.sure-body.ensures c.before.before.before.before.start.given.1 (omega arith) (c.before.is-surely-name.ensures c.if1.true)
 
 returns-3 : tie.Need-returns-3
 returns-3 c = λ there. absurd (omega arith)

@@ -6,7 +6,7 @@ use native.Mathlib.Omega.{arith}
 use borrow.Author.Rules.{rules}
 use Rattle.format.specs.Value.{string, ascii}
 use Rattle.quick.specs.Past.{Ends}
-use Rattle.quick.proofs.Rows.{ends-turn}
+use Rattle.quick.proofs.Rows.{ends_turn}
 use Rattle.quick.proofs.past_names.Statement.{statement}
 use Rattle.quick.proofs.past_names.Tie as tie
 
@@ -39,7 +39,7 @@ loop-again c =
     let a = c.before.before.before.before.before.args in
     let l = c.before.before.before.loop in
     let there : 0 < c.before.past-name.result = omega (arith, c.if1.false) in
-    (omega (arith, c.before.before.loop-test.true), ends-turn (string false ascii 46 47) a.s.now a.n l.i l.at c.before.before.loop-test.true refl (c.before.past-name.ensures there) ∙ l.invariant.1)
+    (omega (arith, c.before.before.loop-test.true), ends_turn (string false ascii 46 47) a.s.now a.n l.i l.at c.before.before.loop-test.true refl (c.before.past-name.ensures there) ∙ l.invariant.1)
 
 returns-2 : tie.Need-returns-2 invariant-loop decreases-loop
 returns-2 c = c.before.loop.invariant

@@ -3,8 +3,8 @@ use mathlib.Core.Path.{sym, ap₂, ◌∙◌}
 use Prim.Native.Nat.{ℕ, ◌+◌, ◌*◌, ◌^◌}
 use native.Mathlib.Omega.{arith}
 use Rattle.format.specs.declared.Fault.TheVariants.{Point}
-use Rattle.format.specs.Value.{pointFine}
-use Rattle.quick.proofs.Bodies.{sixteen-past}
+use Rattle.format.specs.Value.{point_fine}
+use Rattle.quick.proofs.Bodies.{sixteen_past}
 use borrow.Author.Rules.{rules}
 use Rattle.quick.proofs.past_point.Statement.{statement}
 use Rattle.quick.proofs.past_point.Tie as tie
@@ -33,8 +33,8 @@ add-result c = search rules
 returns-2 : tie.Need-returns-2
 returns-2 c =
     let a = c.before.before.before.before.before.before.args in
-    let halves = ap₂ (λ (x y : ℕ). pointFine (x * 2 ^ 64 + y)) c.before.before.before.eight.ensures c.before.before.eight2.ensures in
-    sixteen-past a.s.now a.at pointFine Point (sym halves ∙ sym c.before.point-fine.ensures ∙ c.if2.true)
+    let halves = ap₂ (λ (x y : ℕ). point_fine (x * 2 ^ 64 + y)) c.before.before.before.eight.ensures c.before.before.eight2.ensures in
+    sixteen_past a.s.now a.at point_fine Point (sym halves ∙ sym c.before.point-fine.ensures ∙ c.if2.true)
 
 returns-3 : tie.Need-returns-3
 returns-3 c = λ there. absurd (omega arith)

@@ -3,7 +3,7 @@ use mathlib.Core.Path.{◌≡◌, sym, ap, ◌∙◌}
 use lib.ListN.{length, take}
 use lib.Seq.{length-take-le}
 use native.Mathlib.Omega.{arith}
-use Rattle.format.specs.Message.{mostRow}
+use Rattle.format.specs.Message.{most_row}
 use Rattle.scan.specs.declared.Next.{Next}
 use Rattle.quick.proofs.Bodies.{sure}
 use Rattle.quick.proofs.Rows.{row_reads}
@@ -26,13 +26,13 @@ returns c = λ there. absurd (omega arith)
 slice-aggregate-past-cells : tie.Need-slice-aggregate-past-cells
 slice-aggregate-past-cells c =
     let a = c.before.before.before.before.before.before.before.args in
-    let is = sure a.s.now a.at mostRow c.before.before.before.before.sure-body.ensures c.before.before.start.given.1 in
+    let is = sure a.s.now a.at most_row c.before.before.before.before.sure-body.ensures c.before.before.start.given.1 in
     sym (length-take-le _ a.s.now is.3)
 
 past-cells-requires : tie.Need-past-cells-requires
 past-cells-requires c κs =
     let b = c.before.before.before.before.before.before.before in
-    let is = sure b.args.s.now b.args.at mostRow c.before.before.before.before.sure-body.ensures c.before.before.start.given.1 in
+    let is = sure b.args.s.now b.args.at most_row c.before.before.before.before.sure-body.ensures c.before.before.start.given.1 in
     (omega (arith, is.0, is.1, length-take-le _ b.args.s.now is.3), b.requires)
 
 returns-2 : tie.Need-returns-2
@@ -40,9 +40,9 @@ returns-2 c =
     let a = c.before.before.before.before.before.before.before.before.before.args in
     let told = c.before.before.before.before.start.given in
     let end = told.0.1.0 in
-    let is = sure a.s.now a.at mostRow c.before.before.before.before.before.before.sure-body.ensures told.1 in
+    let is = sure a.s.now a.at most_row c.before.before.before.before.before.before.sure-body.ensures told.1 in
     let size : length (take end a.s.now) ≡ end = length-take-le end a.s.now is.3 in
-    let cells = c.before.past-cells.ensures (omega (arith, c.if1.true, is.1)) (omega (arith, c.if1.true, size)) ∙ ap Next.At c.if1.true in
+    let cells = c.before.past_cells.ensures (omega (arith, c.if1.true, is.1)) (omega (arith, c.if1.true, size)) ∙ ap Next.At c.if1.true in
     λ there. row_reads a.types.now a.s.now a.at end is.2 is.1 is.3 (rw (sym is.0) cells)
 
 returns-3 : tie.Need-returns-3

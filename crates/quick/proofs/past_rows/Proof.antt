@@ -5,7 +5,7 @@ use native.Mathlib.Omega.{arith}
 use borrow.Author.Rules.{rules}
 use Rattle.format.specs.Message.{row}
 use Rattle.quick.specs.Past.{Ends}
-use Rattle.quick.proofs.Rows.{ends-turn}
+use Rattle.quick.proofs.Rows.{ends_turn}
 use Rattle.quick.proofs.past_rows.Statement.{statement}
 use Rattle.quick.proofs.past_rows.Tie as tie
 
@@ -38,7 +38,7 @@ loop-again c =
     let a = c.before.before.before.before.before.before.args in
     let l = c.before.before.before.loop in
     let there : 0 < c.before.past_row.result = omega (arith, c.if1.false) in
-    (omega (arith, c.before.before.loop-test.true), ends-turn (row a.types.now) a.s.now a.n l.i l.at c.before.before.loop-test.true refl (c.before.past_row.ensures there) ∙ l.invariant.1)
+    (omega (arith, c.before.before.loop-test.true), ends_turn (row a.types.now) a.s.now a.n l.i l.at c.before.before.loop-test.true refl (c.before.past_row.ensures there) ∙ l.invariant.1)
 
 returns-2 : tie.Need-returns-2 invariant-loop decreases-loop
 returns-2 c = c.before.loop.invariant

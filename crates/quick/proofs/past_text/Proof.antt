@@ -1,7 +1,7 @@
 -- `quick::past_text` meets its contract: a body that is there, and that its rule lets pass. Assumes nothing.
 use mathlib.Core.Path.{◌∙◌}
 use native.Mathlib.Omega.{arith}
-use Rattle.quick.proofs.Bodies.{text-past}
+use Rattle.quick.proofs.Bodies.{text_past}
 use borrow.Author.Rules.{rules}
 use Rattle.quick.proofs.past_text.Statement.{statement}
 use Rattle.quick.proofs.past_text.Tie as tie
@@ -46,7 +46,7 @@ returns-4 : tie.Need-returns-4
 returns-4 c =
     let a = c.before.before.before.before.before.before.before.before.args in
     let body = c.before.before.before.before.before.before.past-body in
-    text-past a.s.now a.at body.result body.ensures c.before.before.before.before.before.if1.false c.before.before.torn.ensures c.enum_told.given.1
+    text_past a.s.now a.at body.result body.ensures c.before.before.before.before.before.if1.false c.before.before.torn.ensures c.enum_told.given.1
 
 pub past-text-spec : {M : Type 1} → statement M
 past-text-spec =

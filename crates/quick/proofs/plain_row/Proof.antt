@@ -7,11 +7,11 @@ use native.Mathlib.Omega.{arith}
 use borrow.Author.Rules.{rules}
 use Rattle.format.specs.Message.{third}
 use Rattle.format.specs.Value.{value}
-use Rattle.scan.specs.Shown.{shownNext}
-use Rattle.scan.proofs.Values.{value-fields}
-use Rattle.scan.proofs.Loops.{Rest, loop-map, loop-done, loop-turn}
+use Rattle.scan.specs.Shown.{shown_next}
+use Rattle.scan.proofs.Values.{value_fields}
+use Rattle.scan.proofs.Loops.{Rest, loop_map, loop_done, loop_turn}
 use Rattle.quick.specs.Past.{plain_of}
-use Rattle.quick.proofs.Bodies.{plain-reads}
+use Rattle.quick.proofs.Bodies.{plain_reads}
 use Rattle.quick.proofs.plain_row.Statement.{statement}
 use Rattle.quick.proofs.plain_row.Tie as tie
 
@@ -56,8 +56,8 @@ loop-again c =
       omega (arith, w.1, l.invariant.1),
       λ s at h.
           let place : at + (l.sum + c.before.plain_of_lem.result) ≡ at + l.sum + plain_of t = omega (arith, w.0) in
-          let told = ap shownNext (value-fields s (at + l.sum) 50 51 t) ∙ plain-reads s (at + l.sum) t plain (omega (arith, h, place)) in
-          rw place (loop-turn third (λ j. value 50 51 (get_or types j 0)) s (length types) l.i (at + l.sum) c.before.before.before.loop-test.true refl told ∙ l.invariant.2 s at (omega (arith, h))),
+          let told = ap shown_next (value_fields s (at + l.sum) 50 51 t) ∙ plain_reads s (at + l.sum) t plain (omega (arith, h, place)) in
+          rw place (loop_turn third (λ j. value 50 51 (get_or types j 0)) s (length types) l.i (at + l.sum) c.before.before.before.loop-test.true refl told ∙ l.invariant.2 s at (omega (arith, h))),
     )
 
 returns-2 : tie.Need-returns-2 invariant-loop decreases-loop
@@ -65,8 +65,8 @@ returns-2 c =
     let types = c.before.before.before.args.types.now in
     let l = c.before.loop in (
       λ there s at h.
-          sym (loop-map third s (value 50 51) types at) ∙ sym (l.invariant.2 s at h)
-          ∙ loop-done third (λ j. value 50 51 (get_or types j 0)) s (length types) l.i (at + l.sum) c.loop-test.false,
+          sym (loop_map third s (value 50 51) types at) ∙ sym (l.invariant.2 s at h)
+          ∙ loop_done third (λ j. value 50 51 (get_or types j 0)) s (length types) l.i (at + l.sum) c.loop-test.false,
       omega (arith, l.invariant.0, l.invariant.1, c.before.before.before.requires),
     )
 

@@ -6,13 +6,13 @@ use native.Mathlib.Omega.{arith}
 use borrow.Author.Rules.{rules}
 use borrow.Author.Tests.{not-false}
 use Rattle.format.specs.Message.{row}
-use Rattle.quick.specs.Past.{Ends, PlainRow}
-use Rattle.quick.proofs.Rows.{ends-turn, plain-row-reads}
+use Rattle.quick.specs.Past.{Ends, Plain_row}
+use Rattle.quick.proofs.Rows.{ends_turn, plain_row_reads}
 use Rattle.quick.proofs.plain_rows.Statement.{statement}
 use Rattle.quick.proofs.plain_rows.Tie as tie
 
 abbrev invariant-loop : tie.invariant-loop
-invariant-loop s from n plain at₀ i₀ at i = (i ≤ n) × ((types : List ℕ) → PlainRow types plain → Ends (row types) s (n - i) at ≡ Ends (row types) s n from)
+invariant-loop s from n plain at₀ i₀ at i = (i ≤ n) × ((types : List ℕ) → Plain_row types plain → Ends (row types) s (n - i) at ≡ Ends (row types) s n from)
 
 abbrev decreases-loop : tie.decreases-loop
 decreases-loop s from n plain at₀ i₀ at i = n - i
@@ -51,8 +51,8 @@ loop-again c =
     let stands = c.before.is_plain.ensures (not-false _ c.if1.false) in (
       omega (arith, c.before.before.loop-test.true),
       λ types is.
-          let told = plain-row-reads types a.plain a.s.now l.at is s.requires.0 s.requires.1 stands.0 stands.1 in
-          ends-turn (row types) a.s.now a.n l.i l.at c.before.before.loop-test.true refl told ∙ l.invariant.1 types is,
+          let told = plain_row_reads types a.plain a.s.now l.at is s.requires.0 s.requires.1 stands.0 stands.1 in
+          ends_turn (row types) a.s.now a.n l.i l.at c.before.before.loop-test.true refl told ∙ l.invariant.1 types is,
     )
 
 returns-2 : tie.Need-returns-2 invariant-loop decreases-loop

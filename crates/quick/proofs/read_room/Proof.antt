@@ -1,7 +1,7 @@
 -- `quick::read_room` meets its contract: a body that surely is one is what a longer limit gives too. Assumes nothing.
 use native.Mathlib.Omega.{arith}
-use Rattle.format.specs.Message.{mostMessage}
-use Rattle.quick.proofs.Bodies.{room-reads}
+use Rattle.format.specs.Message.{most_message}
+use Rattle.quick.proofs.Bodies.{room_reads}
 use borrow.Author.Rules.{rules}
 use Rattle.quick.proofs.read_room.Statement.{statement}
 use Rattle.quick.proofs.read_room.Tie as tie
@@ -24,7 +24,7 @@ returns c = search rules
 returns-2 : tie.Need-returns-2
 returns-2 c =
     let a = c.before.before.before.before.before.args in
-    room-reads a.s.now a.at mostMessage c.before.before.before.sure-body.ensures c.before.start.given.1 (omega arith)
+    room_reads a.s.now a.at most_message c.before.before.before.sure-body.ensures c.before.start.given.1 (omega arith)
 
 pub read-room-spec : {M : Type 1} → statement M
 read-room-spec = tie.close (tie.spec sure-body-requires enum-known-start enum_told read-body-requires returns returns-2)

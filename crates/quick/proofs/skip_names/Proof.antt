@@ -4,7 +4,7 @@ use Prim.Native.Nat.{◌-◌}
 use mathlib.Core.Bool.{false}
 use native.Mathlib.Omega.{arith}
 use Rattle.format.specs.Value.{string, ascii}
-use Rattle.quick.proofs.Rows.{ends-done, names-end}
+use Rattle.quick.proofs.Rows.{ends_done, names_end}
 use borrow.Author.Rules.{rules}
 use Rattle.quick.proofs.skip_names.Statement.{statement}
 use Rattle.quick.proofs.skip_names.Tie as tie
@@ -17,7 +17,7 @@ returns c =
     let a = c.before.before.before.before.args in
     let run = c.before.before.past-names in
     let name = string false ascii 46 47 in
-    sym (ends-done name a.s.now a.n run.result.passed run.result.at (omega (arith, c.if1.true))) ∙ run.ensures.1 ∙ sym (names-end name a.s.now a.n a.from)
+    sym (ends_done name a.s.now a.n run.result.passed run.result.at (omega (arith, c.if1.true))) ∙ run.ensures.1 ∙ sym (names_end name a.s.now a.n a.from)
 
 sub-skip-names : tie.Need-overflow-sub-skip-names
 sub-skip-names c = search rules
@@ -30,7 +30,7 @@ returns-2 c =
     let a = c.before.before.before.before.before.before.args in
     let run = c.before.before.before.before.past-names in
     let name = string false ascii 46 47 in
-    c.skip-names.ensures ∙ names-end name a.s.now (a.n - run.result.passed) run.result.at ∙ run.ensures.1 ∙ sym (names-end name a.s.now a.n a.from)
+    c.skip-names.ensures ∙ names_end name a.s.now (a.n - run.result.passed) run.result.at ∙ run.ensures.1 ∙ sym (names_end name a.s.now a.n a.from)
 
 pub skip-names-spec : {M : Type 1} → statement M
 skip-names-spec = tie.close (tie.spec past-names-requires returns sub-skip-names skip-names-requires returns-2)

@@ -4,7 +4,7 @@ use Prim.Native.Nat.{ℕ}
 use native.Mathlib.Omega.{arith}
 use Rattle.format.specs.Message.{row}
 use Rattle.quick.specs.Past.{Ends}
-use Rattle.quick.proofs.Rows.{ends-done}
+use Rattle.quick.proofs.Rows.{ends_done}
 use borrow.Author.Rules.{rules}
 use Rattle.quick.proofs.skip_rows.Statement.{statement}
 use Rattle.quick.proofs.skip_rows.Tie as tie
@@ -19,7 +19,7 @@ returns-2 : tie.Need-returns-2
 returns-2 c =
     let a = c.before.before.before.before.args in
     let none : a.n ≡ 0 = c.if2.true in
-    sym (ap (λ (n : ℕ). Ends (row a.types.now) a.s.now n a.from) none ∙ ends-done (row a.types.now) a.s.now 0 0 a.from (omega arith))
+    sym (ap (λ (n : ℕ). Ends (row a.types.now) a.s.now n a.from) none ∙ ends_done (row a.types.now) a.s.now 0 0 a.from (omega arith))
 
 plain-row-requires : tie.Need-plain-row-requires
 plain-row-requires c κs = search rules
@@ -37,7 +37,7 @@ returns-4 : tie.Need-returns-4
 returns-4 c =
     let a = c.before.before.before.before.before.before.before.before.before.args in
     let run = c.before.before.plain_rows in
-    sym (ends-done (row a.types.now) a.s.now a.n run.result.passed run.result.at (omega (arith, c.if4.true)))
+    sym (ends_done (row a.types.now) a.s.now a.n run.result.passed run.result.at (omega (arith, c.if4.true)))
     ∙ run.ensures.1 a.types.now c.before.before.before.before.plain-Row.ensures.0
 
 sub-skip-ruled : tie.Need-overflow-sub-skip-ruled

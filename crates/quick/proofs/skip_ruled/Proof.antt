@@ -5,7 +5,7 @@ use native.Mathlib.Omega.{arith}
 use borrow.Author.Rules.{rules}
 use Rattle.format.specs.Message.{row}
 use Rattle.quick.specs.Past.{Ends}
-use Rattle.quick.proofs.Rows.{ends-run, ends-done, ends-turn, ends-stop}
+use Rattle.quick.proofs.Rows.{ends_run, ends_done, ends_turn, ends_stop}
 use Rattle.quick.proofs.skip_ruled.Statement.{statement}
 use Rattle.quick.proofs.skip_ruled.Tie as tie
 
@@ -35,8 +35,8 @@ returns c =
     let a = c.before.before.before.before.before.before.before.args in
     let l = c.before.before.before.before.loop in
     let run = c.before.before.past-rows in
-    sym (ends-done (row a.types.now) a.s.now a.n (l.i + run.result.passed) run.result.at (omega (arith, c.if1.true)))
-    ∙ ends-run (row a.types.now) a.s.now a.from a.n l.i l.at run.result run.ensures l.invariant.1
+    sym (ends_done (row a.types.now) a.s.now a.n (l.i + run.result.passed) run.result.at (omega (arith, c.if1.true)))
+    ∙ ends_run (row a.types.now) a.s.now a.from a.n l.i l.at run.result run.ensures l.invariant.1
 
 skip-row-requires : tie.Need-skip-row-requires invariant-loop decreases-loop
 skip-row-requires c κs = search rules
@@ -56,8 +56,8 @@ returns-2 c =
     let l = c.before.before.before.before.before.before.before.before.loop in
     let run = c.before.before.before.before.before.before.past-rows in
     let more : l.i + run.result.passed < a.n = omega (arith, c.before.before.before.before.if1.false, run.ensures.0, c.before.before.before.before.before.before.before.loop-test.true) in
-    sym (ends-stop (row a.types.now) a.s.now a.n (l.i + run.result.passed) run.result.at more c.before.before.before.skip-row.ensures c.before.enum_told.given.1 c.next-refusal.ensures)
-    ∙ ends-run (row a.types.now) a.s.now a.from a.n l.i l.at run.result run.ensures l.invariant.1
+    sym (ends_stop (row a.types.now) a.s.now a.n (l.i + run.result.passed) run.result.at more c.before.before.before.skip-row.ensures c.before.enum_told.given.1 c.next-refusal.ensures)
+    ∙ ends_run (row a.types.now) a.s.now a.from a.n l.i l.at run.result run.ensures l.invariant.1
 
 add-i-2 : tie.Need-overflow-add-i-2 invariant-loop decreases-loop
 add-i-2 c = search rules
@@ -72,15 +72,15 @@ loop-again c =
     let run = c.before.before.before.before.before.before.past-rows in
     let more : l.i + run.result.passed < a.n = omega (arith, c.before.before.before.before.if1.false, run.ensures.0, c.before.before.before.before.before.before.before.loop-test.true) in (
       omega (arith, more),
-      ends-turn (row a.types.now) a.s.now a.n (l.i + run.result.passed) run.result.at more c.before.before.before.skip-row.ensures c.before.step.given.1
-          ∙ ends-run (row a.types.now) a.s.now a.from a.n l.i l.at run.result run.ensures l.invariant.1,
+      ends_turn (row a.types.now) a.s.now a.n (l.i + run.result.passed) run.result.at more c.before.before.before.skip-row.ensures c.before.step.given.1
+          ∙ ends_run (row a.types.now) a.s.now a.from a.n l.i l.at run.result run.ensures l.invariant.1,
     )
 
 returns-3 : tie.Need-returns-3 invariant-loop decreases-loop
 returns-3 c =
     let a = c.before.before.before.before.args in
     let l = c.before.loop in
-    sym (ends-done (row a.types.now) a.s.now a.n l.i l.at c.loop-test.false) ∙ l.invariant.1
+    sym (ends_done (row a.types.now) a.s.now a.n l.i l.at c.loop-test.false) ∙ l.invariant.1
 
 pub skip-ruled-spec : {M : Type 1} → statement M
 skip-ruled-spec =

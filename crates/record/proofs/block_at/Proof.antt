@@ -4,7 +4,7 @@ use Prim.Native.Nat.{◌+◌, ◌≤◌}
 use lib.ListN.{length}
 use native.Mathlib.Omega.{arith}
 use borrow.Author.Tests.{not-true, not-false, leb-true}
-use Rattle.record.proofs.Fields.{block-is, block_none}
+use Rattle.record.proofs.Fields.{block_is, block_none}
 use borrow.Author.Rules.{rules}
 use Rattle.record.proofs.block_at.Statement.{statement}
 use Rattle.record.proofs.block_at.Tie as tie
@@ -25,7 +25,7 @@ add-t7 c =
     omega arith
 
 returns-2 : tie.Need-returns-2
-returns-2 c = block-is c.before.before.before.before.args.s.now c.before.before.before.before.args.at (sym c.before.before.fits2.ensures ∙ not-false _ c.before.if1.false) _ c.eight.ensures
+returns-2 c = block_is c.before.before.before.before.args.s.now c.before.before.before.before.args.at (sym c.before.before.fits2.ensures ∙ not-false _ c.before.if1.false) _ c.eight.ensures
 
 pub block-at-spec : {M : Type 1} → statement M
 block-at-spec = tie.close (tie.spec fits-requires returns eight-requires add-t7 returns-2)

@@ -1,8 +1,8 @@
 -- `record::invocation` meets its contract: what is accepted has the record that is read; what is not has none.
 use mathlib.Core.Path.{◌∙◌}
-use Rattle.format.specs.Message.{readMessage}
-use Rattle.record.specs.Records.{noInvocation}
-use Rattle.record.proofs.Records.{fine-record, refused-record, invocation-says}
+use Rattle.format.specs.Message.{read_message}
+use Rattle.record.specs.Records.{no_invocation}
+use Rattle.record.proofs.Records.{fine_record, refused_record, invocation_says}
 use borrow.Author.Rules.{rules}
 use Rattle.record.proofs.invocation.Statement.{statement}
 use Rattle.record.proofs.invocation.Tie as tie
@@ -22,13 +22,13 @@ enum-told-2 c = search rules
 returns : tie.Need-returns
 returns c =
     let m = c.before.before.before.before.before.args.m.now in
-    let w = readMessage 3 m in
-    (c.before.before.before.accept.ensures, fine-record _ _ w c.before.before.before.accept.result _ c.before.before.before.accept.ensures c.before.enum_told.given.1 (λ r e. c.read-invocation.ensures ∙ invocation-says m r e))
+    let w = read_message 3 m in
+    (c.before.before.before.accept.ensures, fine_record _ _ w c.before.before.before.accept.result _ c.before.before.before.accept.ensures c.before.enum_told.given.1 (λ r e. c.read-invocation.ensures ∙ invocation_says m r e))
 
 returns-2 : tie.Need-returns-2
 returns-2 c =
-    let w = readMessage 3 c.before.before.before.before.args.m.now in
-    (c.before.before.accept.ensures, refused-record _ noInvocation w c.before.before.accept.result c.before.before.accept.ensures c.enum-told2.given.1)
+    let w = read_message 3 c.before.before.before.before.args.m.now in
+    (c.before.before.accept.ensures, refused_record _ no_invocation w c.before.before.accept.result c.before.before.accept.ensures c.enum-told2.given.1)
 
 pub invocation-spec : {M : Type 1} → statement M
 invocation-spec =

@@ -1,8 +1,8 @@
 -- `record::login_request` meets its contract: what is accepted has the record that is read; what is not has none.
 use mathlib.Core.Path.{◌∙◌}
-use Rattle.format.specs.Message.{readMessage}
-use Rattle.record.specs.Records.{noLoginRequest}
-use Rattle.record.proofs.Records.{fine-record, refused-record, login-request-says}
+use Rattle.format.specs.Message.{read_message}
+use Rattle.record.specs.Records.{no_login_request}
+use Rattle.record.proofs.Records.{fine_record, refused_record, login_request_says}
 use borrow.Author.Rules.{rules}
 use Rattle.record.proofs.login_request.Statement.{statement}
 use Rattle.record.proofs.login_request.Tie as tie
@@ -22,13 +22,13 @@ enum-told-2 c = search rules
 returns : tie.Need-returns
 returns c =
     let m = c.before.before.before.before.before.args.m.now in
-    let w = readMessage 1 m in
-    (c.before.before.before.accept.ensures, fine-record _ _ w c.before.before.before.accept.result _ c.before.before.before.accept.ensures c.before.enum_told.given.1 (λ r e. c.read-login-request.ensures ∙ login-request-says m r e))
+    let w = read_message 1 m in
+    (c.before.before.before.accept.ensures, fine_record _ _ w c.before.before.before.accept.result _ c.before.before.before.accept.ensures c.before.enum_told.given.1 (λ r e. c.read-login-request.ensures ∙ login_request_says m r e))
 
 returns-2 : tie.Need-returns-2
 returns-2 c =
-    let w = readMessage 1 c.before.before.before.before.args.m.now in
-    (c.before.before.accept.ensures, refused-record _ noLoginRequest w c.before.before.accept.result c.before.before.accept.ensures c.enum-told2.given.1)
+    let w = read_message 1 c.before.before.before.before.args.m.now in
+    (c.before.before.accept.ensures, refused_record _ no_login_request w c.before.before.accept.result c.before.before.accept.ensures c.enum-told2.given.1)
 
 pub login-request-spec : {M : Type 1} → statement M
 login-request-spec =

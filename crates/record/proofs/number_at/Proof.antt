@@ -2,8 +2,8 @@
 use mathlib.Core.Path.{refl}
 use Prim.Native.Nat.{min}
 use Rattle.format.specs.Format.{number}
-use Rattle.scan.proofs.Answers.{number-go, number-stop}
-use Rattle.record.proofs.Fields.{number_is, number-none}
+use Rattle.scan.proofs.Answers.{number_go, number_stop}
+use Rattle.record.proofs.Fields.{number_is, number_none}
 use borrow.Author.Rules.{rules}
 use Rattle.record.proofs.number_at.Statement.{statement}
 use Rattle.record.proofs.number_at.Tie as tie
@@ -20,12 +20,12 @@ enum_told c = search rules
 returns : tie.Need-returns
 returns c =
     let a = c.before.before.before.before.before.args in
-    number_is a.s.now a.at (min a.width 8) (number-go ((number (min a.width 8) 0).read a.s.now a.at) c.before.before.before.read_number.ensures c.before.number.given.1)
+    number_is a.s.now a.at (min a.width 8) (number_go ((number (min a.width 8) 0).read a.s.now a.at) c.before.before.before.read_number.ensures c.before.number.given.1)
 
 returns-2 : tie.Need-returns-2
 returns-2 c =
     let a = c.before.before.before.before.args in
-    number-none a.s.now a.at (min a.width 8) (number-stop ((number (min a.width 8) 0).read a.s.now a.at) c.before.before.read_number.ensures c.enum_told.given.1 refl)
+    number_none a.s.now a.at (min a.width 8) (number_stop ((number (min a.width 8) 0).read a.s.now a.at) c.before.before.read_number.ensures c.enum_told.given.1 refl)
 
 pub number-at-spec : {M : Type 1} → statement M
 number-at-spec =

@@ -2,7 +2,7 @@
 use mathlib.Core.Path.{◌∙◌}
 use mir.Syntax.{w8, w32}
 use mir.ValLaws.{to_z-of_z}
-use Rattle.record.proofs.Records.{reply-is}
+use Rattle.record.proofs.Records.{reply_is}
 use borrow.Author.Rules.{rules}
 use Rattle.record.proofs.read_flagged.Statement.{statement}
 use Rattle.record.proofs.read_flagged.Tie as tie
@@ -46,7 +46,7 @@ signed32-requires c κs = search rules
 returns : tie.Need-returns
 returns c =
     let a = c.before.before.before.before.before.before.before.before.before.before.before.before.before.args in
-    reply-is a.timed a.m.now a.version a.flags c.before.before.before.before.before.before.before.trip-size.result a.client c.before.before.before.before.before.before.before.before.before.before.before.has-flag.result c.before.before.before.before.before.before.before.before.before.has-flag2.result c.before.before.before.before.before.before.has-flag3.result
+    reply_is a.timed a.m.now a.version a.flags c.before.before.before.before.before.before.before.trip-size.result a.client c.before.before.before.before.before.before.before.before.before.before.before.has-flag.result c.before.before.before.before.before.before.before.before.before.has-flag2.result c.before.before.before.before.before.before.has-flag3.result
     c.before.before.before.before.before.before.before.before.before.before.noted-at.result c.before.before.before.before.before.before.before.before.noted-at2.result c.before.before.before.before.before.noted-at3.result c.before.before.before.before.number_at.result _ _ _ _
     c.before.before.before.before.before.before.before.trip-size.ensures
     c.before.before.before.before.before.before.before.before.before.before.before.has-flag.ensures

@@ -2,7 +2,7 @@
 use mathlib.Core.Path.{◌∙◌}
 use mir.Syntax.{w8}
 use mir.ValLaws.{to_z-of_z}
-use Rattle.record.proofs.Fields.{invocation-is}
+use Rattle.record.proofs.Fields.{invocation_is}
 use borrow.Author.Rules.{rules}
 use Rattle.record.proofs.read_invocation.Statement.{statement}
 use Rattle.record.proofs.read_invocation.Tie as tie
@@ -24,7 +24,7 @@ signed8-requires c κs = search rules
 
 returns : tie.Need-returns
 returns c =
-    invocation-is c.before.before.before.before.before.before.before.args.m.now c.before.before.before.before.before.number_at.result c.before.before.before.before.text_at.result c.before.before.before.block_at.result c.before.number-at2.result _
+    invocation_is c.before.before.before.before.before.before.before.args.m.now c.before.before.before.before.before.number_at.result c.before.before.before.before.text_at.result c.before.before.before.block_at.result c.before.number-at2.result _
     c.before.before.before.before.before.number_at.ensures
     c.before.before.before.before.text_at.ensures
     c.before.before.before.block_at.ensures

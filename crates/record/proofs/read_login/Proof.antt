@@ -2,7 +2,7 @@
 use mathlib.Core.Path.{◌∙◌}
 use mir.Syntax.{w8}
 use mir.ValLaws.{to_z-of_z}
-use Rattle.record.proofs.Fields.{login-is}
+use Rattle.record.proofs.Fields.{login_is}
 use borrow.Author.Rules.{rules}
 use Rattle.record.proofs.read_login.Statement.{statement}
 use Rattle.record.proofs.read_login.Tie as tie
@@ -19,7 +19,7 @@ signed8-requires c κs = search rules
 returns : tie.Need-returns
 returns c =
     let a = c.before.before.before.before.args in
-    login-is a.m.now a.at a.version a.edition a.size _ c.before.before.text_at.result c.before.text-at2.result
+    login_is a.m.now a.at a.version a.edition a.size _ c.before.before.text_at.result c.before.text-at2.result
     (to_z-of_z w8 _ (record { sfits = c.signed8.type-inv }) ∙ c.signed8.ensures)
     c.before.before.text_at.ensures
     c.before.text-at2.ensures

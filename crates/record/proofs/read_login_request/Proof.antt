@@ -2,7 +2,7 @@
 use mathlib.Core.Path.{◌∙◌}
 use mir.Syntax.{w8}
 use mir.ValLaws.{to_z-of_z}
-use Rattle.record.proofs.Fields.{request-0, request-1}
+use Rattle.record.proofs.Fields.{request_0, request_1}
 use borrow.Author.Rules.{rules}
 use Rattle.record.proofs.read_login_request.Statement.{statement}
 use Rattle.record.proofs.read_login_request.Tie as tie
@@ -14,7 +14,7 @@ read-login-requires : tie.Need-read-login-requires
 read-login-requires c κs = search rules
 
 returns : tie.Need-returns
-returns c = c.read-login.ensures ∙ request-0 c.before.before.before.before.args.m.now c.before.before.number_at.result c.before.before.number_at.ensures c.before.if1.true
+returns c = c.read-login.ensures ∙ request_0 c.before.before.before.before.args.m.now c.before.before.number_at.result c.before.before.number_at.ensures c.before.if1.true
 
 number-at-requires-2 : tie.Need-number-at-requires-2
 number-at-requires-2 c κs = search rules
@@ -31,7 +31,7 @@ read-login-requires-2 c κs = search rules
 returns-2 : tie.Need-returns-2
 returns-2 c =
     c.read-login2.ensures
-    ∙ request-1 c.before.before.before.before.before.before.before.args.m.now c.before.before.before.before.before.number_at.result c.before.before.before.number-at2.result _ c.before.hash-size.result
+    ∙ request_1 c.before.before.before.before.before.before.before.args.m.now c.before.before.before.before.before.number_at.result c.before.before.before.number-at2.result _ c.before.hash-size.result
     c.before.before.before.before.before.number_at.ensures
     c.before.before.before.number-at2.ensures
     (to_z-of_z w8 _ (record { sfits = c.before.before.signed8.type-inv }) ∙ c.before.before.signed8.ensures)

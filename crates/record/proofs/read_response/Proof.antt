@@ -5,9 +5,9 @@ use lib.ListN.{length}
 use Rattle.format.specs.Message.{Response}
 use Rattle.record.specs.declared.Num.{Num}
 use Rattle.record.specs.declared.Block.{Block}
-use Rattle.record.specs.Records.{responseOf}
-use Rattle.record.proofs.Fields.{byte-is}
-use Rattle.record.proofs.Records.{replied, response-read}
+use Rattle.record.specs.Records.{response_of}
+use Rattle.record.proofs.Fields.{byte_is}
+use Rattle.record.proofs.Records.{replied, response_read}
 use borrow.Author.Rules.{rules}
 use Rattle.record.proofs.read_response.Statement.{statement}
 use Rattle.record.proofs.read_response.Tie as tie
@@ -29,12 +29,12 @@ returns c =
     λ r e.
     let a = c.before.before.before.before.before.before.args in
     let m = a.m.now in
-    let p = response-read a.timed m r e in
+    let p = response_read a.timed m r e in
     let t = replied a.timed m p.0 (length m) p.1 in
-    let flags = c.before.byte_at.ensures ∙ byte-is m 13 ∙ ap (λ (x : Num). x.n) t.flags in
+    let flags = c.before.byte_at.ensures ∙ byte_is m 13 ∙ ap (λ (x : Num). x.n) t.flags in
     let client = ap (λ (x : Block). x.bytes) (c.before.before.before.block_at.ensures ∙ t.client.0) in
     let version = ap (λ (x : Num). x.n) c.before.before.before.before.number_at.ensures ∙ p.3 in
-    c.read-flagged.ensures p.0 (length m) p.1 flags client ∙ ap₂ (λ (v : ℕ) (l : Response). responseOf v l) version p.2
+    c.read-flagged.ensures p.0 (length m) p.1 flags client ∙ ap₂ (λ (v : ℕ) (l : Response). response_of v l) version p.2
 
 pub read-response-spec : {M : Type 1} → statement M
 read-response-spec =

@@ -2,7 +2,7 @@
 use mathlib.Core.Path.{◌∙◌}
 use mir.Syntax.{w8, w32, w64}
 use mir.ValLaws.{to_z-of_z}
-use Rattle.record.proofs.Fields.{server-is}
+use Rattle.record.proofs.Fields.{server_is}
 use borrow.Author.Rules.{rules}
 use Rattle.record.proofs.read_server.Statement.{statement}
 use Rattle.record.proofs.read_server.Tie as tie
@@ -43,7 +43,7 @@ signed64-requires-2 c κs = search rules
 returns : tie.Need-returns
 returns c =
     let a = c.before.before.before.before.before.before.before.before.before.before.before.before.args in
-    server-is a.m.now a.version a.result
+    server_is a.m.now a.version a.result
     c.before.before.before.before.before.before.before.before.before.before.number_at.result c.before.before.before.before.before.before.before.before.before.number-at2.result c.before.before.before.before.before.before.before.before.number-at3.result c.before.before.before.before.before.before.before.number-at4.result c.before.before.before.before.before.text_at.result _ _ _ _ _ c.before.before.before.before.before.before.bytes_of.result
     c.before.before.before.before.before.before.before.before.before.before.number_at.ensures
     c.before.before.before.before.before.before.before.before.before.number-at2.ensures

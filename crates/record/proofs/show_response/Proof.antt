@@ -1,10 +1,10 @@
 -- `record::show_response` meets its contract: what is accepted has the record that is read; what is not has none.
 use Prim.Native.Nat.{ℕ}
 use mathlib.Core.Path.{◌∙◌, ap}
-use Rattle.format.specs.Message.{readMessage, responseLayout}
-use Rattle.message.specs.Verdict.{verdictOf}
-use Rattle.record.specs.Records.{noResponse}
-use Rattle.record.proofs.Records.{fine-record, refused-record}
+use Rattle.format.specs.Message.{read_message, response_layout}
+use Rattle.message.specs.Verdict.{verdict_of}
+use Rattle.record.specs.Records.{no_response}
+use Rattle.record.proofs.Records.{fine_record, refused_record}
 use borrow.Author.Rules.{rules}
 use Rattle.record.proofs.show_response.Statement.{statement}
 use Rattle.record.proofs.show_response.Tie as tie
@@ -31,15 +31,15 @@ returns : tie.Need-returns
 returns c =
     let a = c.before.before.before.before.before.before.args in
     let m = a.m.now in
-    let told = c.before.before.before.accept-layout.ensures ∙ ap (λ (n : ℕ). verdictOf (readMessage n m)) c.before.before.before.before.response-layout.ensures in
-    (told, fine-record _ _ (readMessage (responseLayout a.timed) m) c.before.before.before.accept-layout.result _ told c.before.enum_told.given.1 c.read-response.ensures)
+    let told = c.before.before.before.accept-layout.ensures ∙ ap (λ (n : ℕ). verdict_of (read_message n m)) c.before.before.before.before.response-layout.ensures in
+    (told, fine_record _ _ (read_message (response_layout a.timed) m) c.before.before.before.accept-layout.result _ told c.before.enum_told.given.1 c.read-response.ensures)
 
 returns-2 : tie.Need-returns-2
 returns-2 c =
     let a = c.before.before.before.before.before.before.args in
     let m = a.m.now in
-    let told = c.before.before.before.accept-layout.ensures ∙ ap (λ (n : ℕ). verdictOf (readMessage n m)) c.before.before.before.before.response-layout.ensures in
-    (told, c.no-response.ensures ∙ refused-record _ noResponse (readMessage (responseLayout a.timed) m) c.before.before.before.accept-layout.result told c.before.enum-told2.given.1)
+    let told = c.before.before.before.accept-layout.ensures ∙ ap (λ (n : ℕ). verdict_of (read_message n m)) c.before.before.before.before.response-layout.ensures in
+    (told, c.no-response.ensures ∙ refused_record _ no_response (read_message (response_layout a.timed) m) c.before.before.before.accept-layout.result told c.before.enum-told2.given.1)
 
 pub show-response-spec : {M : Type 1} → statement M
 show-response-spec =

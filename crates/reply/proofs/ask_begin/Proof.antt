@@ -4,11 +4,11 @@ use native.Mathlib.Omega.{arith}
 use mathlib.Core.Path.{sym, ap, ap₂, ◌∙◌}
 use mathlib.Core.Bool.{true}
 use Rattle.format.specs.Format.{Verdict}
-use Rattle.steps.specs.Steps.{answerAt}
-use Rattle.write.specs.Shown.{shownAnswer}
-use Rattle.write.specs.Shared.{verdictOf}
-use Rattle.reply.specs.Opening.{beginSize}
-use Rattle.reply.proofs.Openings.{sizes-few, refuses}
+use Rattle.steps.specs.Steps.{answer_at}
+use Rattle.write.specs.Shown.{shown_answer}
+use Rattle.write.specs.Shared.{verdict_of}
+use Rattle.reply.specs.Opening.{begin_size}
+use Rattle.reply.proofs.Openings.{sizes_few, refuses}
 use borrow.Author.Rules.{rules}
 use Rattle.reply.proofs.ask_begin.Statement.{statement}
 use Rattle.reply.proofs.ask_begin.Tie as tie
@@ -26,7 +26,7 @@ judge-requires : tie.Need-judge-requires
 judge-requires c κs = search rules
 
 returns : tie.Need-returns
-returns c = c.judge.ensures ∙ ap shownAnswer (refuses 0 (beginSize c.before.before.before.before.before.before.before.args.h c.before.before.before.before.before.before.before.args.status.now c.before.before.before.before.before.before.before.args.app.now c.before.before.before.before.before.before.before.args.exception.now) c.before.before.before.before.before.before.before.args.size c.before.enum-told2.given.1 c.before.before.before.opening-fault.ensures)
+returns c = c.judge.ensures ∙ ap shown_answer (refuses 0 (begin_size c.before.before.before.before.before.before.before.args.h c.before.before.before.before.before.before.before.args.status.now c.before.before.before.before.before.before.before.args.app.now c.before.before.before.before.before.before.before.args.exception.now) c.before.before.before.before.before.before.before.args.size c.before.enum-told2.given.1 c.before.before.before.opening-fault.ensures)
 
 has-flag-requires : tie.Need-has-flag-requires
 has-flag-requires c κs = search rules
@@ -48,19 +48,19 @@ let-in-size-requires-3 c κs = search rules
 
 add-judge : tie.Need-overflow-add-judge
 add-judge c =
-    let few = sizes-few c.before.before.before.before.before.before.before.before.before.before.before.before.args.h c.before.before.before.before.before.before.before.before.before.before.before.before.args.status.now c.before.before.before.before.before.before.before.before.before.before.before.before.args.app.now c.before.before.before.before.before.before.before.before.before.before.before.before.args.exception.now (sym c.before.before.before.before.before.before.before.before.opening-fault.ensures ∙ ap verdictOf c.before.before.before.before.before.before.enum_told.given.1)
+    let few = sizes_few c.before.before.before.before.before.before.before.before.before.before.before.before.args.h c.before.before.before.before.before.before.before.before.before.before.before.before.args.status.now c.before.before.before.before.before.before.before.before.before.before.before.before.args.app.now c.before.before.before.before.before.before.before.before.before.before.before.before.args.exception.now (sym c.before.before.before.before.before.before.before.before.opening-fault.ensures ∙ ap verdict_of c.before.before.before.before.before.before.enum_told.given.1)
     (rw c.before.before.before.before.before.has-flag.ensures at c.before.before.before.before.let-in-size.ensures) (rw c.before.before.before.has-flag2.ensures at c.before.before.let-in-size2.ensures) (rw c.before.has-flag3.ensures at c.let-in-size3.ensures) in
     omega arith
 
 add-judge-2 : tie.Need-overflow-add-judge-2
 add-judge-2 c =
-    let few = sizes-few c.before.before.before.before.before.before.before.before.before.before.before.before.args.h c.before.before.before.before.before.before.before.before.before.before.before.before.args.status.now c.before.before.before.before.before.before.before.before.before.before.before.before.args.app.now c.before.before.before.before.before.before.before.before.before.before.before.before.args.exception.now (sym c.before.before.before.before.before.before.before.before.opening-fault.ensures ∙ ap verdictOf c.before.before.before.before.before.before.enum_told.given.1)
+    let few = sizes_few c.before.before.before.before.before.before.before.before.before.before.before.before.args.h c.before.before.before.before.before.before.before.before.before.before.before.before.args.status.now c.before.before.before.before.before.before.before.before.before.before.before.before.args.app.now c.before.before.before.before.before.before.before.before.before.before.before.before.args.exception.now (sym c.before.before.before.before.before.before.before.before.opening-fault.ensures ∙ ap verdict_of c.before.before.before.before.before.before.enum_told.given.1)
     (rw c.before.before.before.before.before.has-flag.ensures at c.before.before.before.before.let-in-size.ensures) (rw c.before.before.before.has-flag2.ensures at c.before.before.let-in-size2.ensures) (rw c.before.has-flag3.ensures at c.let-in-size3.ensures) in
     omega arith
 
 add-judge-3 : tie.Need-overflow-add-judge-3
 add-judge-3 c =
-    let few = sizes-few c.before.before.before.before.before.before.before.before.before.before.before.before.args.h c.before.before.before.before.before.before.before.before.before.before.before.before.args.status.now c.before.before.before.before.before.before.before.before.before.before.before.before.args.app.now c.before.before.before.before.before.before.before.before.before.before.before.before.args.exception.now (sym c.before.before.before.before.before.before.before.before.opening-fault.ensures ∙ ap verdictOf c.before.before.before.before.before.before.enum_told.given.1)
+    let few = sizes_few c.before.before.before.before.before.before.before.before.before.before.before.before.args.h c.before.before.before.before.before.before.before.before.before.before.before.before.args.status.now c.before.before.before.before.before.before.before.before.before.before.before.before.args.app.now c.before.before.before.before.before.before.before.before.before.before.before.before.args.exception.now (sym c.before.before.before.before.before.before.before.before.opening-fault.ensures ∙ ap verdict_of c.before.before.before.before.before.before.enum_told.given.1)
     (rw c.before.before.before.before.before.has-flag.ensures at c.before.before.before.before.let-in-size.ensures) (rw c.before.before.before.has-flag2.ensures at c.before.before.let-in-size2.ensures) (rw c.before.has-flag3.ensures at c.let-in-size3.ensures) in
     omega arith
 
@@ -73,7 +73,7 @@ returns-2 c =
     let e₁ = rw c.before.before.before.before.has-flag2.ensures at c.before.before.before.let-in-size2.ensures in
     let e₂ = rw c.before.before.has-flag3.ensures at c.before.let-in-size3.ensures in
     c.judge2.ensures
-    ∙ ap₂ (λ (v : Verdict) (n : ℕ). shownAnswer (answerAt true v true 0 n c.before.before.before.before.before.before.before.before.before.before.before.before.before.args.size)) c.before.before.before.before.before.before.before.before.before.opening-fault.ensures (ap (λ (n : ℕ). 22 + n) (ap₂ ◌+◌ e₀ (ap₂ ◌+◌ e₁ e₂)))
+    ∙ ap₂ (λ (v : Verdict) (n : ℕ). shown_answer (answer_at true v true 0 n c.before.before.before.before.before.before.before.before.before.before.before.before.before.args.size)) c.before.before.before.before.before.before.before.before.before.opening-fault.ensures (ap (λ (n : ℕ). 22 + n) (ap₂ ◌+◌ e₀ (ap₂ ◌+◌ e₁ e₂)))
 
 pub ask-begin-spec : {M : Type 1} → statement M
 ask-begin-spec =

@@ -2,7 +2,7 @@
 use Prim.Native.Nat.{◌≤◌}
 use native.Mathlib.Omega.{arith}
 use lib.ListN.{length}
-use Rattle.put.proofs.Laws.{puts, puts-number, puts-both}
+use Rattle.put.proofs.Laws.{puts, puts_number, puts_both}
 use borrow.Author.Rules.{rules}
 use Rattle.reply.proofs.front_at.Statement.{statement}
 use Rattle.reply.proofs.front_at.Tie as tie
@@ -38,12 +38,12 @@ returns : tie.Need-returns
 returns c =
     let room : 15 ≤ length c.before.before.before.before.before.before.before.before.before.before.before.before.before.before.before.before.before.before.before.before.before.before.before.before.before.args.out.now = c.before.before.before.before.before.before.before.before.before.before.before.before.before.before.before.before.before.before.before.before.before.before.before.before.before.requires.1 in
     let eight = c.before.before.before.before.before.before.before.before.before.before.before.before.before.before.before.before.before.before.before.before.before.before.before.before.before.requires.0 in
-    let p = puts-number c.before.before.before.before.before.before.before.before.before.before.before.before.before.before.before.before.before.before.before.before.before.before.before.before.before.args.out.now 0 4 0 (omega arith) c.before.before.before.before.before.before.before.before.before.before.before.before.before.before.before.before.before.before.before.before.before.number_at.ensures in
-    let q = puts-number c.before.before.before.before.before.before.before.before.before.before.before.before.before.before.before.before.before.before.before.before.before.number_at.new.0 c.before.before.before.before.before.before.before.before.before.before.before.before.before.before.before.before.before.before.before.before.before.number_at.result 1 c.before.before.before.before.before.before.before.before.before.before.before.before.before.before.before.before.before.before.before.before.before.before.before.before.before.args.h.version (omega arith) c.before.before.before.before.before.before.before.before.before.before.before.before.before.before.before.before.number-at2.ensures in
+    let p = puts_number c.before.before.before.before.before.before.before.before.before.before.before.before.before.before.before.before.before.before.before.before.before.before.before.before.before.args.out.now 0 4 0 (omega arith) c.before.before.before.before.before.before.before.before.before.before.before.before.before.before.before.before.before.before.before.before.before.number_at.ensures in
+    let q = puts_number c.before.before.before.before.before.before.before.before.before.before.before.before.before.before.before.before.before.before.before.before.before.number_at.new.0 c.before.before.before.before.before.before.before.before.before.before.before.before.before.before.before.before.before.before.before.before.before.number_at.result 1 c.before.before.before.before.before.before.before.before.before.before.before.before.before.before.before.before.before.before.before.before.before.before.before.before.before.args.h.version (omega arith) c.before.before.before.before.before.before.before.before.before.before.before.before.before.before.before.before.number-at2.ensures in
     let r = puts c.before.before.before.before.before.before.before.before.before.before.before.before.before.before.before.before.number-at2.new.0 c.before.before.before.before.before.before.before.before.before.before.before.before.before.before.before.before.number-at2.result 8 c.before.before.before.before.before.before.before.before.before.before.before.before.before.before.before.before.before.before.before.before.before.before.before.before.before.args.client.now eight (omega arith) (rw eight at c.before.before.before.before.before.before.before.before.before.before.before.before.bytes-at.ensures) in
-    let s = puts-number c.before.before.before.before.before.before.before.before.before.before.before.before.bytes-at.new.0 c.before.before.before.before.before.before.before.before.before.before.before.before.bytes-at.result 1 c.before.before.before.before.before.before.before.before.before.before.before.before.before.before.before.before.before.before.before.before.before.before.before.before.before.args.h.flags (omega arith) c.before.before.before.before.before.before.before.number-at3.ensures in
-    let t = puts-number c.before.before.before.before.before.before.before.number-at3.new.0 c.before.before.before.before.before.before.before.number-at3.result 1 c.before.before.before.before.before.before.before.before.before.before.before.before.before.before.before.before.before.before.before.before.before.before.before.before.before.args.h.status (omega arith) c.before.before.number-at4.ensures in
-    let u = puts-both p (puts-both q (puts-both r (puts-both s t))) in
+    let s = puts_number c.before.before.before.before.before.before.before.before.before.before.before.before.bytes-at.new.0 c.before.before.before.before.before.before.before.before.before.before.before.before.bytes-at.result 1 c.before.before.before.before.before.before.before.before.before.before.before.before.before.before.before.before.before.before.before.before.before.before.before.before.before.args.h.flags (omega arith) c.before.before.before.before.before.before.before.number-at3.ensures in
+    let t = puts_number c.before.before.before.before.before.before.before.number-at3.new.0 c.before.before.before.before.before.before.before.number-at3.result 1 c.before.before.before.before.before.before.before.before.before.before.before.before.before.before.before.before.before.before.before.before.before.before.before.before.before.args.h.status (omega arith) c.before.before.number-at4.ensures in
+    let u = puts_both p (puts_both q (puts_both r (puts_both s t))) in
     (u.ends, u.is)
 
 pub front-at-spec : {M : Type 1} → statement M

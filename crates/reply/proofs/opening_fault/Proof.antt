@@ -7,7 +7,7 @@ use Rattle.format.specs.Text.{utf8}
 use Rattle.format.specs.Value.{anything}
 use Rattle.put.specs.Put.{optional}
 use Rattle.steps.specs.Plans.{also}
-use Rattle.steps.specs.Arguments.{textFault, nullTextFault, openingFault}
+use Rattle.steps.specs.Arguments.{text_fault, null_text_fault, opening_fault}
 use borrow.Author.Rules.{rules}
 use Rattle.reply.proofs.opening_fault.Statement.{statement}
 use Rattle.reply.proofs.opening_fault.Tie as tie
@@ -49,11 +49,11 @@ also-requires-4 : tie.Need-also-requires-4
 also-requires-4 c κs = search rules
 
 returns : tie.Need-returns
-unfolding openingFault
+unfolding opening_fault
 returns c =
-    let first = c.before.before.before.before.before.before.before.before.let-in-fault.ensures ∙ ap (λ (t : Bool). pick t (nullTextFault utf8 0 (optional c.before.before.before.before.before.before.before.before.before.before.before.before.before.before.before.before.before.args.h.status_null c.before.before.before.before.before.before.before.before.before.before.before.before.before.before.before.before.before.args.status.now)) fine) c.before.before.before.before.before.before.before.before.before.has-flag.ensures in
-    let second = c.before.before.before.before.before.before.let-in-fault2.ensures ∙ ap (λ (t : Bool). pick t (nullTextFault utf8 0 (optional c.before.before.before.before.before.before.before.before.before.before.before.before.before.before.before.before.before.args.h.app_null c.before.before.before.before.before.before.before.before.before.before.before.before.before.before.before.before.before.args.app.now)) fine) c.before.before.before.before.before.before.before.has-flag2.ensures in
-    let third = c.before.before.before.before.exception-fault.ensures ∙ ap (λ (t : Bool). pick t (textFault anything 0 c.before.before.before.before.before.before.before.before.before.before.before.before.before.before.before.before.before.args.exception.now) fine) c.before.before.before.before.before.has-flag3.ensures in
+    let first = c.before.before.before.before.before.before.before.before.let-in-fault.ensures ∙ ap (λ (t : Bool). pick t (null_text_fault utf8 0 (optional c.before.before.before.before.before.before.before.before.before.before.before.before.before.before.before.before.before.args.h.status_null c.before.before.before.before.before.before.before.before.before.before.before.before.before.before.before.before.before.args.status.now)) fine) c.before.before.before.before.before.before.before.before.before.has-flag.ensures in
+    let second = c.before.before.before.before.before.before.let-in-fault2.ensures ∙ ap (λ (t : Bool). pick t (null_text_fault utf8 0 (optional c.before.before.before.before.before.before.before.before.before.before.before.before.before.before.before.before.before.args.h.app_null c.before.before.before.before.before.before.before.before.before.before.before.before.before.before.before.before.before.args.app.now)) fine) c.before.before.before.before.before.before.before.has-flag2.ensures in
+    let third = c.before.before.before.before.exception-fault.ensures ∙ ap (λ (t : Bool). pick t (text_fault anything 0 c.before.before.before.before.before.before.before.before.before.before.before.before.before.before.before.before.before.args.exception.now) fine) c.before.before.before.before.before.has-flag3.ensures in
     c.also4.ensures
     ∙ ap₂ also c.before.before.before.before.before.before.before.before.before.before.before.before.test.ensures (c.before.also3.ensures
     ∙ ap₂ also c.before.before.before.before.before.before.before.before.before.before.test2.ensures (c.before.before.also2.ensures

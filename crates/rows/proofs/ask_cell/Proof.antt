@@ -6,9 +6,9 @@ use lib.Dec.{ltb, eqb}
 use Rattle.format.specs.declared.Fault.TheVariants.{WireType}
 use Rattle.format.specs.Format.{Verdict}
 use Rattle.steps.specs.Plans.{also, test}
-use Rattle.write.specs.Shared.{verdictOf}
+use Rattle.write.specs.Shared.{verdict_of}
 use Rattle.write.proofs.Seen.{counted}
-use Rattle.format.specs.Message.{mostColumns}
+use Rattle.format.specs.Message.{most_columns}
 use lib.ListN.{length}
 use native.Mathlib.Omega.{arith}
 use borrow.Author.Rules.{rules}
@@ -43,9 +43,9 @@ returns : tie.Need-returns
 returns c =
     let a = c.before.before.before.before.before.before.before.before.before.before.args in
     let st = a.st in
-    let h : length a.types.now ≡ mostColumns = omega arith in
+    let h : length a.types.now ≡ most_columns = omega arith in
     let x = c.before.before.before.before.before.both.ensures ∙ ap₂ ◌&&◌ c.before.before.before.before.before.before.before.before.at_row.ensures (ap (ltb st.inner_count) (c.before.before.before.before.before.before.before.columns-seen.ensures ∙ sym (counted st.columns a.types.now h))) in
-    let y = c.before.also.ensures ∙ ap (λ (v : Verdict). also v (verdictOf a.fault)) (c.before.before.before.test.ensures ∙ ap (λ (t : ℕ). test (eqb a.t t) WireType st.position) c.before.before.before.before.next-type.ensures) in
+    let y = c.before.also.ensures ∙ ap (λ (v : Verdict). also v (verdict_of a.fault)) (c.before.before.before.test.ensures ∙ ap (λ (t : ℕ). test (eqb a.t t) WireType st.position) c.before.before.before.before.next-type.ensures) in
     c.judge.ensures ∙ rw (x, y, c.before.before.row_keeps.ensures)
 
 pub ask-cell-spec : {M : Type 1} → statement M

@@ -4,12 +4,12 @@ use Prim.Native.Nat.{◌+◌, ◌-◌, ◌≤◌}
 use native.Mathlib.Omega.{arith}
 use mathlib.Core.Path.{◌≡◌}
 use lib.ListN.{length}
-use Rattle.format.specs.Message.{mostMessage}
-use Rattle.steps.specs.Steps.{closeTable}
+use Rattle.format.specs.Message.{most_message}
+use Rattle.steps.specs.Steps.{close_table}
 use Rattle.write.specs.Shown.{seen}
-use Rattle.write.proofs.Taken.{step-refused, step-accepted, step-taken}
-use Rattle.write.proofs.Filled.{filled-length, fill-two}
-use Rattle.rows.proofs.Closings.{table-fills}
+use Rattle.write.proofs.Taken.{step_refused, step_accepted, step_taken}
+use Rattle.write.proofs.Filled.{filled_length, fill_two}
+use Rattle.rows.proofs.Closings.{table_fills}
 use borrow.Author.Rules.{rules}
 use Rattle.rows.proofs.close_table.Statement.{statement}
 use Rattle.rows.proofs.close_table.Tie as tie
@@ -24,26 +24,26 @@ enum_told : tie.Need-enum-told
 enum_told c = search rules
 
 returns : tie.Need-returns
-returns c = step-refused closeTable c.before.before.before.before.args.st c.before.before.before.before.args.out.now c.before.before.before.before.args.types.now c.before.before.ask-close-table.ensures c.enum_told.given.1
+returns c = step_refused close_table c.before.before.before.before.args.st c.before.before.before.before.args.out.now c.before.before.before.before.args.types.now c.before.before.ask-close-table.ensures c.enum_told.given.1
 
 add-number-at : tie.Need-overflow-add-number-at
 add-number-at c =
-    let f = (table-fills (seen c.before.before.before.before.before.before.before.args.st c.before.before.before.before.before.before.before.args.types.now) (length c.before.before.before.before.before.before.before.args.out.now) _ (step-accepted closeTable c.before.before.before.before.before.before.before.args.st c.before.before.before.before.before.before.before.args.out.now c.before.before.before.before.before.before.before.args.types.now c.before.before.before.before.before.ask-close-table.ensures c.before.before.before.a.given.1)).0 in
+    let f = (table_fills (seen c.before.before.before.before.before.before.before.args.st c.before.before.before.before.before.before.before.args.types.now) (length c.before.before.before.before.before.before.before.args.out.now) _ (step_accepted close_table c.before.before.before.before.before.before.before.args.st c.before.before.before.before.before.before.before.args.out.now c.before.before.before.before.before.before.before.args.types.now c.before.before.before.before.before.ask-close-table.ensures c.before.before.before.a.given.1)).0 in
     let h : c.before.before.before.before.before.before.before.args.st.table_at + 4 ≤ c.before.before.before.before.before.before.before.args.st.position = f.inside in
-    let k : c.before.before.before.before.before.before.before.args.st.position ≤ 4 + mostMessage = f.few in
+    let k : c.before.before.before.before.before.before.before.args.st.position ≤ 4 + most_message = f.few in
     omega arith
 
 sub-number-at : tie.Need-overflow-sub-number-at
-sub-number-at c = (table-fills (seen c.before.before.before.before.before.before.before.before.args.st c.before.before.before.before.before.before.before.before.args.types.now) (length c.before.before.before.before.before.before.before.before.args.out.now) _ (step-accepted closeTable c.before.before.before.before.before.before.before.before.args.st c.before.before.before.before.before.before.before.before.args.out.now c.before.before.before.before.before.before.before.before.args.types.now c.before.before.before.before.before.before.ask-close-table.ensures c.before.before.before.before.a.given.1)).0.inside
+sub-number-at c = (table_fills (seen c.before.before.before.before.before.before.before.before.args.st c.before.before.before.before.before.before.before.before.args.types.now) (length c.before.before.before.before.before.before.before.before.args.out.now) _ (step_accepted close_table c.before.before.before.before.before.before.before.before.args.st c.before.before.before.before.before.before.before.before.args.out.now c.before.before.before.before.before.before.before.before.args.types.now c.before.before.before.before.before.before.ask-close-table.ensures c.before.before.before.before.a.given.1)).0.inside
 
 number-at-requires : tie.Need-number-at-requires
-number-at-requires c κs = (table-fills (seen c.before.before.before.before.before.before.before.before.args.st c.before.before.before.before.before.before.before.before.args.types.now) (length c.before.before.before.before.before.before.before.before.args.out.now) _ (step-accepted closeTable c.before.before.before.before.before.before.before.before.args.st c.before.before.before.before.before.before.before.before.args.out.now c.before.before.before.before.before.before.before.before.args.types.now c.before.before.before.before.before.before.ask-close-table.ensures c.before.before.before.before.a.given.1)).0.room
+number-at-requires c κs = (table_fills (seen c.before.before.before.before.before.before.before.before.args.st c.before.before.before.before.before.before.before.before.args.types.now) (length c.before.before.before.before.before.before.before.before.args.out.now) _ (step_accepted close_table c.before.before.before.before.before.before.before.before.args.st c.before.before.before.before.before.before.before.before.args.out.now c.before.before.before.before.before.before.before.before.args.types.now c.before.before.before.before.before.before.ask-close-table.ensures c.before.before.before.before.a.given.1)).0.room
 
 number-at-requires-2 : tie.Need-number-at-requires-2
 number-at-requires-2 c κs =
-    let f = table-fills (seen c.before.before.before.before.before.before.before.before.before.before.before.before.args.st c.before.before.before.before.before.before.before.before.before.before.before.before.args.types.now) (length c.before.before.before.before.before.before.before.before.before.before.before.before.args.out.now) _ (step-accepted closeTable c.before.before.before.before.before.before.before.before.before.before.before.before.args.st c.before.before.before.before.before.before.before.before.before.before.before.before.args.out.now c.before.before.before.before.before.before.before.before.before.before.before.before.args.types.now c.before.before.before.before.before.before.before.before.before.before.ask-close-table.ensures c.before.before.before.before.before.before.before.before.a.given.1) in
+    let f = table_fills (seen c.before.before.before.before.before.before.before.before.before.before.before.before.args.st c.before.before.before.before.before.before.before.before.before.before.before.before.args.types.now) (length c.before.before.before.before.before.before.before.before.before.before.before.before.args.out.now) _ (step_accepted close_table c.before.before.before.before.before.before.before.before.before.before.before.before.args.st c.before.before.before.before.before.before.before.before.before.before.before.before.args.out.now c.before.before.before.before.before.before.before.before.before.before.before.before.args.types.now c.before.before.before.before.before.before.before.before.before.before.ask-close-table.ensures c.before.before.before.before.before.before.before.before.a.given.1) in
     let h : c.before.before.before.before.before.before.before.before.before.before.before.before.args.st.rows_at + 4 ≤ length c.before.before.before.before.before.before.before.before.before.before.before.before.args.out.now = f.1.room in
-    let same = filled-length c.before.before.before.before.before.before.before.before.before.before.before.before.args.out.now c.before.before.before.before.before.before.before.before.before.before.before.before.args.st.table_at 4 (c.before.before.before.before.before.before.before.before.before.before.before.before.args.st.position - (c.before.before.before.before.before.before.before.before.before.before.before.before.args.st.table_at + 4)) f.0.room c.before.before.before.number_at.ensures.1 in
+    let same = filled_length c.before.before.before.before.before.before.before.before.before.before.before.before.args.out.now c.before.before.before.before.before.before.before.before.before.before.before.before.args.st.table_at 4 (c.before.before.before.before.before.before.before.before.before.before.before.before.args.st.position - (c.before.before.before.before.before.before.before.before.before.before.before.before.args.st.table_at + 4)) f.0.room c.before.before.before.number_at.ensures.1 in
     rw same h
 
 between-requires : tie.Need-between-requires
@@ -54,8 +54,8 @@ same_length c = search rules
 
 returns-2 : tie.Need-returns-2
 returns-2 c =
-    step-taken closeTable c.before.before.before.before.before.before.before.before.before.before.before.before.before.before.before.before.args.st c.before.before.before.before.before.before.before.before.before.before.before.before.before.before.before.before.args.out.now c.before.before.before.before.before.before.before.before.before.before.before.before.before.before.before.before.args.types.now c.before.before.before.before.before.before.before.before.before.before.before.before.before.before.ask-close-table.ensures c.before.before.before.before.before.before.before.before.before.before.before.before.a.given.1 c.between.ensures
-    (fill-two c.before.before.before.before.before.before.before.before.before.before.before.before.before.before.before.before.args.out.now c.before.before.before.before.before.before.before.before.before.before.before.before.before.before.before.before.args.st.position c.before.before.before.before.before.before.before.before.before.before.before.before.before.before.before.before.args.st.table_at 4 (c.before.before.before.before.before.before.before.before.before.before.before.before.before.before.before.before.args.st.position - (c.before.before.before.before.before.before.before.before.before.before.before.before.before.before.before.before.args.st.table_at + 4)) c.before.before.before.before.before.before.before.before.before.before.before.before.before.before.before.before.args.st.rows_at 4 c.before.before.before.before.before.before.before.before.before.before.before.before.before.before.before.before.args.st.rows
+    step_taken close_table c.before.before.before.before.before.before.before.before.before.before.before.before.before.before.before.before.args.st c.before.before.before.before.before.before.before.before.before.before.before.before.before.before.before.before.args.out.now c.before.before.before.before.before.before.before.before.before.before.before.before.before.before.before.before.args.types.now c.before.before.before.before.before.before.before.before.before.before.before.before.before.before.ask-close-table.ensures c.before.before.before.before.before.before.before.before.before.before.before.before.a.given.1 c.between.ensures
+    (fill_two c.before.before.before.before.before.before.before.before.before.before.before.before.before.before.before.before.args.out.now c.before.before.before.before.before.before.before.before.before.before.before.before.before.before.before.before.args.st.position c.before.before.before.before.before.before.before.before.before.before.before.before.before.before.before.before.args.st.table_at 4 (c.before.before.before.before.before.before.before.before.before.before.before.before.before.before.before.before.args.st.position - (c.before.before.before.before.before.before.before.before.before.before.before.before.before.before.before.before.args.st.table_at + 4)) c.before.before.before.before.before.before.before.before.before.before.before.before.before.before.before.before.args.st.rows_at 4 c.before.before.before.before.before.before.before.before.before.before.before.before.before.before.before.before.args.st.rows
     c.before.before.before.before.before.before.before.number_at.ensures.1 c.before.before.before.number-at2.ensures.1)
 
 pub close-table-spec : {M : Type 1} → statement M

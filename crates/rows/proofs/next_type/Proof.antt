@@ -1,6 +1,6 @@
 -- `rows::next_type` meets its contract: by the tests. Assumes nothing.
 use mathlib.Core.Path.{sym}
-use Rattle.rows.proofs.Cells.{none_seen, none_left, next-is}
+use Rattle.rows.proofs.Cells.{none_seen, none_left, next_is}
 use borrow.Author.Rules.{rules}
 use Rattle.rows.proofs.next_type.Statement.{statement}
 use Rattle.rows.proofs.next_type.Tie as tie
@@ -15,7 +15,7 @@ element-copy-out-result : tie.Need-element-copy-out-result
 element-copy-out-result c = search rules
 
 returns-3 : tie.Need-returns-3
-returns-3 c = let a = c.before.before.before.args in sym (next-is a.columns a.types.now a.cells c.before.before.if1.false c.before.if2.false)
+returns-3 c = let a = c.before.before.before.args in sym (next_is a.columns a.types.now a.cells c.before.before.if1.false c.before.if2.false)
 
 pub next-type-spec : {M : Type 1} → statement M
 next-type-spec = tie.close (tie.spec returns returns-2 element-copy-out-result returns-3)

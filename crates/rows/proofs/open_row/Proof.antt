@@ -2,11 +2,11 @@
 use Prim.Native.Nat.{◌+◌, ◌≤◌}
 use native.Mathlib.Omega.{arith}
 use mathlib.Core.Path.{refl, ◌≡◌, ◌∙◌}
-use Rattle.format.specs.Message.{unlimited, mostColumns}
-use Rattle.format.proofs.Numbers.{length-numBytes}
-use Rattle.steps.specs.Steps.{openRow}
-use Rattle.write.proofs.Taken.{step-refused, step-accepted, step-taken, room, counts}
-use Rattle.write.proofs.Seen.{tabled-shown}
+use Rattle.format.specs.Message.{unlimited, most_columns}
+use Rattle.format.proofs.Numbers.{length-num_bytes}
+use Rattle.steps.specs.Steps.{open_row}
+use Rattle.write.proofs.Taken.{step_refused, step_accepted, step_taken, room, counts}
+use Rattle.write.proofs.Seen.{tabled_shown}
 use lib.ListN.{length}
 use borrow.Author.Rules.{rules}
 use Rattle.rows.proofs.open_row.Statement.{statement}
@@ -22,14 +22,14 @@ enum_told : tie.Need-enum-told
 enum_told c = search rules
 
 returns : tie.Need-returns
-returns c = step-refused openRow c.before.before.before.before.before.args.st c.before.before.before.before.before.args.out.now c.before.before.before.before.before.args.types.now c.before.before.ask-open-row.ensures c.enum_told.given.1
+returns c = step_refused open_row c.before.before.before.before.before.args.st c.before.before.before.before.before.args.out.now c.before.before.before.before.before.args.types.now c.before.before.ask-open-row.ensures c.enum_told.given.1
 
 number-at-requires : tie.Need-number-at-requires
-number-at-requires c κs = room (step-accepted openRow c.before.before.before.before.before.before.before.args.st c.before.before.before.before.before.before.before.args.out.now c.before.before.before.before.before.before.before.args.types.now c.before.before.before.before.ask-open-row.ensures c.before.before.a.given.1) (length-numBytes 4 0)
+number-at-requires c κs = room (step_accepted open_row c.before.before.before.before.before.before.before.args.st c.before.before.before.before.before.before.before.args.out.now c.before.before.before.before.before.before.before.args.types.now c.before.before.before.before.ask-open-row.ensures c.before.before.a.given.1) (length-num_bytes 4 0)
 
 add-in-table : tie.Need-overflow-add-in-table
 add-in-table c =
-    let h : c.before.before.before.before.before.before.before.before.before.before.before.args.st.rows + 1 ≤ unlimited = counts c.before.before.before.before.before.before.before.before.before.before.before.args.st.rows unlimited (step-accepted openRow c.before.before.before.before.before.before.before.before.before.before.before.args.st c.before.before.before.before.before.before.before.before.before.before.before.args.out.now c.before.before.before.before.before.before.before.before.before.before.before.args.types.now c.before.before.before.before.before.before.before.before.ask-open-row.ensures c.before.before.before.before.before.before.a.given.1) refl in
+    let h : c.before.before.before.before.before.before.before.before.before.before.before.args.st.rows + 1 ≤ unlimited = counts c.before.before.before.before.before.before.before.before.before.before.before.args.st.rows unlimited (step_accepted open_row c.before.before.before.before.before.before.before.before.before.before.before.args.st c.before.before.before.before.before.before.before.before.before.before.before.args.out.now c.before.before.before.before.before.before.before.before.before.before.before.args.types.now c.before.before.before.before.before.before.before.before.ask-open-row.ensures c.before.before.before.before.before.before.a.given.1) refl in
     omega arith
 
 in-table-requires : tie.Need-in-table-requires
@@ -40,8 +40,8 @@ same_length c = search rules
 
 returns-2 : tie.Need-returns-2
 returns-2 c =
-    let h : length c.before.before.before.before.before.before.before.before.before.before.before.before.args.types.now ≡ mostColumns = omega arith in
-    step-taken openRow c.before.before.before.before.before.before.before.before.before.before.before.before.args.st c.before.before.before.before.before.before.before.before.before.before.before.before.args.out.now c.before.before.before.before.before.before.before.before.before.before.before.before.args.types.now c.before.before.before.before.before.before.before.before.before.ask-open-row.ensures c.before.before.before.before.before.before.before.a.given.1 (c.in_table.ensures ∙ tabled-shown c.before.before.before.before.before.before.before.before.before.before.before.before.args.st c.before.before.before.before.before.before.before.before.before.before.before.before.args.types.now _ _ _ _ _ h) c.before.before.before.before.number_at.ensures.1
+    let h : length c.before.before.before.before.before.before.before.before.before.before.before.before.args.types.now ≡ most_columns = omega arith in
+    step_taken open_row c.before.before.before.before.before.before.before.before.before.before.before.before.args.st c.before.before.before.before.before.before.before.before.before.before.before.before.args.out.now c.before.before.before.before.before.before.before.before.before.before.before.before.args.types.now c.before.before.before.before.before.before.before.before.before.ask-open-row.ensures c.before.before.before.before.before.before.before.a.given.1 (c.in_table.ensures ∙ tabled_shown c.before.before.before.before.before.before.before.before.before.before.before.before.args.st c.before.before.before.before.before.before.before.before.before.before.before.before.args.types.now _ _ _ _ _ h) c.before.before.before.before.number_at.ensures.1
 
 pub open-row-spec : {M : Type 1} → statement M
 open-row-spec =

@@ -4,7 +4,7 @@ use native.Mathlib.Omega.{arith}
 use mir.Syntax.{w64}
 use borrow.Author.Rules.{rules}
 use borrow.Author.Tests.{lt-ltb, le-ltb}
-use Rattle.scan.proofs.Twos.{down_fits, down-back, whole}
+use Rattle.scan.proofs.Twos.{down_fits, down_back, whole}
 use Rattle.scan.proofs.signed64.Statement.{statement}
 use Rattle.scan.proofs.signed64.Tie as tie
 
@@ -24,7 +24,7 @@ returns : tie.Need-returns
 returns c = simp (whole c.before.args.n c.before.ranges.n.fits, lt-ltb _ _ c.if1.true)
 
 returns-2 : tie.Need-returns-2
-returns-2 c = simp (whole c.before.args.n c.before.ranges.n.fits, le-ltb _ _ c.if1.false) (down-back w64 (18446744073709551615 - c.before.args.n) (omega arith))
+returns-2 c = simp (whole c.before.args.n c.before.ranges.n.fits, le-ltb _ _ c.if1.false) (down_back w64 (18446744073709551615 - c.before.args.n) (omega arith))
 
 pub signed64-spec : {M : Type 1} → statement M
 signed64-spec =

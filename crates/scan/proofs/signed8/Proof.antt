@@ -4,7 +4,7 @@ use native.Mathlib.Omega.{arith}
 use mir.Syntax.{w8}
 use borrow.Author.Rules.{rules}
 use borrow.Author.Tests.{lt-ltb, le-ltb}
-use Rattle.scan.proofs.Twos.{down_fits, down-back}
+use Rattle.scan.proofs.Twos.{down_fits, down_back}
 use Rattle.scan.proofs.signed8.Statement.{statement}
 use Rattle.scan.proofs.signed8.Tie as tie
 
@@ -24,7 +24,7 @@ returns : tie.Need-returns
 returns c = simp (lt-ltb _ _ c.if1.true)
 
 returns-2 : tie.Need-returns-2
-returns-2 c = simp (le-ltb _ _ c.if1.false) (down-back w8 (255 - c.before.args.n % 256 ^ 1) (omega arith))
+returns-2 c = simp (le-ltb _ _ c.if1.false) (down_back w8 (255 - c.before.args.n % 256 ^ 1) (omega arith))
 
 pub signed8-spec : {M : Type 1} → statement M
 signed8-spec =

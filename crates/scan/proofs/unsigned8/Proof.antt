@@ -4,7 +4,7 @@ use native.Mathlib.Omega.{arith}
 use mathlib.Core.Path.{refl}
 use lib.Signed.{mag}
 use mir.Syntax.{w8}
-use Rattle.scan.proofs.Unsigned.{wider, low-bytes}
+use Rattle.scan.proofs.Unsigned.{wider, low_bytes}
 use borrow.Author.Rules.{rules}
 use Rattle.scan.proofs.unsigned8.Statement.{statement}
 use Rattle.scan.proofs.unsigned8.Tie as tie
@@ -19,7 +19,7 @@ returns : tie.Need-returns
 returns c =
     let s = c.before in
     let l : mag s.args.z < 2 ^ 7 = s.ranges.z.sfits in
-    low-bytes w8 s.args.z s.ranges.z (omega arith) 1 72057594037927936 (omega arith) refl (omega arith) c.unsigned64.ensures
+    low_bytes w8 s.args.z s.ranges.z (omega arith) 1 72057594037927936 (omega arith) refl (omega arith) c.unsigned64.ensures
 
 pub unsigned8-spec : {M : Type 1} → statement M
 unsigned8-spec = tie.close (tie.spec cast-unsigned64 unsigned64-requires returns)

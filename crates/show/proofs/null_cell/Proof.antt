@@ -1,15 +1,15 @@
 -- `show::null_cell` meets its contract: type by type.
 use mathlib.Core.Path.{sym, ap}
 use borrow.Author.Tests.{ne_eqb}
-use Rattle.show.specs.Cells.{nullCell}
+use Rattle.show.specs.Cells.{null_cell}
 use Rattle.show.proofs.null_cell.Statement.{statement}
 use Rattle.show.proofs.null_cell.Tie as tie
 
 returns : tie.Need-returns
-returns c = sym (ap nullCell c.match.keys1)
+returns c = sym (ap null_cell c.match.keys1)
 
 returns-2 : tie.Need-returns-2
-returns-2 c = sym (ap nullCell c.match.keys2)
+returns-2 c = sym (ap null_cell c.match.keys2)
 
 returns-3 : tie.Need-returns-3
 returns-3 c = let n = c.match.rest in simp (ne_eqb _ 9 n.0.1, ne_eqb _ 25 n.1)

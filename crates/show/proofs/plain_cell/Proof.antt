@@ -5,7 +5,7 @@ use borrow.Author.Tests.{ne_eqb}
 use mir.Syntax.{w8, w16, w32, w64}
 use mir.ValLaws.{to_z-of_z}
 use Rattle.show.specs.declared.Cell.{Cell}
-use Rattle.show.specs.Cells.{plainCell}
+use Rattle.show.specs.Cells.{plain_cell}
 use borrow.Author.Rules.{rules}
 use Rattle.show.proofs.plain_cell.Statement.{statement}
 use Rattle.show.proofs.plain_cell.Tie as tie
@@ -29,27 +29,27 @@ signed64-requires-2 : tie.Need-signed64-requires-2
 signed64-requires-2 c κs = search rules
 
 returns : tie.Need-returns
-unfolding plainCell
-returns c = ap Cell.Tinyint (to_z-of_z w8 _ (record { sfits = c.signed8.type-inv }) ∙ c.signed8.ensures) ∙ sym (ap (λ (t : ℕ). plainCell t c.before.before.args.n) c.before.match.keys1)
+unfolding plain_cell
+returns c = ap Cell.Tinyint (to_z-of_z w8 _ (record { sfits = c.signed8.type-inv }) ∙ c.signed8.ensures) ∙ sym (ap (λ (t : ℕ). plain_cell t c.before.before.args.n) c.before.match.keys1)
 
 returns-2 : tie.Need-returns-2
-unfolding plainCell
-returns-2 c = ap Cell.Smallint (to_z-of_z w16 _ (record { sfits = c.signed16.type-inv }) ∙ c.signed16.ensures) ∙ sym (ap (λ (t : ℕ). plainCell t c.before.before.args.n) c.before.match.keys2)
+unfolding plain_cell
+returns-2 c = ap Cell.Smallint (to_z-of_z w16 _ (record { sfits = c.signed16.type-inv }) ∙ c.signed16.ensures) ∙ sym (ap (λ (t : ℕ). plain_cell t c.before.before.args.n) c.before.match.keys2)
 
 returns-3 : tie.Need-returns-3
-unfolding plainCell
-returns-3 c = ap Cell.Integer (to_z-of_z w32 _ (record { sfits = c.signed32.type-inv }) ∙ c.signed32.ensures) ∙ sym (ap (λ (t : ℕ). plainCell t c.before.before.args.n) c.before.match.keys3)
+unfolding plain_cell
+returns-3 c = ap Cell.Integer (to_z-of_z w32 _ (record { sfits = c.signed32.type-inv }) ∙ c.signed32.ensures) ∙ sym (ap (λ (t : ℕ). plain_cell t c.before.before.args.n) c.before.match.keys3)
 
 returns-4 : tie.Need-returns-4
-unfolding plainCell
-returns-4 c = c.float-cell.ensures ∙ sym (ap (λ (t : ℕ). plainCell t c.before.before.args.n) c.before.match.keys4)
+unfolding plain_cell
+returns-4 c = c.float-cell.ensures ∙ sym (ap (λ (t : ℕ). plain_cell t c.before.before.args.n) c.before.match.keys4)
 
 returns-5 : tie.Need-returns-5
-unfolding plainCell
-returns-5 c = ap Cell.Timestamp (to_z-of_z w64 _ (record { sfits = c.signed64.type-inv }) ∙ c.signed64.ensures) ∙ sym (ap (λ (t : ℕ). plainCell t c.before.before.args.n) c.before.match.keys5)
+unfolding plain_cell
+returns-5 c = ap Cell.Timestamp (to_z-of_z w64 _ (record { sfits = c.signed64.type-inv }) ∙ c.signed64.ensures) ∙ sym (ap (λ (t : ℕ). plain_cell t c.before.before.args.n) c.before.match.keys5)
 
 returns-6 : tie.Need-returns-6
-unfolding plainCell
+unfolding plain_cell
 returns-6 c =
     let t = c.before.before.args.t in
     let n = c.before.match.rest in

@@ -3,10 +3,10 @@ use mathlib.Core.Path.{sym, ap, ap₂, ◌∙◌}
 use mir.Syntax.{w8, w16, w32, w64}
 use mir.Val.{SFits}
 use mir.ValLaws.{to_z-of_z}
-use Rattle.format.specs.Value.{tTinyint, tSmallint, tInteger, tBigint, tFloat, tTimestamp, tDecimal, tPoint}
+use Rattle.format.specs.Value.{t_tinyint, t_smallint, t_integer, t_bigint, t_float, t_timestamp, t_decimal, t_point}
 use Rattle.scan.specs.Signed.{unsigned}
 use Rattle.show.specs.declared.Raw.{Raw}
-use Rattle.show.specs.Cells.{rawOf}
+use Rattle.show.specs.Cells.{raw_of}
 use borrow.Author.Rules.{rules}
 use Rattle.show.proofs.raw_of.Statement.{statement}
 use Rattle.show.proofs.raw_of.Tie as tie
@@ -90,67 +90,67 @@ returns : tie.Need-returns
 returns c =
     let m = c.before.before.c.given in
     let f : SFits w8 m.0.0 = search rules in
-    ap (Raw.Bits tTinyint 0) (c.unsigned8.ensures ∙ ap (unsigned 1) (to_z-of_z w8 m.0.0 f)) ∙ sym (ap rawOf m.1)
+    ap (Raw.Bits t_tinyint 0) (c.unsigned8.ensures ∙ ap (unsigned 1) (to_z-of_z w8 m.0.0 f)) ∙ sym (ap raw_of m.1)
 
 returns-2 : tie.Need-returns-2
 returns-2 c =
     let m = c.before.before.c2.given in
     let f : SFits w16 m.0.0 = search rules in
-    ap (Raw.Bits tSmallint 0) (c.unsigned16.ensures ∙ ap (unsigned 2) (to_z-of_z w16 m.0.0 f)) ∙ sym (ap rawOf m.1)
+    ap (Raw.Bits t_smallint 0) (c.unsigned16.ensures ∙ ap (unsigned 2) (to_z-of_z w16 m.0.0 f)) ∙ sym (ap raw_of m.1)
 
 returns-3 : tie.Need-returns-3
 returns-3 c =
     let m = c.before.before.c3.given in
     let f : SFits w32 m.0.0 = search rules in
-    ap (Raw.Bits tInteger 0) (c.unsigned32.ensures ∙ ap (unsigned 4) (to_z-of_z w32 m.0.0 f)) ∙ sym (ap rawOf m.1)
+    ap (Raw.Bits t_integer 0) (c.unsigned32.ensures ∙ ap (unsigned 4) (to_z-of_z w32 m.0.0 f)) ∙ sym (ap raw_of m.1)
 
 returns-4 : tie.Need-returns-4
 returns-4 c =
     let m = c.before.before.c4.given in
     let f : SFits w64 m.0.0 = search rules in
-    ap (Raw.Bits tBigint 0) (c.unsigned64.ensures ∙ ap (unsigned 8) (to_z-of_z w64 m.0.0 f)) ∙ sym (ap rawOf m.1)
+    ap (Raw.Bits t_bigint 0) (c.unsigned64.ensures ∙ ap (unsigned 8) (to_z-of_z w64 m.0.0 f)) ∙ sym (ap raw_of m.1)
 
 returns-5 : tie.Need-returns-5
 returns-5 c =
     let m = c.before.before.c5.given in
     let f : SFits w64 m.0.0 = search rules in
-    ap (Raw.Bits tTimestamp 0) (c.unsigned642.ensures ∙ ap (unsigned 8) (to_z-of_z w64 m.0.0 f)) ∙ sym (ap rawOf m.1)
+    ap (Raw.Bits t_timestamp 0) (c.unsigned642.ensures ∙ ap (unsigned 8) (to_z-of_z w64 m.0.0 f)) ∙ sym (ap raw_of m.1)
 
 returns-6 : tie.Need-returns-6
-returns-6 c = ap (Raw.Bits tFloat 0) c.float-bits.ensures ∙ sym (ap rawOf c.before.before.c6.given.1)
+returns-6 c = ap (Raw.Bits t_float 0) c.float-bits.ensures ∙ sym (ap raw_of c.before.before.c6.given.1)
 
 returns-7 : tie.Need-returns-7
-returns-7 c = sym (ap rawOf c.before.c7.given.1)
+returns-7 c = sym (ap raw_of c.before.c7.given.1)
 
 returns-8 : tie.Need-returns-8
 returns-8 c =
     let m = c.before.before.c8.given in
     let f : SFits w64 m.0.0 = search rules in
-    ap (λ u. Raw.Bits tDecimal u m.0.1.0) (c.unsigned643.ensures ∙ ap (unsigned 8) (to_z-of_z w64 m.0.0 f)) ∙ sym (ap rawOf m.1)
+    ap (λ u. Raw.Bits t_decimal u m.0.1.0) (c.unsigned643.ensures ∙ ap (unsigned 8) (to_z-of_z w64 m.0.0 f)) ∙ sym (ap raw_of m.1)
 
 returns-9 : tie.Need-returns-9
-returns-9 c = ap₂ (Raw.Bits tPoint) c.before.float-bits2.ensures c.float-bits3.ensures ∙ sym (ap rawOf c.before.before.before.c9.given.1)
+returns-9 c = ap₂ (Raw.Bits t_point) c.before.float-bits2.ensures c.float-bits3.ensures ∙ sym (ap raw_of c.before.before.before.c9.given.1)
 
 returns-10 : tie.Need-returns-10
-returns-10 c = sym (ap rawOf c.enum_told.given.1)
+returns-10 c = sym (ap raw_of c.enum_told.given.1)
 
 returns-11 : tie.Need-returns-11
-returns-11 c = sym (ap rawOf c.before.c10.given.1)
+returns-11 c = sym (ap raw_of c.before.c10.given.1)
 
 returns-12 : tie.Need-returns-12
-returns-12 c = sym (ap rawOf c.enum-told2.given.1)
+returns-12 c = sym (ap raw_of c.enum-told2.given.1)
 
 returns-13 : tie.Need-returns-13
-returns-13 c = sym (ap rawOf c.before.c11.given.1)
+returns-13 c = sym (ap raw_of c.before.c11.given.1)
 
 returns-14 : tie.Need-returns-14
-returns-14 c = sym (ap rawOf c.enum-told3.given.1)
+returns-14 c = sym (ap raw_of c.enum-told3.given.1)
 
 returns-15 : tie.Need-returns-15
-returns-15 c = sym (ap rawOf c.before.c12.given.1)
+returns-15 c = sym (ap raw_of c.before.c12.given.1)
 
 returns-16 : tie.Need-returns-16
-returns-16 c = sym (ap rawOf c.enum-told4.given.1)
+returns-16 c = sym (ap raw_of c.enum-told4.given.1)
 
 pub raw_of-spec : {M : Type 1} → statement M
 raw_of-spec =

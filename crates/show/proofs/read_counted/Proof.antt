@@ -4,12 +4,12 @@ use mathlib.Core.Bool.{true}
 use Prim.Native.Nat.{◌-◌}
 use lib.ListN.{length}
 use native.Mathlib.Omega.{arith}
-use Rattle.format.specs.Value.{string, anything, mostBytes}
+use Rattle.format.specs.Value.{string, anything, most_bytes}
 use Rattle.show.specs.declared.Cell.{Cell}
 use Rattle.show.specs.declared.Shown.{Shown}
-use Rattle.show.specs.Cells.{partCell, bodyCell, shownAs}
-use Rattle.scan.proofs.Answers.{body-go}
-use Rattle.show.proofs.Bodies.{body-null, body-none, stood}
+use Rattle.show.specs.Cells.{part_cell, body_cell, shown_as}
+use Rattle.scan.proofs.Answers.{body_go}
+use Rattle.show.proofs.Bodies.{body_null, body_none, stood}
 use borrow.Author.Rules.{rules}
 use Rattle.show.proofs.read_counted.Statement.{statement}
 use Rattle.show.proofs.read_counted.Tie as tie
@@ -25,8 +25,8 @@ sub-part-cell c =
     let a = c.before.before.before.before.before.args in
     let r = (string true anything 0 0).read a.s.now a.at in
     let p = c.before.part.given in
-    let go = body-go a.at r c.before.before.before.read-body.ensures p.1 in
-    let h = stood true mostBytes anything 0 0 a.s.now a.at go.1 in
+    let go = body_go a.at r c.before.before.before.read-body.ensures p.1 in
+    let h = stood true most_bytes anything 0 0 a.s.now a.at go.1 in
     omega (arith, h.far, go.2)
 
 part-cell-requires : tie.Need-part-cell-requires
@@ -46,25 +46,25 @@ returns c =
     let a = c.before.before.before.before.before.before.args in
     let r = (string true anything 0 0).read a.s.now a.at in
     let p = c.before.before.part.given in
-    let go = body-go a.at r c.before.before.before.before.read-body.ensures p.1 in
-    let h = stood true mostBytes anything 0 0 a.s.now a.at go.1 in
+    let go = body_go a.at r c.before.before.before.before.read-body.ensures p.1 in
+    let h = stood true most_bytes anything 0 0 a.s.now a.at go.1 in
     let end = p.0.1.0 in
     let size : end - p.0.0 ≡ length go.0 = omega (arith, h.far, go.2) in
-    ap (λ (x : Cell). Shown.Is x end) (c.part-cell.ensures ∙ ap₂ (partCell a.t) go.2 size) ∙ sym (ap (shownAs (bodyCell a.t a.at)) go.1)
+    ap (λ (x : Cell). Shown.Is x end) (c.part-cell.ensures ∙ ap₂ (part_cell a.t) go.2 size) ∙ sym (ap (shown_as (body_cell a.t a.at)) go.1)
 
 returns-2 : tie.Need-returns-2
 returns-2 c =
     let a = c.before.before.before.before.before.before.args in
     let r = (string true anything 0 0).read a.s.now a.at in
     let p = c.before.before.part2.given in
-    let go = body-null a.at r c.before.before.before.before.read-body.ensures p.1 in
-    ap (λ (x : Cell). Shown.Is x p.0.0) c.null-cell.ensures ∙ sym (ap (shownAs (bodyCell a.t a.at)) go)
+    let go = body_null a.at r c.before.before.before.before.read-body.ensures p.1 in
+    ap (λ (x : Cell). Shown.Is x p.0.0) c.null-cell.ensures ∙ sym (ap (shown_as (body_cell a.t a.at)) go)
 
 returns-3 : tie.Need-returns-3
 returns-3 c =
     let a = c.before.before.before.before.before.args in
     let r = (string true anything 0 0).read a.s.now a.at in
-    sym (ap (shownAs (bodyCell a.t a.at)) (body-none a.at r c.before.before.before.read-body.ensures c.before.part3.given.1))
+    sym (ap (shown_as (body_cell a.t a.at)) (body_none a.at r c.before.before.before.read-body.ensures c.before.part3.given.1))
 
 pub read-counted-spec : {M : Type 1} → statement M
 read-counted-spec =

@@ -7,15 +7,15 @@ use mir.ValLaws.{to_z-of_z}
 use borrow.Author.Tests.{not-true, not-false}
 use Rattle.format.specs.declared.Fault.TheVariants.{Decimal}
 use Rattle.format.specs.Format.{number}
-use Rattle.format.specs.Value.{decimalFine}
-use Rattle.scan.proofs.Steps.{ruled-go, ruled-bad, ruled-stop}
-use Rattle.scan.proofs.Sixteen.{halves-go, halves-stop}
+use Rattle.format.specs.Value.{decimal_fine}
+use Rattle.scan.proofs.Steps.{ruled_go, ruled_bad, ruled_stop}
+use Rattle.scan.proofs.Sixteen.{halves_go, halves_stop}
 use Rattle.show.specs.declared.Cell.{Cell}
 use Rattle.show.specs.declared.Shown.{Shown}
 use Rattle.scan.specs.Signed.{unsigned}
-use Rattle.show.specs.Cells.{decimalCell, shownAs}
+use Rattle.show.specs.Cells.{decimal_cell, shown_as}
 use Rattle.scan.proofs.Twos.{signed_back}
-use Rattle.show.proofs.Values.{decimal-halves}
+use Rattle.show.proofs.Values.{decimal_halves}
 use native.Mathlib.Omega.{arith}
 use borrow.Author.Rules.{rules}
 use Rattle.show.proofs.read_decimal.Statement.{statement}
@@ -35,8 +35,8 @@ halves-refusal-requires c κs = search rules
 
 returns : tie.Need-returns
 returns c =
-    let stop = halves-stop _ c.before.before.before.read-halves.ensures c.before.enum_told.given.1 c.halves-refusal.ensures in
-    sym (ap (shownAs decimalCell) (ruled-stop decimalFine Decimal (number 16 0) _ _ stop))
+    let stop = halves_stop _ c.before.before.before.read-halves.ensures c.before.enum_told.given.1 c.halves-refusal.ensures in
+    sym (ap (shown_as decimal_cell) (ruled_stop decimal_fine Decimal (number 16 0) _ _ stop))
 
 signed64-requires : tie.Need-signed64-requires
 signed64-requires c κs = search rules
@@ -49,9 +49,9 @@ returns-2 c =
     let w = c.before.before.before.before.halves.given in
     let upper = to_z-of_z w64 _ (record { sfits = c.before.before.signed64.type-inv }) ∙ c.before.before.signed64.ensures in
     let bits = ap (unsigned 8) upper ∙ signed_back 8 w.0.0 (omega arith) in
-    let go = halves-go _ c.before.before.before.before.before.before.read-halves.ensures w.1 in
-    let bad = sym (ap (λ (n : ℕ). decimalFine (n * 2 ^ 64 + w.0.1.0)) bits) ∙ sym c.before.decimal-fine.ensures ∙ not-true _ c.if1.true in
-    sym (ap (shownAs decimalCell) (ruled-bad decimalFine Decimal (number 16 0) _ _ go bad))
+    let go = halves_go _ c.before.before.before.before.before.before.read-halves.ensures w.1 in
+    let bad = sym (ap (λ (n : ℕ). decimal_fine (n * 2 ^ 64 + w.0.1.0)) bits) ∙ sym c.before.decimal-fine.ensures ∙ not-true _ c.if1.true in
+    sym (ap (shown_as decimal_cell) (ruled_bad decimal_fine Decimal (number 16 0) _ _ go bad))
 
 returns-3 : tie.Need-returns-3
 returns-3 c =
@@ -59,11 +59,11 @@ returns-3 c =
     let low : w.0.1.0 < 2 ^ 64 = omega arith in
     let upper = to_z-of_z w64 _ (record { sfits = c.before.before.signed64.type-inv }) ∙ c.before.before.signed64.ensures in
     let bits = ap (unsigned 8) upper ∙ signed_back 8 w.0.0 (omega arith) in
-    let go = halves-go _ c.before.before.before.before.before.before.read-halves.ensures w.1 in
-    let fine = sym (ap (λ (n : ℕ). decimalFine (n * 2 ^ 64 + w.0.1.0)) bits) ∙ sym c.before.decimal-fine.ensures ∙ not-false _ c.if1.false in
+    let go = halves_go _ c.before.before.before.before.before.before.read-halves.ensures w.1 in
+    let fine = sym (ap (λ (n : ℕ). decimal_fine (n * 2 ^ 64 + w.0.1.0)) bits) ∙ sym c.before.decimal-fine.ensures ∙ not-false _ c.if1.false in
     ap (λ (z : ℤ). Shown.Is (Cell.Decimal z w.0.1.0) w.0.1.1.0) upper
-    ∙ sym (ap (λ (x : Cell). Shown.Is x w.0.1.1.0) (decimal-halves w.0.0 w.0.1.0 low))
-    ∙ sym (ap (shownAs decimalCell) (ruled-go decimalFine Decimal (number 16 0) _ _ go fine))
+    ∙ sym (ap (λ (x : Cell). Shown.Is x w.0.1.1.0) (decimal_halves w.0.0 w.0.1.0 low))
+    ∙ sym (ap (shown_as decimal_cell) (ruled_go decimal_fine Decimal (number 16 0) _ _ go fine))
 
 pub read-decimal-spec : {M : Type 1} → statement M
 read-decimal-spec =

@@ -4,8 +4,8 @@ use Prim.Native.Nat.{min}
 use Rattle.format.specs.Format.{number}
 use Rattle.show.specs.declared.Cell.{Cell}
 use Rattle.show.specs.declared.Shown.{Shown}
-use Rattle.show.specs.Cells.{plainCell, shownAs}
-use Rattle.scan.proofs.Answers.{number-go, number-stop}
+use Rattle.show.specs.Cells.{plain_cell, shown_as}
+use Rattle.scan.proofs.Answers.{number_go, number_stop}
 use borrow.Author.Rules.{rules}
 use Rattle.show.proofs.read_plain.Statement.{statement}
 use Rattle.show.proofs.read_plain.Tie as tie
@@ -26,8 +26,8 @@ returns : tie.Need-returns
 returns c =
     let a = c.before.before.before.before.before.args in
     let r = (number (min a.width 8) 0).read a.s.now a.at in
-    let stop = number-stop r c.before.before.before.read_number.ensures c.before.enum_told.given.1 c.number-refusal.ensures in
-    sym (ap (shownAs (plainCell a.t)) stop)
+    let stop = number_stop r c.before.before.before.read_number.ensures c.before.enum_told.given.1 c.number-refusal.ensures in
+    sym (ap (shown_as (plain_cell a.t)) stop)
 
 plain-cell-requires : tie.Need-plain-cell-requires
 plain-cell-requires c κs = search rules
@@ -37,8 +37,8 @@ returns-2 c =
     let a = c.before.before.before.before.before.before.args in
     let r = (number (min a.width 8) 0).read a.s.now a.at in
     let next = c.before.before.number.given.0.1.0 in
-    let go = number-go r c.before.before.before.before.read_number.ensures c.before.before.number.given.1 in
-    ap (λ (x : Cell). Shown.Is x next) c.plain_cell.ensures ∙ sym (ap (shownAs (plainCell a.t)) go)
+    let go = number_go r c.before.before.before.before.read_number.ensures c.before.before.number.given.1 in
+    ap (λ (x : Cell). Shown.Is x next) c.plain_cell.ensures ∙ sym (ap (shown_as (plain_cell a.t)) go)
 
 pub read-plain-spec : {M : Type 1} → statement M
 read-plain-spec =

@@ -2,7 +2,7 @@
 use Rattle.std.proofs.Common.{◌≡◌, ◌+◌, ◌-◌, ◌*◌, ◌<◌, ◌≤◌, [], ◌∷◌, length, get_or, drop, refl, add-one, arith, drop_of_length-le, drop-cons, rules}
 use Rattle.format.specs.Value.{width_of}
 use Rattle.tally.specs.Tallies.{Fixed, widths}
-use Rattle.tally.proofs.Evens.{width-most}
+use Rattle.tally.proofs.Evens.{width_most}
 use Rattle.tally.proofs.fixed_row.Statement.{statement}
 use Rattle.tally.proofs.fixed_row.Tie as tie
 
@@ -28,7 +28,7 @@ returns-2 : tie.Need-returns-2 invariant-loop decreases-loop
 returns-2 c = record { few = omega arith; sizes = λ h. absurd (omega arith) }
 
 add-size : tie.Need-overflow-add-size invariant-loop decreases-loop
-add-size c = omega (arith, width-most (get_or c.before.before.before.before.before.before.before.args.types.now c.before.before.before.before.loop.i 0), c.before.width_of_lem.ensures)
+add-size c = omega (arith, width_most (get_or c.before.before.before.before.before.before.before.args.types.now c.before.before.before.before.loop.i 0), c.before.width_of_lem.ensures)
 
 add-i : tie.Need-overflow-add-i invariant-loop decreases-loop
 add-i c = search rules
@@ -46,7 +46,7 @@ loop-again c =
     let here : drop l.i types ≡ t ∷ drop (l.i + 1) types = rw add-one (drop-cons types l.i 0 c.before.before.before.loop-test.true) in
     let sizes = rw here at l.invariant.2 in (
       omega (arith, c.before.before.before.loop-test.true),
-      omega (arith, width-most t, l.invariant.1),
+      omega (arith, width_most t, l.invariant.1),
       omega arith,
       λ g. l.invariant.3 (rw here (some_bytes, g)),
     )

@@ -22,7 +22,7 @@ fits-requires : tie.Need-fits-requires
 fits-requires c κs = search rules
 
 returns-4 : tie.Need-returns-4
-returns-4 c = λ is. record { some-rows = omega arith; some_bytes = omega arith; few = omega arith; fit = leb-true _ _ (sym c.fits2.ensures ∙ is) }
+returns-4 c = λ is. record { some_rows = omega arith; some_bytes = omega arith; few = omega arith; fit = leb-true _ _ (sym c.fits2.ensures ∙ is) }
 
 pub rows-stand-spec : {M : Type 1} → statement M
 rows-stand-spec = tie.close (tie.spec returns returns-2 returns-3 mul-fits fits-requires returns-4)

@@ -1,5 +1,5 @@
 -- `tally::tally_body` meets its contract: a length, and as many bytes as follow it. Assumes nothing.
-use Rattle.format.specs.Value.{mostBytes}
+use Rattle.format.specs.Value.{most_bytes}
 use Rattle.tally.proofs.Tours.{walked_sized}
 use Rattle.std.proofs.Common.{rules}
 use Rattle.tally.proofs.tally_body.Statement.{statement}
@@ -21,7 +21,7 @@ returns : tie.Need-returns
 returns c =
     let a = c.before.before.before.before.before.args in
     λ nullable rule prefix body. record {
-      walks = λ ix. walked_sized a.s.now nullable mostBytes rule prefix body _ c.before.before.before.length_at.ensures ((c.before.before.tally-fixed.ensures prefix).walks ix) c.before.body-size.ensures ((c.tally-fixed2.ensures body).walks ix);
+      walks = λ ix. walked_sized a.s.now nullable most_bytes rule prefix body _ c.before.before.before.length_at.ensures ((c.before.before.tally-fixed.ensures prefix).walks ix) c.before.body-size.ensures ((c.tally-fixed2.ensures body).walks ix);
     }
 
 pub tally-body-spec : {M : Type 1} → statement M

@@ -3,9 +3,9 @@ use Rattle.std.proofs.Common.{◌-◌, [], length, get_or, refl, rules}
 use Rattle.format.specs.Format.{Index}
 use Rattle.format.specs.Value.{value}
 use Rattle.format.specs.Message.{third}
-use Rattle.format.proofs.Formats.{lawful-value}
-use Rattle.tally.proofs.Tours.{bytes-all}
-use Rattle.tally.proofs.Rounds.{Round, round-first, round-next, round-last, all_map}
+use Rattle.format.proofs.Formats.{lawful_value}
+use Rattle.tally.proofs.Tours.{bytes_all}
+use Rattle.tally.proofs.Rounds.{Round, round_first, round_next, round_last, all_map}
 use Rattle.tally.specs.Tallies.{counting}
 use Rattle.tally.proofs.tally_cells.Statement.{statement}
 use Rattle.tally.proofs.tally_cells.Tie as tie
@@ -19,7 +19,7 @@ decreases-loop s types tally₀ k₀ tally k = length types - k
 loop-holds : tie.Need-loop-init invariant-loop decreases-loop
 loop-holds c =
     let a = c.before.before.args in
-    λ ix. round-first third (λ m. value 50 51 (get_or a.types.now m 0)) _ _ _ _ _
+    λ ix. round_first third (λ m. value 50 51 (get_or a.types.now m 0)) _ _ _ _ _
 
 shared-slice-read-tally-value : tie.Need-shared-slice-read-tally-value invariant-loop decreases-loop
 shared-slice-read-tally-value c = search rules
@@ -37,12 +37,12 @@ loop-again : tie.Need-loop-preserved invariant-loop decreases-loop
 loop-again c =
     let a = c.before.before.before.before.before.before.args in
     let l = c.before.before.before.loop in
-    λ ix. round-next third (λ m. value 50 51 (get_or a.types.now m 0)) (λ m. lawful-value 50 51 (get_or a.types.now m 0)) a.s.now (bytes-all a.s.now c.before.before.before.before.before.shared-slice-known.given) ix (length a.types.now) l.k c.before.before.loop-test.true (l.invariant ix) (c.tally-value.ensures.walks (third l.k ix)) refl
+    λ ix. round_next third (λ m. value 50 51 (get_or a.types.now m 0)) (λ m. lawful_value 50 51 (get_or a.types.now m 0)) a.s.now (bytes_all a.s.now c.before.before.before.before.before.shared-slice-known.given) ix (length a.types.now) l.k c.before.before.loop-test.true (l.invariant ix) (c.tally-value.ensures.walks (third l.k ix)) refl
 
 returns : tie.Need-returns invariant-loop decreases-loop
 returns c =
     let a = c.before.before.before.before.args in
-    record { walks = λ ix. all_map third a.s.now (value 50 51) a.types.now (round-last third (λ m. value 50 51 (get_or a.types.now m 0)) _ _ _ _ _ c.loop-test.false (c.before.loop.invariant ix)) }
+    record { walks = λ ix. all_map third a.s.now (value 50 51) a.types.now (round_last third (λ m. value 50 51 (get_or a.types.now m 0)) _ _ _ _ _ c.loop-test.false (c.before.loop.invariant ix)) }
 
 pub tally-cells-spec : {M : Type 1} → statement M
 tally-cells-spec =

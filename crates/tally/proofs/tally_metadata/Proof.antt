@@ -1,11 +1,11 @@
 -- `tally::tally_metadata` meets its contract: a room, and its fields in it. Assumes nothing.
-use Rattle.format.specs.Message.{mostColumns}
-use Rattle.format.proofs.Laws.{lawful-number}
-use Rattle.scan.proofs.Answers.{number-stands}
-use Rattle.tally.proofs.Tours.{bytes-all, walked_then, walked_by}
-use Rattle.tally.proofs.Values.{lawful-count, count-told}
-use Rattle.tally.proofs.Tables.{columns, lawful-types, walked-count, walked-metadata, metadata-ended}
-use Rattle.tally.proofs.Counts.{tallied-ended}
+use Rattle.format.specs.Message.{most_columns}
+use Rattle.format.proofs.Laws.{lawful_number}
+use Rattle.scan.proofs.Answers.{number_stands}
+use Rattle.tally.proofs.Tours.{bytes_all, walked_then, walked_by}
+use Rattle.tally.proofs.Values.{lawful_count, count_told}
+use Rattle.tally.proofs.Tables.{columns, lawful_types, walked_count, walked_metadata, metadata_ended}
+use Rattle.tally.proofs.Counts.{tallied_ended}
 use Rattle.std.proofs.Common.{rules}
 use Rattle.tally.proofs.tally_metadata.Statement.{statement}
 use Rattle.tally.proofs.tally_metadata.Tie as tie
@@ -38,15 +38,15 @@ returns : tie.Need-returns
 returns c =
     let a = c.before.before.before.before.before.before.before.before.before.args in
     let s = a.s.now in
-    let b = bytes-all s c.before.before.before.before.before.before.before.before.shared-slice-known.given in
+    let b = bytes_all s c.before.before.before.before.before.before.before.before.shared-slice-known.given in
     let n = c.before.before.before.before.before.number_at in
-    tallied-ended (record {
+    tallied_ended (record {
       walks = λ ix.
-          walked-metadata s b ((c.before.before.before.before.before.before.before.tally-fixed.ensures 42).walks ix) (walked_then s b (lawful-number 1 43) ((c.before.before.before.before.before.before.tally-fixed2.ensures 43).walks ix)
-          (walked_by s b columns (lawful-count 2 mostColumns 44) (count-told s 2 mostColumns 44 _ (number-stands n.ensures)) (walked-count s b 2 mostColumns 44 ((c.before.before.before.before.tally-fixed3.ensures 44).walks ix))
-          (walked_then s b (lawful-types n.result) (c.before.before.before.tally-types.ensures.walks ix) (c.before.before.tally-names.ensures.walks ix))));
+          walked_metadata s b ((c.before.before.before.before.before.before.before.tally-fixed.ensures 42).walks ix) (walked_then s b (lawful_number 1 43) ((c.before.before.before.before.before.before.tally-fixed2.ensures 43).walks ix)
+          (walked_by s b columns (lawful_count 2 most_columns 44) (count_told s 2 most_columns 44 _ (number_stands n.ensures)) (walked_count s b 2 most_columns 44 ((c.before.before.before.before.tally-fixed3.ensures 44).walks ix))
+          (walked_then s b (lawful_types n.result) (c.before.before.before.tally-types.ensures.walks ix) (c.before.before.tally-names.ensures.walks ix))));
     })
-    c.before.room-end.ensures (metadata-ended s b a.tally.at) c.ended_at.ensures
+    c.before.room-end.ensures (metadata_ended s b a.tally.at) c.ended_at.ensures
 
 pub tally-metadata-spec : {M : Type 1} → statement M
 tally-metadata-spec =

@@ -1,7 +1,7 @@
 -- `tally::tally_row` meets its contract: a room, and the cells in it. Assumes nothing.
-use Rattle.tally.proofs.Tours.{bytes-all}
-use Rattle.tally.proofs.Tables.{walked_row, row-ended}
-use Rattle.tally.proofs.Counts.{tallied-ended}
+use Rattle.tally.proofs.Tours.{bytes_all}
+use Rattle.tally.proofs.Tables.{walked_row, row_ended}
+use Rattle.tally.proofs.Counts.{tallied_ended}
 use Rattle.std.proofs.Common.{rules}
 use Rattle.tally.proofs.tally_row.Statement.{statement}
 use Rattle.tally.proofs.tally_row.Tie as tie
@@ -22,10 +22,10 @@ returns : tie.Need-returns
 returns c =
     let a = c.before.before.before.before.before.before.args in
     let s = a.s.now in
-    let b = bytes-all s c.before.before.before.before.before.shared-slice-known.given in
+    let b = bytes_all s c.before.before.before.before.before.shared-slice-known.given in
     let types = a.types.now in
-    tallied-ended (record { walks = λ ix. walked_row s b types ((c.before.before.before.tally-fixed.ensures 49).walks ix) (c.before.before.tally-cells.ensures.walks ix) })
-    c.before.room-end.ensures (row-ended s b a.tally.at types) c.ended_at.ensures
+    tallied_ended (record { walks = λ ix. walked_row s b types ((c.before.before.before.tally-fixed.ensures 49).walks ix) (c.before.before.tally-cells.ensures.walks ix) })
+    c.before.room-end.ensures (row_ended s b a.tally.at types) c.ended_at.ensures
 
 pub tally-row-spec : {M : Type 1} → statement M
 tally-row-spec =

@@ -1,10 +1,10 @@
 -- `tally::tally_table` meets its contract: a room, the metadata in it, and the rows by its types. Assumes nothing.
 use Rattle.format.specs.Message.{second, unlimited}
-use Rattle.format.proofs.Formats.{lawful-metadata, lawful-row}
-use Rattle.tally.proofs.Tours.{bytes-all, walked_both}
-use Rattle.tally.proofs.Values.{walked-list}
-use Rattle.tally.proofs.Tables.{rows, walked-table, table-ended}
-use Rattle.tally.proofs.Counts.{tallied-ended}
+use Rattle.format.proofs.Formats.{lawful_metadata, lawful_row}
+use Rattle.tally.proofs.Tours.{bytes_all, walked_both}
+use Rattle.tally.proofs.Values.{walked_list}
+use Rattle.tally.proofs.Tables.{rows, walked_table, table_ended}
+use Rattle.tally.proofs.Counts.{tallied_ended}
 use Rattle.std.proofs.Common.{rules}
 use Rattle.tally.proofs.tally_table.Statement.{statement}
 use Rattle.tally.proofs.tally_table.Tie as tie
@@ -37,14 +37,14 @@ returns : tie.Need-returns
 returns c =
     let a = c.before.before.before.before.before.before.before.before.before.args in
     let s = a.s.now in
-    let b = bytes-all s c.before.before.before.before.before.before.before.before.shared-slice-known.given in
-    tallied-ended {last = c.before.before.tally-rows.result} (record {
+    let b = bytes_all s c.before.before.before.before.before.before.before.before.shared-slice-known.given in
+    tallied_ended {last = c.before.before.tally-rows.result} (record {
       walks = λ ix.
-          walked-table s b ((c.before.before.before.before.before.before.before.tally-fixed.ensures 41).walks ix) (walked_both b {g = rows} lawful-metadata (c.before.before.before.before.before.tally-metadata.ensures.walks ix) (λ m next e.
+          walked_table s b ((c.before.before.before.before.before.before.before.tally-fixed.ensures 41).walks ix) (walked_both b {g = rows} lawful_metadata (c.before.before.before.before.before.tally-metadata.ensures.walks ix) (λ m next e.
           let same = c.before.before.before.before.before.before.types_of.ensures m next e in
-          rw (← same) (walked-list 4 unlimited 48 second (lawful-row _) s b c.before.before.before.before.length_at.ensures ((c.before.before.before.tally-fixed2.ensures 48).walks ix) (c.before.before.tally-rows.ensures.walks ix))));
+          rw (← same) (walked_list 4 unlimited 48 second (lawful_row _) s b c.before.before.before.before.length_at.ensures ((c.before.before.before.tally-fixed2.ensures 48).walks ix) (c.before.before.tally-rows.ensures.walks ix))));
     })
-    c.before.room-end.ensures (table-ended s b a.tally.at) c.ended_at.ensures
+    c.before.room-end.ensures (table_ended s b a.tally.at) c.ended_at.ensures
 
 pub tally-table-spec : {M : Type 1} → statement M
 tally-table-spec =

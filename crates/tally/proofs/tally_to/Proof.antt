@@ -1,16 +1,16 @@
 -- `tally::tally_to` meets its contract: no field, or one that is counted. Assumes nothing.
 use Rattle.std.proofs.Common.{[], refl, rules}
 use Rattle.tally.specs.Walks.{state_of, index_of}
-use Rattle.tally.proofs.Visits.{visit-none, visit-one}
+use Rattle.tally.proofs.Visits.{visit_none, visit_one}
 use Rattle.tally.specs.Tallies.{counting}
-use Rattle.tally.proofs.Counts.{count-one}
+use Rattle.tally.proofs.Counts.{count_one}
 use Rattle.tally.proofs.tally_to.Statement.{statement}
 use Rattle.tally.proofs.tally_to.Tie as tie
 
 returns : tie.Need-returns
 returns c =
     let a = c.before.args in
-    λ field ix. record { place = refl; state = visit-none (state_of (counting a.tally) []) a.tally.at a.end field (index_of ix) c.if1.true }
+    λ field ix. record { place = refl; state = visit_none (state_of (counting a.tally) []) a.tally.at a.end field (index_of ix) c.if1.true }
 
 wrapping-add-usize-requires : tie.Need-wrapping-add-usize-requires
 wrapping-add-usize-requires c κs = search rules
@@ -20,7 +20,7 @@ returns-2 c =
     let a = c.before.before.args in
     λ field ix. record {
       place = refl;
-      state = visit-one (state_of (counting a.tally) []) a.tally.at a.end field (index_of ix) c.before.if1.false (count-one a.tally _ c.wrapping-add-usize.ensures);
+      state = visit_one (state_of (counting a.tally) []) a.tally.at a.end field (index_of ix) c.before.if1.false (count_one a.tally _ c.wrapping-add-usize.ensures);
     }
 
 pub tally-to-spec : {M : Type 1} → statement M

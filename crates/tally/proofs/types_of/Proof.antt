@@ -1,9 +1,9 @@
 -- `tally::types_of` meets its contract: the types stand after the count, 7 bytes into the metadata. Assumes nothing.
 use Rattle.std.proofs.Common.{◌≡◌, ◌+◌, ◌-◌, ◌<◌, ◌≤◌, length, sym, ◌∙◌, arith, rules, leb-false, leb-true}
 use borrow.Author.Tests.{not-true, not-false}
-use Rattle.scan.proofs.Answers.{number-stands}
-use Rattle.tally.proofs.Tours.{bytes-all}
-use Rattle.tally.proofs.Tables.{found-columns}
+use Rattle.scan.proofs.Answers.{number_stands}
+use Rattle.tally.proofs.Tours.{bytes_all}
+use Rattle.tally.proofs.Tables.{found_columns}
 use Rattle.tally.proofs.types_of.Statement.{statement}
 use Rattle.tally.proofs.types_of.Tie as tie
 
@@ -32,7 +32,7 @@ returns : tie.Need-returns
 returns c =
     λ m next e.
     let a = c.before.before.before.before.before.before.before.args in
-    let w = found-columns a.s.now (bytes-all a.s.now c.before.before.before.before.before.before.shared-slice-known.given) a.at m next e c.before.before.before.before.before.bytes_on.ensures c.before.before.before.before.bytes-on2.ensures (number-stands c.before.before.before.number_at.ensures) in
+    let w = found_columns a.s.now (bytes_all a.s.now c.before.before.before.before.before.before.shared-slice-known.given) a.at m next e c.before.before.before.before.before.bytes_on.ensures c.before.before.before.before.bytes-on2.ensures (number_stands c.before.before.before.number_at.ensures) in
     let fit = w.0 in
     let over : length a.s.now < c.before.before.before.before.bytes-on2.result + c.before.before.before.number_at.result = leb-false _ _ (sym c.before.before.fits2.ensures ∙ not-true _ c.before.if1.true) in
     absurd (omega arith)
@@ -59,7 +59,7 @@ returns-2 : tie.Need-returns-2
 returns-2 c =
     λ m next e.
     let a = c.before.before.before.before.before.before.before.args in
-    let w = found-columns a.s.now (bytes-all a.s.now c.before.before.before.before.before.before.shared-slice-known.given) a.at m next e c.before.before.before.before.before.bytes_on.ensures c.before.before.before.before.bytes-on2.ensures (number-stands c.before.before.before.number_at.ensures) in
+    let w = found_columns a.s.now (bytes_all a.s.now c.before.before.before.before.before.before.shared-slice-known.given) a.at m next e c.before.before.before.before.before.bytes_on.ensures c.before.before.before.before.bytes-on2.ensures (number_stands c.before.before.before.number_at.ensures) in
     let size : c.before.before.before.before.bytes-on2.result + c.before.before.before.number_at.result - c.before.before.before.before.bytes-on2.result ≡ c.before.before.before.number_at.result = omega arith in
     rw size (sym w.1)
 

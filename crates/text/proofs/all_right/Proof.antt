@@ -4,15 +4,15 @@ use mathlib.Core.Bool.{true≢false}
 use Prim.Native.Nat.{ℕ, ◌+◌, ◌-◌, ◌≤◌}
 use native.Mathlib.Omega.{arith}
 use borrow.Author.Tests.{not-false}
-use Rattle.text.specs.Windows.{RightRun}
+use Rattle.text.specs.Windows.{Right_run}
 use Rattle.text.proofs.Runs.{run_join}
-use Rattle.text.proofs.Windows.{RightAt}
+use Rattle.text.proofs.Windows.{Right_at}
 use borrow.Author.Rules.{rules}
 use Rattle.text.proofs.all_right.Statement.{statement}
 use Rattle.text.proofs.all_right.Tie as tie
 
 abbrev invariant-loop : tie.invariant-loop
-invariant-loop b start end i₀ i = (start ≤ i) × (i ≤ end) × RightRun b start (i - start)
+invariant-loop b start end i₀ i = (start ≤ i) × (i ≤ end) × Right_run b start (i - start)
 
 abbrev decreases-loop : tie.decreases-loop
 decreases-loop b start end i₀ i = end - i
@@ -42,7 +42,7 @@ loop-again c =
     let more = c.before.before.loop-test.true in (
       omega (arith, l.invariant.0),
       omega (arith, more),
-      run_join (RightAt a.b.now) a.start (l.i - a.start) l.i 16 (l.i + 16 - a.start) l.invariant.0 (omega (arith, l.invariant.0)) (omega (arith, l.invariant.0)) l.invariant.2
+      run_join (Right_at a.b.now) a.start (l.i - a.start) l.i 16 (l.i + 16 - a.start) l.invariant.0 (omega (arith, l.invariant.0)) (omega (arith, l.invariant.0)) l.invariant.2
           (c.before.are-right.ensures (not-false _ c.if1.false)),
     )
 
@@ -58,7 +58,7 @@ returns-2 c =
     let a = c.before.before.before.before.args in
     let few = c.before.before.before.before.requires.0 in
     let near = c.before.loop-test.false in
-    λ e. run_join (RightAt a.b.now) a.start (l.i - a.start) (a.end - 16) 16 (a.end - a.start) (omega (arith, few)) (omega (arith, near, l.invariant.0)) (omega (arith, few)) l.invariant.2 (c.are-right2.ensures e)
+    λ e. run_join (Right_at a.b.now) a.start (l.i - a.start) (a.end - 16) 16 (a.end - a.start) (omega (arith, few)) (omega (arith, near, l.invariant.0)) (omega (arith, few)) l.invariant.2 (c.are-right2.ensures e)
 
 pub all-right-spec : {M : Type 1} → statement M
 all-right-spec =

@@ -4,14 +4,14 @@ use mathlib.Core.Bool.{false}
 use Prim.Native.Nat.{ℕ, ◌+◌, ◌-◌, ◌≤◌}
 use native.Mathlib.Omega.{arith}
 use borrow.Author.Tests.{not-true}
-use Rattle.text.specs.Windows.{RightRun}
-use Rattle.text.proofs.Windows.{or-false, right-more}
+use Rattle.text.specs.Windows.{Right_run}
+use Rattle.text.proofs.Windows.{or_false, right_more}
 use borrow.Author.Rules.{rules}
 use Rattle.text.proofs.are_right.Statement.{statement}
 use Rattle.text.proofs.are_right.Tie as tie
 
 abbrev invariant-loop : tie.invariant-loop
-invariant-loop b i wrong₀ k₀ wrong k = (k ≤ 16) × (wrong ≡ false → RightRun b i k)
+invariant-loop b i wrong₀ k₀ wrong k = (k ≤ 16) × (wrong ≡ false → Right_run b i k)
 
 abbrev decreases-loop : tie.decreases-loop
 decreases-loop b i wrong₀ k₀ wrong k = 16 - k
@@ -61,8 +61,8 @@ loop-again c =
     let a = c.before.before.before.before.before.before.before.before.before.args in (
       omega (arith, c.before.before.before.before.before.before.loop-test.true),
       λ e.
-          let right = or-false l.wrong c.before.is-wrong.result (sym c.either.ensures ∙ e) in
-          right-more a.b.now a.i l.k (l.invariant.1 right.0) (sym c.before.is-wrong.ensures ∙ right.1),
+          let right = or_false l.wrong c.before.is-wrong.result (sym c.either.ensures ∙ e) in
+          right_more a.b.now a.i l.k (l.invariant.1 right.0) (sym c.before.is-wrong.ensures ∙ right.1),
     )
 
 returns : tie.Need-returns invariant-loop decreases-loop
@@ -70,7 +70,7 @@ returns c =
     let l = c.before.loop in
     let a = c.before.before.before.args in
     let all : l.k ≡ 16 = omega (arith, l.invariant.0, c.loop-test.false) in
-    λ e. subst (RightRun a.b.now a.i) all (l.invariant.1 (not-true l.wrong e))
+    λ e. subst (Right_run a.b.now a.i) all (l.invariant.1 (not-true l.wrong e))
 
 pub are-right-spec : {M : Type 1} → statement M
 are-right-spec =

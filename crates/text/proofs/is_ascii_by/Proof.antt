@@ -5,14 +5,14 @@ use Prim.Native.Nat.{◌+◌, ◌-◌, ◌≤◌}
 use lib.ListN.{length}
 use native.Mathlib.Omega.{arith}
 use borrow.Author.Tests.{not-false}
-use Rattle.text.specs.Shown.{LowRun}
-use Rattle.text.proofs.Runs.{low-none, low-join}
+use Rattle.text.specs.Shown.{Low_run}
+use Rattle.text.proofs.Runs.{low_none, low_join}
 use borrow.Author.Rules.{rules}
 use Rattle.text.proofs.is_ascii_by.Statement.{statement}
 use Rattle.text.proofs.is_ascii_by.Tie as tie
 
 abbrev invariant-loop : tie.invariant-loop
-invariant-loop b step last i₀ i = (i ≤ length b) × LowRun b 0 i
+invariant-loop b step last i₀ i = (i ≤ length b) × Low_run b 0 i
 
 abbrev decreases-loop : tie.decreases-loop
 decreases-loop b step last i₀ i = length b - i
@@ -27,7 +27,7 @@ returns : tie.Need-returns invariant-loop decreases-loop
 returns c = λ e. absurd (true≢false (sym e))
 
 loop-holds : tie.Need-loop-init invariant-loop decreases-loop
-loop-holds c = (omega arith, low-none c.before.before.before.args.b.now 0)
+loop-holds c = (omega arith, low_none c.before.before.before.args.b.now 0)
 
 are-low-requires-2 : tie.Need-are-low-requires-2 invariant-loop decreases-loop
 are-low-requires-2 c κs = search rules
@@ -47,7 +47,7 @@ loop-again c =
     let a = c.before.before.before.before.before.before.before.args in
     let b = a.b.now in (
       omega (arith, c.before.before.loop-test.true),
-      low-join b l.i l.i a.step (omega arith) l.invariant.1 (c.before.are-low2.ensures (not-false _ c.if2.false)),
+      low_join b l.i l.i a.step (omega arith) l.invariant.1 (c.before.are-low2.ensures (not-false _ c.if2.false)),
     )
 
 returns-3 : tie.Need-returns-3 invariant-loop decreases-loop
@@ -58,7 +58,7 @@ returns-3 c =
     let step = s.args.step in
     let end : length b - step + step ≡ length b = omega (arith, s.requires.1) in
     let last = c.before.before.before.are-low.ensures (not-false _ c.before.before.if1.false) in
-    λ e. subst (LowRun b 0) end (low-join b l.i (length b - step) step (omega (arith, c.loop-test.false)) l.invariant.1 last)
+    λ e. subst (Low_run b 0) end (low_join b l.i (length b - step) step (omega (arith, c.loop-test.false)) l.invariant.1 last)
 
 pub is-ascii-by-spec : {M : Type 1} → statement M
 is-ascii-by-spec =

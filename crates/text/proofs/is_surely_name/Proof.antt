@@ -5,16 +5,16 @@ use mathlib.Core.List.{List}
 use lib.ListN.{length}
 use native.Mathlib.Omega.{arith}
 use Rattle.format.specs.Format.{fine}
-use Rattle.format.specs.Value.{ascii, asciiFrom}
-use Rattle.text.specs.Shown.{LowRun, shownAt}
-use Rattle.text.proofs.Finds.{finds-names}
-use Rattle.text.proofs.Runs.{ascii-low, ascii-done, run}
+use Rattle.format.specs.Value.{ascii, ascii_from}
+use Rattle.text.specs.Shown.{Low_run, shown_at}
+use Rattle.text.proofs.Finds.{finds_names}
+use Rattle.text.proofs.Runs.{ascii_low, ascii_done, run}
 use borrow.Author.Rules.{rules}
 use Rattle.text.proofs.is_surely_name.Statement.{statement}
 use Rattle.text.proofs.is_surely_name.Tie as tie
 
-low-name : (b : List ℕ) → LowRun b 0 (length b) → ascii b ≡ fine
-low-name b low = finds-names.passes b (ap shownAt (sym (run asciiFrom ascii-low b (length b) (omega arith) low) ∙ ascii-done b (length b) (omega arith)))
+low-name : (b : List ℕ) → Low_run b 0 (length b) → ascii b ≡ fine
+low-name b low = finds_names.passes b (ap shown_at (sym (run ascii_from ascii_low b (length b) (omega arith) low) ∙ ascii_done b (length b) (omega arith)))
 
 is-ascii-by-requires : tie.Need-is-ascii-by-requires
 is-ascii-by-requires c κs = search rules

@@ -6,9 +6,9 @@ use lib.ListN.{length, drop}
 use native.Mathlib.Omega.{arith}
 use borrow.Author.Tests.{not-false}
 use Rattle.format.specs.Format.{fine}
-use Rattle.format.specs.Text.{utf8From}
+use Rattle.format.specs.Text.{utf8_from}
 use Rattle.text.specs.Windows.{Between}
-use Rattle.text.proofs.Windows.{windows-text}
+use Rattle.text.proofs.Windows.{windows_text}
 use borrow.Author.Rules.{rules}
 use Rattle.text.proofs.is_surely_text.Statement.{statement}
 use Rattle.text.proofs.is_surely_text.Tie as tie
@@ -55,7 +55,7 @@ returns-6 c =
     let first = c.before.before.before.before.is-between.ensures (not-false _ c.before.before.before.if4.false) in
     let last = subst (Between b) end (c.before.before.is-between2.ensures (not-false _ c.before.if5.false)) in
     let from : start + 3 ≡ a.from = omega (arith, low) in
-    λ e. subst (λ (p : ℕ). utf8From p 0 (drop p b) ≡ fine) from (windows-text b start n (omega (arith, room, low)) (c.All-right.ensures e) first last)
+    λ e. subst (λ (p : ℕ). utf8_from p 0 (drop p b) ≡ fine) from (windows_text b start n (omega (arith, room, low)) (c.All-right.ensures e) first last)
 
 pub is-surely-text-spec : {M : Type 1} → statement M
 is-surely-text-spec =

@@ -4,7 +4,7 @@ use Prim.Native.Nat.{◌+◌, ◌-◌, ◌<◌}
 use lib.ListN.{length, drop, get_or}
 use native.Mathlib.Omega.{arith}
 use Rattle.text.proofs.Sequences.{few_bytes}
-use Rattle.text.proofs.Runs.{text, text-next}
+use Rattle.text.proofs.Runs.{text, text_next}
 use borrow.Author.Rules.{rules}
 use Rattle.text.proofs.passed.Statement.{statement}
 use Rattle.text.proofs.passed.Tie as tie
@@ -38,7 +38,7 @@ loop-again : tie.Need-loop-preserved invariant-loop decreases-loop
 loop-again c =
     let s = c.before.before.before.before.before in
     let l = c.before.before.before.loop in
-    text-next s.args.b.now l.i (omega (arith, c.before.before.loop-test.true, s.requires)) _ c.before.sequence-at.ensures c.if1.false ∙ l.invariant
+    text_next s.args.b.now l.i (omega (arith, c.before.before.loop-test.true, s.requires)) _ c.before.sequence-at.ensures c.if1.false ∙ l.invariant
 
 returns-2 : tie.Need-returns-2 invariant-loop decreases-loop
 returns-2 c = (c.before.loop.invariant, λ h. absurd (omega (arith, c.loop-test.false)))

@@ -3,7 +3,7 @@ use mathlib.Core.Path.{◌≡◌, sym, ◌∙◌, ap, ap₂}
 use Prim.Native.Nat.{ℕ, ◌+◌}
 use lib.ListN.{get_or}
 use Rattle.format.specs.Text.{sequence}
-use Rattle.text.proofs.Sequences.{low-is}
+use Rattle.text.proofs.Sequences.{low_is}
 use borrow.Author.Rules.{rules}
 use Rattle.text.proofs.sequence_at.Statement.{statement}
 use Rattle.text.proofs.sequence_at.Tie as tie
@@ -12,7 +12,7 @@ shared-slice-read-a : tie.Need-shared-slice-read-a
 shared-slice-read-a c = search rules
 
 returns : tie.Need-returns
-returns c = sym (low-is _ _ _ _ c.if1.true)
+returns c = sym (low_is _ _ _ _ c.if1.true)
 
 add-byte-or-0 : tie.Need-overflow-add-byte-or-0
 add-byte-or-0 c = search rules

@@ -7,8 +7,8 @@ use borrow.Author.Tests.{lt-ltb, le-ltb}
 use Rattle.format.specs.declared.Fault.TheVariants.{Text}
 use Rattle.format.specs.Result.{pick}
 use Rattle.format.specs.Format.{fine, bad}
-use Rattle.text.specs.Shown.{shownAt}
-use Rattle.text.proofs.Runs.{text, text-low, text-done, run}
+use Rattle.text.specs.Shown.{shown_at}
+use Rattle.text.proofs.Runs.{text, text_low, text_done, run}
 use borrow.Author.Rules.{rules}
 use Rattle.text.proofs.torn.Statement.{statement}
 use Rattle.text.proofs.torn.Tie as tie
@@ -19,7 +19,7 @@ is-ascii-requires c κs = search rules
 returns : tie.Need-returns
 returns c =
     let b = c.before.before.before.args.b.now in
-    ap shownAt (sym (text-done b (length b) (omega arith)) ∙ run text text-low b (length b) (omega arith) (c.before.is_ascii.ensures c.if1.taken))
+    ap shown_at (sym (text_done b (length b) (omega arith)) ∙ run text text_low b (length b) (omega arith) (c.before.is_ascii.ensures c.if1.taken))
 
 well-formed-requires : tie.Need-well-formed-requires
 well-formed-requires c κs = search rules
@@ -27,12 +27,12 @@ well-formed-requires c κs = search rules
 returns-2 : tie.Need-returns-2
 returns-2 c =
     let end = c.before.well-formed in
-    sym (ap shownAt (end.ensures ∙ ap (λ (t : Bool). pick t (bad Text end.result) fine) (lt-ltb end.result (length c.before.before.before.before.before.args.b.now) c.if2.taken)))
+    sym (ap shown_at (end.ensures ∙ ap (λ (t : Bool). pick t (bad Text end.result) fine) (lt-ltb end.result (length c.before.before.before.before.before.args.b.now) c.if2.taken)))
 
 returns-3 : tie.Need-returns-3
 returns-3 c =
     let end = c.before.well-formed in
-    sym (ap shownAt (end.ensures ∙ ap (λ (t : Bool). pick t (bad Text end.result) fine) (le-ltb end.result (length c.before.before.before.before.before.args.b.now) c.if2.left)))
+    sym (ap shown_at (end.ensures ∙ ap (λ (t : Bool). pick t (bad Text end.result) fine) (le-ltb end.result (length c.before.before.before.before.before.args.b.now) c.if2.left)))
 
 pub torn-spec : {M : Type 1} → statement M
 torn-spec = tie.close (tie.spec is-ascii-requires returns well-formed-requires returns-2 returns-3)

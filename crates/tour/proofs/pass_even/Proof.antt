@@ -1,6 +1,6 @@
 -- `tour::pass_even` meets its contract. Assumes nothing.
 use Rattle.std.proofs.Common.{ℕ, ◌+◌, ◌*◌, ◌%◌, ◌^◌, ◌≤◌, ap, ◌∙◌, ap₂, mul-le-mul, arith, rules}
-use Rattle.format.specs.Message.{mostColumns}
+use Rattle.format.specs.Message.{most_columns}
 use Rattle.tally.specs.declared.Tally.{Tally}
 use Rattle.tour.specs.Calms.{resumed}
 use Rattle.tour.proofs.pass_even.Statement.{statement}
@@ -15,7 +15,7 @@ add-wrapping-add-usize c = search rules
 mul-wrapping-add-usize : tie.Need-overflow-mul-wrapping-add-usize
 mul-wrapping-add-usize c =
     let p = c.before.requires in
-    let fields : 1 + c.before.args.columns ≤ 1 + mostColumns = omega arith in
+    let fields : 1 + c.before.args.columns ≤ 1 + most_columns = omega arith in
     omega (arith, mul-le-mul p.0 fields)
 
 wrapping-add-usize-requires : tie.Need-wrapping-add-usize-requires

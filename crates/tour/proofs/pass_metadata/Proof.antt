@@ -1,9 +1,9 @@
 -- `tour::pass_metadata` meets its contract: walked, or counted where it is quiet. Assumes nothing.
 use borrow.Author.Tests.{not-false}
-use Rattle.format.proofs.Formats.{lawful-metadata}
-use Rattle.tally.proofs.Tours.{bytes-all}
-use Rattle.tally.proofs.Tables.{metadata-ended}
-use Rattle.tour.proofs.Calms.{walked-quiet}
+use Rattle.format.proofs.Formats.{lawful_metadata}
+use Rattle.tally.proofs.Tours.{bytes_all}
+use Rattle.tally.proofs.Tables.{metadata_ended}
+use Rattle.tour.proofs.Calms.{walked_quiet}
 use Rattle.std.proofs.Common.{rules}
 use Rattle.tour.proofs.pass_metadata.Statement.{statement}
 use Rattle.tour.proofs.pass_metadata.Tie as tie
@@ -33,9 +33,9 @@ returns-2 : tie.Need-returns-2
 returns-2 c =
     let a = c.before.before.before.before.before.before.before.args in
     let s = a.s.now in
-    let by = bytes-all s c.before.before.before.before.before.before.shared-slice-known.given in
+    let by = bytes_all s c.before.before.before.before.before.before.shared-slice-known.given in
     let counted = rw c.before.before.tally-of.ensures at c.before.tally-metadata.ensures in
-    rw c.resume.ensures (walked-quiet (lawful-metadata) s by a.tour a.out.now c.before.before.before.before.is-quiet.ensures (not-false _ c.before.before.before.if1.false) (metadata-ended s by a.tour.at) counted)
+    rw c.resume.ensures (walked_quiet (lawful_metadata) s by a.tour a.out.now c.before.before.before.before.is-quiet.ensures (not-false _ c.before.before.before.if1.false) (metadata_ended s by a.tour.at) counted)
 
 pub pass-metadata-spec : {M : Type 1} → statement M
 pass-metadata-spec =

@@ -1,6 +1,6 @@
 -- `tour::toured_refusal` meets its contract. Assumes nothing.
 use Rattle.std.proofs.Common.{sym, ap, rules}
-use Rattle.tour.specs.Told.{touredNo}
+use Rattle.tour.specs.Told.{toured_no}
 use Rattle.tour.proofs.toured_refusal.Statement.{statement}
 use Rattle.tour.proofs.toured_refusal.Tie as tie
 
@@ -11,7 +11,7 @@ enum-known-a : tie.Need-enum-known-a
 enum-known-a c = search rules
 
 returns : tie.Need-returns
-returns c = sym (ap touredNo c.enum_told.given.1)
+returns c = sym (ap toured_no c.enum_told.given.1)
 
 returns-2 : tie.Need-returns-2
 returns-2 c = search rules

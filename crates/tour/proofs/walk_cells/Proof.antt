@@ -2,10 +2,10 @@
 use Rattle.std.proofs.Common.{◌-◌, length, get_or, arith, rules}
 use Rattle.format.specs.Value.{value}
 use Rattle.format.specs.Message.{third}
-use Rattle.format.proofs.Formats.{lawful-value}
+use Rattle.format.proofs.Formats.{lawful_value}
 use Rattle.tally.specs.Walks.{index_of}
-use Rattle.tally.proofs.Tours.{bytes-all}
-use Rattle.tally.proofs.Rounds.{Round, round-first, round-next, round-last, all_map}
+use Rattle.tally.proofs.Tours.{bytes_all}
+use Rattle.tally.proofs.Rounds.{Round, round_first, round_next, round_last, all_map}
 use Rattle.tour.proofs.walk_cells.Statement.{statement}
 use Rattle.tour.proofs.walk_cells.Tie as tie
 
@@ -16,7 +16,7 @@ abbrev decreases-loop : tie.decreases-loop
 decreases-loop s out₀ types ix tour₀ k₀ out tour k = length types - k
 
 loop-holds : tie.Need-loop-init invariant-loop decreases-loop
-loop-holds c = let a = c.before.before.before.args in round-first third (λ m. value 50 51 (get_or a.types.now m 0)) _ _ _ _ _
+loop-holds c = let a = c.before.before.before.args in round_first third (λ m. value 50 51 (get_or a.types.now m 0)) _ _ _ _ _
 
 shared-slice-read-walk-value : tie.Need-shared-slice-read-walk-value invariant-loop decreases-loop
 shared-slice-read-walk-value c = search rules
@@ -34,7 +34,7 @@ loop-again : tie.Need-loop-preserved invariant-loop decreases-loop
 loop-again c =
     let a = c.before.before.before.before.before.before.before.before.before.before.args in
     let l = c.before.before.before.before.before.before.loop in
-    round-next third (λ m. value 50 51 (get_or a.types.now m 0)) (λ m. lawful-value 50 51 (get_or a.types.now m 0)) a.s.now (bytes-all a.s.now c.before.before.before.before.before.before.before.before.before.shared-slice-known.given) (index_of a.ix) (length a.types.now) l.k c.before.before.before.before.before.loop-test.true l.invariant c.before.before.walk-value.ensures c.before.before.walk-value.auto.1.0
+    round_next third (λ m. value 50 51 (get_or a.types.now m 0)) (λ m. lawful_value 50 51 (get_or a.types.now m 0)) a.s.now (bytes_all a.s.now c.before.before.before.before.before.before.before.before.before.shared-slice-known.given) (index_of a.ix) (length a.types.now) l.k c.before.before.before.before.before.loop-test.true l.invariant c.before.before.walk-value.ensures c.before.before.walk-value.auto.1.0
 
 same_length : tie.Need-same-length invariant-loop decreases-loop
 same_length c = c.before.loop.invariant.long
@@ -42,7 +42,7 @@ same_length c = c.before.loop.invariant.long
 returns : tie.Need-returns invariant-loop decreases-loop
 returns c =
     let a = c.before.before.before.before.before.args in
-    all_map third a.s.now (value 50 51) a.types.now (round-last third (λ m. value 50 51 (get_or a.types.now m 0)) _ _ _ _ _ c.loop-test.false c.before.loop.invariant)
+    all_map third a.s.now (value 50 51) a.types.now (round_last third (λ m. value 50 51 (get_or a.types.now m 0)) _ _ _ _ _ c.loop-test.false c.before.loop.invariant)
 
 pub walk-cells-spec : {M : Type 1} → statement M
 walk-cells-spec =

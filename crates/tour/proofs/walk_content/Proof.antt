@@ -1,6 +1,6 @@
 -- `tour::walk_content` meets its contract, layout by layout. Assumes nothing.
-use Rattle.tally.proofs.Tours.{bytes-all}
-use Rattle.tour.proofs.Messages.{walked-1, walked-2, walked-3, walked-4}
+use Rattle.tally.proofs.Tours.{bytes_all}
+use Rattle.tour.proofs.Messages.{walked_1, walked_2, walked_3, walked_4}
 use Rattle.std.proofs.Common.{rules}
 use Rattle.tour.proofs.walk_content.Statement.{statement}
 use Rattle.tour.proofs.walk_content.Tie as tie
@@ -21,19 +21,19 @@ same_length : tie.Need-same-length
 same_length c = search rules
 
 returns : tie.Need-returns
-returns c = let a = c.before.before.before.before.before.before.before.args in walked-1 a.s.now (bytes-all a.s.now c.before.before.before.before.before.before.shared-slice-known.given) a.layout a.version c.before.before.before.before.match.keys1 c.before.before.walk-login-request.ensures
+returns c = let a = c.before.before.before.before.before.before.before.args in walked_1 a.s.now (bytes_all a.s.now c.before.before.before.before.before.before.shared-slice-known.given) a.layout a.version c.before.before.before.before.match.keys1 c.before.before.walk-login-request.ensures
 
 same-length-2 : tie.Need-same-length-2
 same-length-2 c = search rules
 
 returns-2 : tie.Need-returns-2
-returns-2 c = let a = c.before.before.before.before.before.before.before.args in walked-2 a.s.now (bytes-all a.s.now c.before.before.before.before.before.before.shared-slice-known.given) a.layout a.version c.before.before.before.before.match.keys2 c.before.before.walk-login-response.ensures
+returns-2 c = let a = c.before.before.before.before.before.before.before.args in walked_2 a.s.now (bytes_all a.s.now c.before.before.before.before.before.before.shared-slice-known.given) a.layout a.version c.before.before.before.before.match.keys2 c.before.before.walk-login-response.ensures
 
 same-length-3 : tie.Need-same-length-3
 same-length-3 c = search rules
 
 returns-3 : tie.Need-returns-3
-returns-3 c = let a = c.before.before.before.before.before.before.before.args in walked-3 a.s.now (bytes-all a.s.now c.before.before.before.before.before.before.shared-slice-known.given) a.layout a.version c.before.before.before.before.match.keys3 c.before.before.walk-invocation.ensures
+returns-3 c = let a = c.before.before.before.before.before.before.before.args in walked_3 a.s.now (bytes_all a.s.now c.before.before.before.before.before.before.shared-slice-known.given) a.layout a.version c.before.before.before.before.match.keys3 c.before.before.walk-invocation.ensures
 
 same-length-4 : tie.Need-same-length-4
 same-length-4 c = search rules
@@ -42,7 +42,7 @@ returns-4 : tie.Need-returns-4
 returns-4 c =
     let a = c.before.before.before.before.before.before.before.args in
     let n = c.before.before.before.before.match.rest in
-    walked-4 a.s.now (bytes-all a.s.now c.before.before.before.before.before.before.shared-slice-known.given) a.layout a.version n.0.0.1 n.0.1 n.1 c.before.before.walk-response.ensures
+    walked_4 a.s.now (bytes_all a.s.now c.before.before.before.before.before.before.shared-slice-known.given) a.layout a.version n.0.0.1 n.0.1 n.1 c.before.before.walk-response.ensures
 
 pub walk-content-spec : {M : Type 1} → statement M
 walk-content-spec =

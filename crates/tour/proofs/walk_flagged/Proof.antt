@@ -3,10 +3,10 @@ use Rattle.std.proofs.Common.{true, false, ◌∙◌, rules}
 use mathlib.Core.Option.{none}
 use Rattle.format.specs.Text.{utf8}
 use Rattle.format.specs.Value.{anything}
-use Rattle.format.specs.Message.{binary, nullText}
-use Rattle.format.proofs.Laws.{lawful-number}
-use Rattle.tally.proofs.Tours.{bytes-all, walked_then}
-use Rattle.tour.proofs.Contents.{lawful-noted, lawful-trip, walked-if}
+use Rattle.format.specs.Message.{binary, null_text}
+use Rattle.format.proofs.Laws.{lawful_number}
+use Rattle.tally.proofs.Tours.{bytes_all, walked_then}
+use Rattle.tour.proofs.Contents.{lawful_noted, lawful_trip, walked_if}
 use Rattle.tour.proofs.walk_flagged.Statement.{statement}
 use Rattle.tour.proofs.walk_flagged.Tie as tie
 
@@ -44,10 +44,10 @@ returns : tie.Need-returns
 returns c =
     let a = c.before.before.before.before.before.before.before.before.before.before.before.before.before.before.before.before.before.before.before.before.before.before.before.before.before.before.before.before.before.args in
     let s = a.s.now in
-    let b = bytes-all s c.before.before.before.before.before.before.before.before.before.before.before.before.before.before.before.before.before.before.before.before.before.before.before.before.before.before.before.before.shared-slice-known.given in
-    walked_then s b (lawful-noted 1 31 _ true utf8 32 33) (walked_then s b (lawful-number 1 31) c.before.before.before.before.before.before.before.before.before.before.before.before.before.before.before.before.before.before.before.before.before.before.before.before.before.walk-fixed.ensures (walked-if none (nullText 32 33) c.before.before.before.before.before.before.before.before.before.before.before.before.before.before.before.before.before.before.before.before.before.has-flag.ensures (c.before.before.before.before.before.before.before.before.before.before.before.before.before.before.before.before.before.before.before.before.walk-optional.ensures true utf8)))
-    (walked_then s b (lawful-noted 1 34 _ true utf8 35 36) (walked_then s b (lawful-number 1 34) c.before.before.before.before.before.before.before.before.before.before.before.before.before.before.before.before.walk-fixed2.ensures (walked-if none (nullText 35 36) c.before.before.before.before.before.before.before.before.before.before.before.before.has-flag2.ensures (c.before.before.before.before.before.before.before.before.before.before.before.walk-optional2.ensures true utf8)))
-    (walked_then s b (lawful-trip a.timed) c.before.before.before.before.before.before.before.walk-trip.ensures (walked-if none (binary 38 39) c.before.before.before.has-flag3.ensures (c.before.before.walk-optional3.ensures false anything))))
+    let b = bytes_all s c.before.before.before.before.before.before.before.before.before.before.before.before.before.before.before.before.before.before.before.before.before.before.before.before.before.before.before.before.shared-slice-known.given in
+    walked_then s b (lawful_noted 1 31 _ true utf8 32 33) (walked_then s b (lawful_number 1 31) c.before.before.before.before.before.before.before.before.before.before.before.before.before.before.before.before.before.before.before.before.before.before.before.before.before.walk-fixed.ensures (walked_if none (null_text 32 33) c.before.before.before.before.before.before.before.before.before.before.before.before.before.before.before.before.before.before.before.before.before.has-flag.ensures (c.before.before.before.before.before.before.before.before.before.before.before.before.before.before.before.before.before.before.before.before.walk-optional.ensures true utf8)))
+    (walked_then s b (lawful_noted 1 34 _ true utf8 35 36) (walked_then s b (lawful_number 1 34) c.before.before.before.before.before.before.before.before.before.before.before.before.before.before.before.before.walk-fixed2.ensures (walked_if none (null_text 35 36) c.before.before.before.before.before.before.before.before.before.before.before.before.has-flag2.ensures (c.before.before.before.before.before.before.before.before.before.before.before.walk-optional2.ensures true utf8)))
+    (walked_then s b (lawful_trip a.timed) c.before.before.before.before.before.before.before.walk-trip.ensures (walked_if none (binary 38 39) c.before.before.before.has-flag3.ensures (c.before.before.walk-optional3.ensures false anything))))
 
 pub walk-flagged-spec : {M : Type 1} → statement M
 walk-flagged-spec =

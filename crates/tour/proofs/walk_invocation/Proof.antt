@@ -1,13 +1,13 @@
 -- `tour::walk_invocation` meets its contract: field after field. Assumes nothing.
 use Rattle.std.proofs.Common.{false, rules}
 use Rattle.format.specs.Text.{utf8}
-use Rattle.format.specs.Message.{mostItems, first}
-use Rattle.format.proofs.Laws.{lawful-block}
-use Rattle.format.proofs.Formats.{lawful-param}
-use Rattle.scan.proofs.Answers.{number-stands}
-use Rattle.tally.proofs.Tours.{bytes-all, walked_block, walked_then}
-use Rattle.tally.proofs.Values.{lawful-string, walked-list}
-use Rattle.tour.proofs.Contents.{walked-invocation}
+use Rattle.format.specs.Message.{most_items, first}
+use Rattle.format.proofs.Laws.{lawful_block}
+use Rattle.format.proofs.Formats.{lawful_param}
+use Rattle.scan.proofs.Answers.{number_stands}
+use Rattle.tally.proofs.Tours.{bytes_all, walked_block, walked_then}
+use Rattle.tally.proofs.Values.{lawful_string, walked_list}
+use Rattle.tour.proofs.Contents.{walked_invocation}
 use Rattle.tour.proofs.walk_invocation.Statement.{statement}
 use Rattle.tour.proofs.walk_invocation.Tie as tie
 
@@ -33,9 +33,9 @@ returns : tie.Need-returns
 returns c =
     let a = c.before.before.before.before.before.before.before.before.before.before.before.before.before.before.before.before.before.before.before.args in
     let s = a.s.now in
-    let b = bytes-all a.s.now c.before.before.before.before.before.before.before.before.before.before.before.before.before.before.before.before.before.before.shared-slice-known.given in
-    walked-invocation s b (walked_then s b (lawful-string false utf8 20 21) (c.before.before.before.before.before.before.before.before.before.before.before.before.before.before.before.walk-body.ensures false utf8) (walked_then s b (lawful-block 8 22) (walked_block s 8 22 c.before.before.before.before.before.before.before.before.before.before.before.walk-fixed.ensures)
-    (walked-list 2 mostItems 23 first lawful-param s b (number-stands c.before.before.before.before.before.before.before.before.number_at.ensures) c.before.before.before.before.before.before.walk-fixed2.ensures c.before.before.walk-params.ensures)))
+    let b = bytes_all a.s.now c.before.before.before.before.before.before.before.before.before.before.before.before.before.before.before.before.before.before.shared-slice-known.given in
+    walked_invocation s b (walked_then s b (lawful_string false utf8 20 21) (c.before.before.before.before.before.before.before.before.before.before.before.before.before.before.before.walk-body.ensures false utf8) (walked_then s b (lawful_block 8 22) (walked_block s 8 22 c.before.before.before.before.before.before.before.before.before.before.before.walk-fixed.ensures)
+    (walked_list 2 most_items 23 first lawful_param s b (number_stands c.before.before.before.before.before.before.before.before.number_at.ensures) c.before.before.before.before.before.before.walk-fixed2.ensures c.before.before.walk-params.ensures)))
 
 pub walk-invocation-spec : {M : Type 1} → statement M
 walk-invocation-spec =

@@ -1,11 +1,11 @@
 -- `tour::walk_items` meets its contract: bytes, or a count and values. Assumes nothing.
 use Rattle.std.proofs.Common.{false, rules}
 use Rattle.format.specs.Value.{anything}
-use Rattle.format.specs.Message.{mostItems, second}
-use Rattle.format.proofs.Formats.{lawful-value}
-use Rattle.scan.proofs.Answers.{number-stands}
-use Rattle.tally.proofs.Tours.{bytes-all}
-use Rattle.tally.proofs.Values.{walked-list, walked-bytes, walked-values}
+use Rattle.format.specs.Message.{most_items, second}
+use Rattle.format.proofs.Formats.{lawful_value}
+use Rattle.scan.proofs.Answers.{number_stands}
+use Rattle.tally.proofs.Tours.{bytes_all}
+use Rattle.tally.proofs.Values.{walked_list, walked_bytes, walked_values}
 use Rattle.tour.proofs.walk_items.Statement.{statement}
 use Rattle.tour.proofs.walk_items.Tie as tie
 
@@ -16,7 +16,7 @@ same_length : tie.Need-same-length
 same_length c = search rules
 
 returns : tie.Need-returns
-returns c = let a = c.before.before.before.before.before.before.before.args in walked-bytes a.s.now (bytes-all a.s.now c.before.before.before.before.before.before.shared-slice-known.given) a.t c.before.before.before.before.if1.true (c.before.before.walk-body.ensures false anything)
+returns c = let a = c.before.before.before.before.before.before.before.args in walked_bytes a.s.now (bytes_all a.s.now c.before.before.before.before.before.before.shared-slice-known.given) a.t c.before.before.before.before.if1.true (c.before.before.walk-body.ensures false anything)
 
 number-at-requires : tie.Need-number-at-requires
 number-at-requires c κs = search rules
@@ -33,8 +33,8 @@ same-length-2 c = search rules
 returns-2 : tie.Need-returns-2
 returns-2 c =
     let a = c.before.before.before.before.before.before.before.before.before.before.before.before.args in
-    let b = bytes-all a.s.now c.before.before.before.before.before.before.before.before.before.before.before.shared-slice-known.given in
-    walked-values a.s.now b a.t c.before.before.before.before.before.before.before.before.before.if1.false (walked-list 2 mostItems 26 second (lawful-value 27 28 a.t) a.s.now b (number-stands c.before.before.before.before.before.before.before.before.number_at.ensures) c.before.before.before.before.before.before.walk-fixed.ensures c.before.before.walk-values.ensures)
+    let b = bytes_all a.s.now c.before.before.before.before.before.before.before.before.before.before.before.shared-slice-known.given in
+    walked_values a.s.now b a.t c.before.before.before.before.before.before.before.before.before.if1.false (walked_list 2 most_items 26 second (lawful_value 27 28 a.t) a.s.now b (number_stands c.before.before.before.before.before.before.before.before.number_at.ensures) c.before.before.before.before.before.before.walk-fixed.ensures c.before.before.walk-values.ensures)
 
 pub walk-items-spec : {M : Type 1} → statement M
 walk-items-spec =

@@ -1,8 +1,8 @@
 -- `tour::walk_login` meets its contract: field after field. Assumes nothing.
 use Rattle.std.proofs.Common.{false, rules}
 use Rattle.format.specs.Text.{utf8}
-use Rattle.tally.proofs.Tours.{bytes-all, walked_block, walked_then}
-use Rattle.tally.proofs.Values.{lawful-string}
+use Rattle.tally.proofs.Tours.{bytes_all, walked_block, walked_then}
+use Rattle.tally.proofs.Values.{lawful_string}
 use Rattle.tour.proofs.walk_login.Statement.{statement}
 use Rattle.tour.proofs.walk_login.Tie as tie
 
@@ -21,9 +21,9 @@ same_length c = search rules
 returns : tie.Need-returns
 returns c =
     let a = c.before.before.before.before.before.before.before.before.before.before.before.before.before.before.args in
-    let b = bytes-all a.s.now c.before.before.before.before.before.before.before.before.before.before.before.before.before.shared-slice-known.given in
-    walked_then a.s.now b (lawful-string false utf8 4 5) (c.before.before.before.before.before.before.before.before.before.before.walk-body.ensures false utf8)
-    (walked_then a.s.now b (lawful-string false utf8 6 7) (c.before.before.before.before.before.before.walk-body2.ensures false utf8) (walked_block a.s.now a.size 8 c.before.before.walk-fixed.ensures))
+    let b = bytes_all a.s.now c.before.before.before.before.before.before.before.before.before.before.before.before.before.shared-slice-known.given in
+    walked_then a.s.now b (lawful_string false utf8 4 5) (c.before.before.before.before.before.before.before.before.before.before.walk-body.ensures false utf8)
+    (walked_then a.s.now b (lawful_string false utf8 6 7) (c.before.before.before.before.before.before.walk-body2.ensures false utf8) (walked_block a.s.now a.size 8 c.before.before.walk-fixed.ensures))
 
 pub walk-login-spec : {M : Type 1} → statement M
 walk-login-spec =

@@ -1,11 +1,11 @@
 -- `tour::walk_metadata` meets its contract: a room, and its fields in it. Assumes nothing.
 use Rattle.std.proofs.Common.{◌∙◌, rules}
-use Rattle.format.specs.Message.{mostColumns}
-use Rattle.format.proofs.Laws.{lawful-number}
-use Rattle.scan.proofs.Answers.{number-stands}
-use Rattle.tally.proofs.Tours.{bytes-all, walked_then, walked_by}
-use Rattle.tally.proofs.Values.{lawful-count, count-told}
-use Rattle.tally.proofs.Tables.{columns, lawful-types, walked-count, walked-metadata}
+use Rattle.format.specs.Message.{most_columns}
+use Rattle.format.proofs.Laws.{lawful_number}
+use Rattle.scan.proofs.Answers.{number_stands}
+use Rattle.tally.proofs.Tours.{bytes_all, walked_then, walked_by}
+use Rattle.tally.proofs.Values.{lawful_count, count_told}
+use Rattle.tally.proofs.Tables.{columns, lawful_types, walked_count, walked_metadata}
 use Rattle.tour.proofs.walk_metadata.Statement.{statement}
 use Rattle.tour.proofs.walk_metadata.Tie as tie
 
@@ -34,10 +34,10 @@ returns : tie.Need-returns
 returns c =
     let a = c.before.before.before.before.before.before.before.before.before.before.before.before.before.before.before.before.before.before.before.before.before.before.before.args in
     let s = a.s.now in
-    let b = bytes-all a.s.now c.before.before.before.before.before.before.before.before.before.before.before.before.before.before.before.before.before.before.before.before.before.before.shared-slice-known.given in
-    walked-metadata s b c.before.before.before.before.before.before.before.before.before.before.before.before.before.before.before.before.before.before.before.walk-fixed.ensures (walked_then s b (lawful-number 1 43) c.before.before.before.before.before.before.before.before.before.before.before.before.before.before.before.walk-fixed2.ensures
-    (walked_by s b columns (lawful-count 2 mostColumns 44) (count-told s 2 mostColumns 44 _ (number-stands c.before.before.before.before.before.before.before.before.before.before.before.before.number_at.ensures)) (walked-count s b 2 mostColumns 44 c.before.before.before.before.before.before.before.before.before.before.walk-fixed3.ensures)
-    (walked_then s b (lawful-types c.before.before.before.before.before.before.before.before.before.before.before.before.number_at.result) c.before.before.before.before.before.before.walk-types.ensures c.before.before.walk-names.ensures)))
+    let b = bytes_all a.s.now c.before.before.before.before.before.before.before.before.before.before.before.before.before.before.before.before.before.before.before.before.before.before.shared-slice-known.given in
+    walked_metadata s b c.before.before.before.before.before.before.before.before.before.before.before.before.before.before.before.before.before.before.before.walk-fixed.ensures (walked_then s b (lawful_number 1 43) c.before.before.before.before.before.before.before.before.before.before.before.before.before.before.before.walk-fixed2.ensures
+    (walked_by s b columns (lawful_count 2 most_columns 44) (count_told s 2 most_columns 44 _ (number_stands c.before.before.before.before.before.before.before.before.before.before.before.before.number_at.ensures)) (walked_count s b 2 most_columns 44 c.before.before.before.before.before.before.before.before.before.before.walk-fixed3.ensures)
+    (walked_then s b (lawful_types c.before.before.before.before.before.before.before.before.before.before.before.before.number_at.result) c.before.before.before.before.before.before.walk-types.ensures c.before.before.walk-names.ensures)))
 
 pub walk-metadata-spec : {M : Type 1} → statement M
 walk-metadata-spec =

@@ -2,10 +2,10 @@
 use Rattle.std.proofs.Common.{◌-◌, false, arith, rules}
 use Rattle.format.specs.Value.{string, ascii}
 use Rattle.format.specs.Message.{third}
-use Rattle.tally.proofs.Values.{lawful-string}
+use Rattle.tally.proofs.Values.{lawful_string}
 use Rattle.tally.specs.Walks.{index_of}
-use Rattle.tally.proofs.Tours.{bytes-all}
-use Rattle.tally.proofs.Rounds.{Round, round-first, round-next, round-last, all_same}
+use Rattle.tally.proofs.Tours.{bytes_all}
+use Rattle.tally.proofs.Rounds.{Round, round_first, round_next, round_last, all_same}
 use Rattle.tour.proofs.walk_names.Statement.{statement}
 use Rattle.tour.proofs.walk_names.Tie as tie
 
@@ -16,7 +16,7 @@ abbrev decreases-loop : tie.decreases-loop
 decreases-loop s out₀ n ix tour₀ k₀ out tour k = n - k
 
 loop-holds : tie.Need-loop-init invariant-loop decreases-loop
-loop-holds c = let a = c.before.before.args in round-first third (λ m. string false ascii 46 47) _ _ _ _ _
+loop-holds c = let a = c.before.before.args in round_first third (λ m. string false ascii 46 47) _ _ _ _ _
 
 walk-body-requires : tie.Need-walk-body-requires invariant-loop decreases-loop
 walk-body-requires c κs = search rules
@@ -31,7 +31,7 @@ loop-again : tie.Need-loop-preserved invariant-loop decreases-loop
 loop-again c =
     let a = c.before.before.before.before.before.before.before.before.args in
     let l = c.before.before.before.before.before.loop in
-    round-next third (λ m. string false ascii 46 47) (λ m. lawful-string false ascii 46 47) a.s.now (bytes-all a.s.now c.before.before.before.before.before.before.before.shared-slice-known.given) (index_of a.ix) a.n l.k c.before.before.before.before.loop-test.true l.invariant (c.before.before.walk-body.ensures false ascii) c.before.before.walk-body.auto.1.0
+    round_next third (λ m. string false ascii 46 47) (λ m. lawful_string false ascii 46 47) a.s.now (bytes_all a.s.now c.before.before.before.before.before.before.before.shared-slice-known.given) (index_of a.ix) a.n l.k c.before.before.before.before.loop-test.true l.invariant (c.before.before.walk-body.ensures false ascii) c.before.before.walk-body.auto.1.0
 
 same_length : tie.Need-same-length invariant-loop decreases-loop
 same_length c = c.before.loop.invariant.long
@@ -39,7 +39,7 @@ same_length c = c.before.loop.invariant.long
 returns : tie.Need-returns invariant-loop decreases-loop
 returns c =
     let a = c.before.before.before.before.args in
-    all_same third a.s.now (string false ascii 46 47) a.n (round-last third (λ m. string false ascii 46 47) _ _ _ _ _ c.loop-test.false c.before.loop.invariant)
+    all_same third a.s.now (string false ascii 46 47) a.n (round_last third (λ m. string false ascii 46 47) _ _ _ _ _ c.loop-test.false c.before.loop.invariant)
 
 pub walk-names-spec : {M : Type 1} → statement M
 walk-names-spec =

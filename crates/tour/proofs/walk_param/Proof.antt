@@ -1,9 +1,9 @@
 -- `tour::walk_param` meets its contract: a type, and what it decides. Assumes nothing.
 use Rattle.format.specs.declared.Fault.TheVariants.{WireType}
 use Rattle.format.specs.Message.{argument}
-use Rattle.scan.proofs.Answers.{byte-stands}
-use Rattle.tally.proofs.Tours.{bytes-all}
-use Rattle.tally.proofs.Values.{isParam, walked-param, walked-typed}
+use Rattle.scan.proofs.Answers.{byte_stands}
+use Rattle.tally.proofs.Tours.{bytes_all}
+use Rattle.tally.proofs.Values.{is_param, walked_param, walked_typed}
 use Rattle.std.proofs.Common.{rules}
 use Rattle.tour.proofs.walk_param.Statement.{statement}
 use Rattle.tour.proofs.walk_param.Tie as tie
@@ -23,8 +23,8 @@ same_length c = search rules
 returns : tie.Need-returns
 returns c =
     let a = c.before.before.before.before.before.before.before.before.before.before.before.args in
-    let b = bytes-all a.s.now c.before.before.before.before.before.before.before.before.before.before.shared-slice-known.given in
-    walked-param a.s.now b (walked-typed isParam WireType 24 argument a.s.now b (byte-stands c.before.before.before.before.before.before.before.before.byte_at.ensures) c.before.before.before.before.before.before.walk-fixed.ensures c.before.before.walk-argument.ensures)
+    let b = bytes_all a.s.now c.before.before.before.before.before.before.before.before.before.before.shared-slice-known.given in
+    walked_param a.s.now b (walked_typed is_param WireType 24 argument a.s.now b (byte_stands c.before.before.before.before.before.before.before.before.byte_at.ensures) c.before.before.before.before.before.before.walk-fixed.ensures c.before.before.walk-argument.ensures)
 
 pub walk-param-spec : {M : Type 1} → statement M
 walk-param-spec =

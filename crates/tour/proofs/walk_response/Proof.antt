@@ -1,10 +1,10 @@
 -- `tour::walk_response` meets its contract: its head, and then its tables. Assumes nothing.
-use Rattle.format.specs.Message.{mostItems, first}
-use Rattle.format.proofs.Formats.{lawful-head, lawful-table}
-use Rattle.scan.proofs.Answers.{number-stands}
-use Rattle.tally.proofs.Tours.{bytes-all, walked_then}
-use Rattle.tally.proofs.Values.{walked-list}
-use Rattle.tally.proofs.Tables.{walked-reply}
+use Rattle.format.specs.Message.{most_items, first}
+use Rattle.format.proofs.Formats.{lawful_head, lawful_table}
+use Rattle.scan.proofs.Answers.{number_stands}
+use Rattle.tally.proofs.Tours.{bytes_all, walked_then}
+use Rattle.tally.proofs.Values.{walked_list}
+use Rattle.tally.proofs.Tables.{walked_reply}
 use Rattle.std.proofs.Common.{rules}
 use Rattle.tour.proofs.walk_response.Statement.{statement}
 use Rattle.tour.proofs.walk_response.Tie as tie
@@ -28,9 +28,9 @@ returns : tie.Need-returns
 returns c =
     let a = c.before.before.before.before.before.before.before.before.before.before.before.before.before.before.before.args in
     let s = a.s.now in
-    let b = bytes-all s c.before.before.before.before.before.before.before.before.before.before.before.before.before.before.shared-slice-known.given in
-    walked-reply s b a.timed (walked_then s b (lawful-head a.timed) c.before.before.before.before.before.before.before.before.before.before.before.walk-head.ensures
-    (walked-list 2 mostItems 40 first lawful-table s b (number-stands c.before.before.before.before.before.before.before.before.number_at.ensures) c.before.before.before.before.before.before.walk-fixed.ensures c.before.before.walk-tables.ensures))
+    let b = bytes_all s c.before.before.before.before.before.before.before.before.before.before.before.before.before.before.shared-slice-known.given in
+    walked_reply s b a.timed (walked_then s b (lawful_head a.timed) c.before.before.before.before.before.before.before.before.before.before.before.walk-head.ensures
+    (walked_list 2 most_items 40 first lawful_table s b (number_stands c.before.before.before.before.before.before.before.before.number_at.ensures) c.before.before.before.before.before.before.walk-fixed.ensures c.before.before.walk-tables.ensures))
 
 pub walk-response-spec : {M : Type 1} → statement M
 walk-response-spec =

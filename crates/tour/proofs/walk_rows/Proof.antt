@@ -1,11 +1,11 @@
 -- `tour::walk_rows` meets its contract: what is left, after what was met or passed, is the whole. Assumes nothing.
 use Rattle.std.proofs.Common.{◌+◌, ◌-◌, ◌≤◌, refl, arith, rules}
 use Rattle.format.specs.Message.{second, row}
-use Rattle.format.proofs.Formats.{lawful-row}
+use Rattle.format.proofs.Formats.{lawful_row}
 use Rattle.tally.specs.Walks.{index_of}
-use Rattle.tally.proofs.Tours.{bytes-all}
-use Rattle.tally.proofs.Rounds.{Round, round-first, round-next, round-last, all_same}
-use Rattle.tally.proofs.Evens.{rounds-rows}
+use Rattle.tally.proofs.Tours.{bytes_all}
+use Rattle.tally.proofs.Rounds.{Round, round_first, round_next, round_last, all_same}
+use Rattle.tally.proofs.Evens.{rounds_rows}
 use Rattle.tour.proofs.walk_rows.Statement.{statement}
 use Rattle.tour.proofs.walk_rows.Tie as tie
 
@@ -21,7 +21,7 @@ fixed-row-requires c κs = search rules
 loop-holds : tie.Need-loop-init invariant-loop decreases-loop
 loop-holds c =
     let a = c.before.before.before.before.args in
-    round-first second (λ m. row a.types.now) _ _ _ _ _
+    round_first second (λ m. row a.types.now) _ _ _ _ _
 
 sub-calm-run : tie.Need-overflow-sub-calm-run invariant-loop decreases-loop
 sub-calm-run c = search rules
@@ -45,7 +45,7 @@ add-j c =
 loop-less : tie.Need-loop-smaller invariant-loop decreases-loop
 loop-less c =
     let few = c.before.before.calm_run.ensures.few in
-    let some-rows = c.before.if1.true in
+    let some_rows = c.before.if1.true in
     let more = c.before.before.before.loop-test.true in
     omega arith
 
@@ -58,9 +58,9 @@ loop-again c =
     let few = k.ensures.few in
     let run = k.ensures.calm c.before.if1.true in
     let sizes = c.before.before.before.before.before.fixed-row.ensures.sizes run.0.some_bytes in
-    let by = bytes-all a.s.now c.before.before.before.before.before.before.before.before.shared-slice-known.given in
+    let by = bytes_all a.s.now c.before.before.before.before.before.before.before.before.shared-slice-known.given in
     let left : l.j + k.result ≤ a.n = omega arith in
-    rw c.pass-even.ensures (rounds-rows a.types.now sizes.1 a.s.now by _ sizes.2 k.result l.j l.tour run.0.some-rows left run.1 refl l.invariant)
+    rw c.pass-even.ensures (rounds_rows a.types.now sizes.1 a.s.now by _ sizes.2 k.result l.j l.tour run.0.some_rows left run.1 refl l.invariant)
 
 pass-row-requires : tie.Need-pass-row-requires invariant-loop decreases-loop
 pass-row-requires c κs = search rules
@@ -79,8 +79,8 @@ loop-again-2 : tie.Need-loop-preserved-2 invariant-loop decreases-loop
 loop-again-2 c =
     let a = c.before.before.before.before.before.before.before.before.before.before.before.before.args in
     let l = c.before.before.before.before.before.before.before.loop in
-    let by = bytes-all a.s.now c.before.before.before.before.before.before.before.before.before.before.before.shared-slice-known.given in
-    round-next second (λ m. row a.types.now) (λ m. lawful-row a.types.now) a.s.now by (index_of a.ix) a.n l.j c.before.before.before.before.before.before.loop-test.true l.invariant c.before.before.pass-row.ensures c.before.before.pass-row.auto.1.0
+    let by = bytes_all a.s.now c.before.before.before.before.before.before.before.before.before.before.before.shared-slice-known.given in
+    round_next second (λ m. row a.types.now) (λ m. lawful_row a.types.now) a.s.now by (index_of a.ix) a.n l.j c.before.before.before.before.before.before.loop-test.true l.invariant c.before.before.pass-row.ensures c.before.before.pass-row.auto.1.0
 
 same_length : tie.Need-same-length invariant-loop decreases-loop
 same_length c = c.before.loop.invariant.long
@@ -88,7 +88,7 @@ same_length c = c.before.loop.invariant.long
 returns : tie.Need-returns invariant-loop decreases-loop
 returns c =
     let a = c.before.before.before.before.before.before.args in
-    all_same second a.s.now (row a.types.now) a.n (round-last second (λ m. row a.types.now) _ _ _ _ _ c.loop-test.false c.before.loop.invariant)
+    all_same second a.s.now (row a.types.now) a.n (round_last second (λ m. row a.types.now) _ _ _ _ _ c.loop-test.false c.before.loop.invariant)
 
 pub walk-rows-spec : {M : Type 1} → statement M
 walk-rows-spec =

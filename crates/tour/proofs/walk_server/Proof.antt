@@ -1,9 +1,9 @@
 -- `tour::walk_server` meets its contract: field after field. Assumes nothing.
 use Rattle.std.proofs.Common.{false, ◌∙◌, rules}
 use Rattle.format.specs.Text.{utf8}
-use Rattle.format.proofs.Laws.{lawful-number}
-use Rattle.tally.proofs.Tours.{bytes-all, walked_then}
-use Rattle.tour.proofs.Contents.{walked-server}
+use Rattle.format.proofs.Laws.{lawful_number}
+use Rattle.tally.proofs.Tours.{bytes_all, walked_then}
+use Rattle.tour.proofs.Contents.{walked_server}
 use Rattle.tour.proofs.walk_server.Statement.{statement}
 use Rattle.tour.proofs.walk_server.Tie as tie
 
@@ -29,9 +29,9 @@ returns : tie.Need-returns
 returns c =
     let a = c.before.before.before.before.before.before.before.before.before.before.before.before.before.before.before.before.before.before.before.before.before.before.args in
     let s = a.s.now in
-    let b = bytes-all a.s.now c.before.before.before.before.before.before.before.before.before.before.before.before.before.before.before.before.before.before.before.before.before.shared-slice-known.given in
-    walked-server s b (walked_then s b (lawful-number 4 11) c.before.before.before.before.before.before.before.before.before.before.before.before.before.before.before.before.before.before.walk-fixed.ensures (walked_then s b (lawful-number 8 12) c.before.before.before.before.before.before.before.before.before.before.before.before.before.before.walk-fixed2.ensures
-    (walked_then s b (lawful-number 8 13) c.before.before.before.before.before.before.before.before.before.before.walk-fixed3.ensures (walked_then s b (lawful-number 4 14) c.before.before.before.before.before.before.walk-fixed4.ensures (c.before.before.walk-body.ensures false utf8)))))
+    let b = bytes_all a.s.now c.before.before.before.before.before.before.before.before.before.before.before.before.before.before.before.before.before.before.before.before.before.shared-slice-known.given in
+    walked_server s b (walked_then s b (lawful_number 4 11) c.before.before.before.before.before.before.before.before.before.before.before.before.before.before.before.before.before.before.walk-fixed.ensures (walked_then s b (lawful_number 8 12) c.before.before.before.before.before.before.before.before.before.before.before.before.before.before.walk-fixed2.ensures
+    (walked_then s b (lawful_number 8 13) c.before.before.before.before.before.before.before.before.before.before.walk-fixed3.ensures (walked_then s b (lawful_number 4 14) c.before.before.before.before.before.before.walk-fixed4.ensures (c.before.before.walk-body.ensures false utf8)))))
 
 pub walk-server-spec : {M : Type 1} → statement M
 walk-server-spec =

@@ -1,11 +1,11 @@
 -- `tour::walk_table` meets its contract: a room, the metadata in it, and the rows by its types. Assumes nothing.
 use Rattle.std.proofs.Common.{◌∙◌, rules}
 use Rattle.format.specs.Message.{second, unlimited}
-use Rattle.format.proofs.Formats.{lawful-metadata, lawful-row}
-use Rattle.scan.proofs.Answers.{number-stands}
-use Rattle.tally.proofs.Tours.{bytes-all, walked_both}
-use Rattle.tally.proofs.Values.{walked-list}
-use Rattle.tally.proofs.Tables.{rows, walked-table}
+use Rattle.format.proofs.Formats.{lawful_metadata, lawful_row}
+use Rattle.scan.proofs.Answers.{number_stands}
+use Rattle.tally.proofs.Tours.{bytes_all, walked_both}
+use Rattle.tally.proofs.Values.{walked_list}
+use Rattle.tally.proofs.Tables.{rows, walked_table}
 use Rattle.tour.proofs.walk_table.Statement.{statement}
 use Rattle.tour.proofs.walk_table.Tie as tie
 
@@ -34,10 +34,10 @@ returns : tie.Need-returns
 returns c =
     let a = c.before.before.before.before.before.before.before.before.before.before.before.before.before.before.before.before.before.before.before.before.args in
     let s = a.s.now in
-    let b = bytes-all a.s.now c.before.before.before.before.before.before.before.before.before.before.before.before.before.before.before.before.before.before.before.shared-slice-known.given in
-    walked-table s b c.before.before.before.before.before.before.before.before.before.before.before.before.before.before.before.before.walk-fixed.ensures (walked_both b {g = rows} lawful-metadata c.before.before.before.before.before.before.before.before.before.before.before.pass-metadata.ensures (λ m next e.
+    let b = bytes_all a.s.now c.before.before.before.before.before.before.before.before.before.before.before.before.before.before.before.before.before.before.before.shared-slice-known.given in
+    walked_table s b c.before.before.before.before.before.before.before.before.before.before.before.before.before.before.before.before.walk-fixed.ensures (walked_both b {g = rows} lawful_metadata c.before.before.before.before.before.before.before.before.before.before.before.pass-metadata.ensures (λ m next e.
     let same = c.before.before.before.before.before.before.before.before.before.before.before.before.before.types_of.ensures m next e in
-    rw (← same) (walked-list 4 unlimited 48 second (lawful-row _) s b (number-stands c.before.before.before.before.before.before.before.before.number_at.ensures) c.before.before.before.before.before.before.walk-fixed2.ensures c.before.before.walk_rows.ensures)))
+    rw (← same) (walked_list 4 unlimited 48 second (lawful_row _) s b (number_stands c.before.before.before.before.before.before.before.before.number_at.ensures) c.before.before.before.before.before.before.walk-fixed2.ensures c.before.before.walk_rows.ensures)))
 
 pub walk-table-spec : {M : Type 1} → statement M
 walk-table-spec =

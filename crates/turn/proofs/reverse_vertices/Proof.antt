@@ -1,7 +1,7 @@
 -- `turn::reverse_vertices` meets its contract: all bytes reversed, and then those of each vertex. Assumes nothing.
 use mathlib.Core.Path.{◌≡◌, refl}
 use native.Mathlib.Omega.{arith}
-use Rattle.turn.proofs.Reversals.{to-mend}
+use Rattle.turn.proofs.Reversals.{to_mend}
 use borrow.Author.Rules.{rules}
 use Rattle.turn.proofs.reverse_vertices.Statement.{statement}
 use Rattle.turn.proofs.reverse_vertices.Tie as tie
@@ -24,7 +24,7 @@ same_length c = search rules
 returns : tie.Need-returns
 returns c = λ front blocks back stands place many fine.
     let a = c.before.before.before.before.before.before.before.before.before.args in
-    let todo = to-mend a.b.now front blocks back a.from a.n _ stands place many fine refl in
+    let todo = to_mend a.b.now front blocks back a.from a.n _ stands place many fine refl in
     c.before.before.mend-vertices.ensures _ (rw (← c.before.before.before.before.before.before.reverse.ensures) at todo)
 
 pub reverse-vertices-spec : {M : Type 1} → statement M

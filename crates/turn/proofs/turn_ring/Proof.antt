@@ -3,7 +3,7 @@ use Prim.Native.Nat.{suc, ◌+◌, ◌-◌, ◌*◌, ◌≤◌}
 use mathlib.Core.Path.{◌≡◌, sym, ◌∙◌, ap}
 use lib.ListN.{length}
 use native.Mathlib.Omega.{arith}
-use Rattle.turn.proofs.Turns.{roomy, ring-turned, ring-size}
+use Rattle.turn.proofs.Turns.{roomy, ring_turned, ring_size}
 use borrow.Author.Rules.{rules}
 use Rattle.turn.proofs.turn_ring.Statement.{statement}
 use Rattle.turn.proofs.turn_ring.Tie as tie
@@ -62,7 +62,7 @@ returns c = λ r d.
     let w = roomy d in
     let n = c.before.before.before.before.four.ensures.0 in
     let many : length r.vertices ≡ suc (c.before.before.before.before.four.result - 1) = omega (arith, w.count, w.few, n) in
-    (omega (arith, ring-size d, w.count, w.few, n), ring-turned d (c.before.before.before.before.four.result - 1) many c.before.before.reverse-vertices.ensures)
+    (omega (arith, ring_size d, w.count, w.few, n), ring_turned d (c.before.before.before.before.four.result - 1) many c.before.before.reverse-vertices.ensures)
 
 pub turn-ring-spec : {M : Type 1} → statement M
 turn-ring-spec =

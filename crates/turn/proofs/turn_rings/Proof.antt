@@ -4,16 +4,16 @@ use mathlib.Core.Path.{◌≡◌}
 use mathlib.Core.List.{List}
 use lib.ListN.{length}
 use native.Mathlib.Omega.{arith}
-use Rattle.format.specs.Geography.{ring, turnedRing}
-use Rattle.turn.specs.Turning.{Rings, SomeRings}
+use Rattle.format.specs.Geography.{ring, turned_ring}
+use Rattle.turn.specs.Turning.{Rings, Some_rings}
 use Rattle.turn.proofs.Changes.{all_changed}
-use Rattle.turn.proofs.Turns.{ring-left, ring-done}
+use Rattle.turn.proofs.Turns.{ring_left, ring_done}
 use borrow.Author.Rules.{rules}
 use Rattle.turn.proofs.turn_rings.Statement.{statement}
 use Rattle.turn.proofs.turn_rings.Tie as tie
 
 abbrev invariant-loop : tie.invariant-loop
-invariant-loop b₀ from n at₀ i₀ b at i = (i ≤ n) × (length b ≡ length b₀) × SomeRings b at (n - i) × ((target : List ℕ) → Rings b₀ target from n → Rings b target at (n - i))
+invariant-loop b₀ from n at₀ i₀ b at i = (i ≤ n) × (length b ≡ length b₀) × Some_rings b at (n - i) × ((target : List ℕ) → Rings b₀ target from n → Rings b target at (n - i))
 
 abbrev decreases-loop : tie.decreases-loop
 decreases-loop b₀ from n at₀ i₀ b at i = n - i
@@ -29,7 +29,7 @@ turn-ring-requires c κs =
     let a = c.before.before.before.before.args in
     let l = c.before.before.loop in
     let left : a.n - l.i ≡ suc (a.n - (l.i + 1)) = omega (arith, c.before.loop-test.true) in
-    ring-left (rw left at l.invariant.2.1)
+    ring_left (rw left at l.invariant.2.1)
 
 add-i : tie.Need-overflow-add-i invariant-loop decreases-loop
 add-i c = search rules
@@ -45,8 +45,8 @@ loop-again c =
     let left : a.n - l.i ≡ suc (a.n - (l.i + 1)) = omega (arith, c.before.before.before.before.loop-test.true) in (
       search rules,
       search rules,
-      (l.invariant.2.0, ring-done (rw left at l.invariant.2.1) turn),
-      λ target h. ring-done (rw left at (l.invariant.3 target h)) turn,
+      (l.invariant.2.0, ring_done (rw left at l.invariant.2.1) turn),
+      λ target h. ring_done (rw left at (l.invariant.3 target h)) turn,
     )
 
 same_length : tie.Need-same-length invariant-loop decreases-loop
@@ -56,7 +56,7 @@ returns : tie.Need-returns invariant-loop decreases-loop
 returns c = λ target h.
     let l = c.before.loop in
     let done : c.before.before.before.args.n - l.i ≡ 0 = omega (arith, c.loop-test.false) in
-    all_changed ring.bytes (λ r. ring.bytes (turnedRing r)) ring.Good (rw done at (l.invariant.3 target h))
+    all_changed ring.bytes (λ r. ring.bytes (turned_ring r)) ring.Good (rw done at (l.invariant.3 target h))
 
 pub turn-rings-spec : {M : Type 1} → statement M
 turn-rings-spec =

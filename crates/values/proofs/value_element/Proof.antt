@@ -4,7 +4,7 @@ use mathlib.Core.List.{[]}
 use Rattle.format.specs.Value.{Value}
 use Rattle.steps.specs.Steps.{element}
 use Rattle.write.specs.Shown.{Stepped}
-use Rattle.values.proofs.Written.{written, written-body}
+use Rattle.values.proofs.Written.{written, written_body}
 use borrow.Author.Rules.{rules}
 use Rattle.values.proofs.value_element.Statement.{statement}
 use Rattle.values.proofs.value_element.Tie as tie
@@ -52,7 +52,7 @@ returns-2 : tie.Need-returns-2
 returns-2 c =
     let a = c.before.before.before.before.before.before.before.before.before.before.before.args in
     let step = c.before.before.body-element in
-    written-body a.m.now a.c (λ (t : ℕ) (v : Value). Stepped (element t v) a.st [] a.out.now step.result step.new.0) c.before.before.before.before.before.before.before.before.raw_of.ensures _ _ _ c.before.before.before.before.before.before.raw2.given.1 c.before.before.before.body_at.ensures.bytes step.ensures
+    written_body a.m.now a.c (λ (t : ℕ) (v : Value). Stepped (element t v) a.st [] a.out.now step.result step.new.0) c.before.before.before.before.before.before.before.before.raw_of.ensures _ _ _ c.before.before.before.before.before.before.raw2.given.1 c.before.before.before.body_at.ensures.bytes step.ensures
 
 same-length-3 : tie.Need-same-length-3
 same-length-3 c = search rules

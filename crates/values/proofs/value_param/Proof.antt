@@ -2,9 +2,9 @@
 use Prim.Native.Nat.{ℕ}
 use mathlib.Core.List.{[]}
 use Rattle.format.specs.Value.{Value}
-use Rattle.steps.specs.Steps.{oneParam}
+use Rattle.steps.specs.Steps.{one_param}
 use Rattle.write.specs.Shown.{Stepped}
-use Rattle.values.proofs.Written.{written, written-body}
+use Rattle.values.proofs.Written.{written, written_body}
 use borrow.Author.Rules.{rules}
 use Rattle.values.proofs.value_param.Statement.{statement}
 use Rattle.values.proofs.value_param.Tie as tie
@@ -43,7 +43,7 @@ returns : tie.Need-returns
 returns c =
     let a = c.before.before.before.before.before.before.before.before.before.before.args in
     let step = c.before.before.fixed_param in
-    written a.m.now a.c (λ (t : ℕ) (v : Value). Stepped (oneParam t v) a.st [] a.out.now step.result step.new.0) c.before.before.before.before.before.before.before.raw_of.ensures _ c.before.before.before.before.before.raw.given.1 step.ensures
+    written a.m.now a.c (λ (t : ℕ) (v : Value). Stepped (one_param t v) a.st [] a.out.now step.result step.new.0) c.before.before.before.before.before.before.before.raw_of.ensures _ c.before.before.before.before.before.raw.given.1 step.ensures
 
 same-length-2 : tie.Need-same-length-2
 same-length-2 c = search rules
@@ -52,7 +52,7 @@ returns-2 : tie.Need-returns-2
 returns-2 c =
     let a = c.before.before.before.before.before.before.before.before.before.before.before.args in
     let step = c.before.before.body-param in
-    written-body a.m.now a.c (λ (t : ℕ) (v : Value). Stepped (oneParam t v) a.st [] a.out.now step.result step.new.0) c.before.before.before.before.before.before.before.before.raw_of.ensures _ _ _ c.before.before.before.before.before.before.raw2.given.1 c.before.before.before.body_at.ensures.bytes step.ensures
+    written_body a.m.now a.c (λ (t : ℕ) (v : Value). Stepped (one_param t v) a.st [] a.out.now step.result step.new.0) c.before.before.before.before.before.before.before.before.raw_of.ensures _ _ _ c.before.before.before.before.before.before.raw2.given.1 c.before.before.before.body_at.ensures.bytes step.ensures
 
 same-length-3 : tie.Need-same-length-3
 same-length-3 c = search rules
@@ -61,7 +61,7 @@ returns-3 : tie.Need-returns-3
 returns-3 c =
     let a = c.before.before.before.before.before.before.before.before.before.before.before.args in
     let step = c.before.before.body-param2 in
-    written a.m.now a.c (λ (t : ℕ) (v : Value). Stepped (oneParam t v) a.st [] a.out.now step.result step.new.0) c.before.before.before.before.before.before.before.before.raw_of.ensures _ c.before.before.before.before.before.before.raw3.given.1 step.ensures
+    written a.m.now a.c (λ (t : ℕ) (v : Value). Stepped (one_param t v) a.st [] a.out.now step.result step.new.0) c.before.before.before.before.before.before.before.before.raw_of.ensures _ c.before.before.before.before.before.before.raw3.given.1 step.ensures
 
 pub value-param-spec : {M : Type 1} → statement M
 value-param-spec =

@@ -6,10 +6,10 @@ use mathlib.Core.Option.{Option}
 use lib.ListN.{length}
 use borrow.Author.Tests.{leb-true, not-true, not-false}
 use Rattle.format.specs.Value.{Value}
-use Rattle.write.specs.Shown.{seen, shownAnswer}
-use Rattle.whole.specs.Rows.{cellStep}
+use Rattle.write.specs.Shown.{seen, shown_answer}
+use Rattle.whole.specs.Rows.{cell_step}
 use Rattle.whole.specs.Asked.{asked}
-use Rattle.whole.proofs.Sures.{asked-null, asked-there, asked-past}
+use Rattle.whole.proofs.Sures.{asked_null, asked_there, asked_past}
 use borrow.Author.Rules.{rules}
 use Rattle.whole.proofs.ask_body.Statement.{statement}
 use Rattle.whole.proofs.ask_body.Tie as tie
@@ -37,7 +37,7 @@ ask-cell-requires c κs = search rules
 returns : tie.Need-returns
 returns c =
     let a = c.before.before.before.before.before.args in
-    asked-null a.bytes.now (seen a.st a.types.now) a.t a.room a.start a.size c.before.before.before.if1.true c.before.body-fault.ensures c.ask-cell.ensures
+    asked_null a.bytes.now (seen a.st a.types.now) a.t a.room a.start a.size c.before.before.before.if1.true c.before.body-fault.ensures c.ask-cell.ensures
 
 fits-requires : tie.Need-fits-requires
 fits-requires c κs = search rules
@@ -45,7 +45,7 @@ fits-requires c κs = search rules
 returns-2 : tie.Need-returns-2
 returns-2 c =
     let a = c.before.before.before.before.args in
-    sym (ap (λ (v : Option Value). shownAnswer (asked (cellStep a.t v) (seen a.st a.types.now) a.room)) (asked-past a.bytes.now (seen a.st a.types.now) a.t a.room a.start a.size c.before.before.if1.false (sym c.before.fits2.ensures ∙ not-true _ c.if2.true)))
+    sym (ap (λ (v : Option Value). shown_answer (asked (cell_step a.t v) (seen a.st a.types.now) a.room)) (asked_past a.bytes.now (seen a.st a.types.now) a.t a.room a.start a.size c.before.before.if1.false (sym c.before.fits2.ensures ∙ not-true _ c.if2.true)))
 
 add-body-fault : tie.Need-overflow-add-body-fault
 add-body-fault c =
@@ -81,7 +81,7 @@ returns-3 : tie.Need-returns-3
 returns-3 c =
     let a = c.before.before.before.before.before.before.before.args in
     let h : a.start + a.size ≤ length a.bytes.now = leb-true _ _ (sym c.before.before.before.before.fits2.ensures ∙ not-false _ c.before.before.before.if2.false) in
-    asked-there a.bytes.now (seen a.st a.types.now) a.t a.room a.start a.size c.before.before.before.before.before.if1.false h c.before.body-fault2.ensures c.ask-cell2.ensures
+    asked_there a.bytes.now (seen a.st a.types.now) a.t a.room a.start a.size c.before.before.before.before.before.if1.false h c.before.body-fault2.ensures c.ask-cell2.ensures
 
 pub ask-body-spec : {M : Type 1} → statement M
 ask-body-spec =

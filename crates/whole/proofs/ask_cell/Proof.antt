@@ -1,10 +1,10 @@
 -- `whole::ask_cell` meets its contract: by its column's type, a cell is a body or a number. Assumes nothing.
 use mathlib.Core.Path.{◌≡◌, sym, ◌∙◌, subst}
 use Prim.Native.Nat.{ℕ}
-use Rattle.write.specs.Shown.{seen, shownAnswer}
-use Rattle.whole.specs.Rows.{valueIn, cellStep}
+use Rattle.write.specs.Shown.{seen, shown_answer}
+use Rattle.whole.specs.Rows.{value_in, cell_step}
 use Rattle.whole.specs.Asked.{asked}
-use Rattle.whole.proofs.Sures.{asked-fixed, asked-body}
+use Rattle.whole.proofs.Sures.{asked_fixed, asked_body}
 use borrow.Author.Rules.{rules}
 use Rattle.whole.proofs.ask_cell.Statement.{statement}
 use Rattle.whole.proofs.ask_cell.Tie as tie
@@ -31,8 +31,8 @@ returns c =
     let a = c.before.before.before.before.before.args in
     let s = seen a.st a.types.now in
     let t = c.before.before.before.next-type.result in
-    subst (λ (t : ℕ). c.ask-body.result ≡ shownAnswer (asked (cellStep t (valueIn a.bytes.now t a.a a.b)) s a.size)) c.before.before.before.next-type.ensures
-    (asked-body a.bytes.now s t a.size a.a a.b (sym c.before.before.is-counted.ensures ∙ c.before.if1.true) c.ask-body.ensures)
+    subst (λ (t : ℕ). c.ask-body.result ≡ shown_answer (asked (cell_step t (value_in a.bytes.now t a.a a.b)) s a.size)) c.before.before.before.next-type.ensures
+    (asked_body a.bytes.now s t a.size a.a a.b (sym c.before.before.is-counted.ensures ∙ c.before.if1.true) c.ask-body.ensures)
 
 fixed-fault-requires : tie.Need-fixed-fault-requires
 fixed-fault-requires c κs = search rules
@@ -48,8 +48,8 @@ returns-2 c =
     let a = c.before.before.before.before.before.before.before.args in
     let s = seen a.st a.types.now in
     let t = c.before.before.before.before.before.next-type.result in
-    subst (λ (t : ℕ). c.ask-cell.result ≡ shownAnswer (asked (cellStep t (valueIn a.bytes.now t a.a a.b)) s a.size)) c.before.before.before.before.before.next-type.ensures
-    (asked-fixed a.bytes.now s t a.size a.a a.b (sym c.before.before.before.before.is-counted.ensures ∙ c.before.before.before.if1.false) c.before.before.fixed-fault.ensures c.before.width_of_lem.ensures c.ask-cell.ensures)
+    subst (λ (t : ℕ). c.ask-cell.result ≡ shown_answer (asked (cell_step t (value_in a.bytes.now t a.a a.b)) s a.size)) c.before.before.before.before.before.next-type.ensures
+    (asked_fixed a.bytes.now s t a.size a.a a.b (sym c.before.before.before.before.is-counted.ensures ∙ c.before.before.before.if1.false) c.before.before.fixed-fault.ensures c.before.width_of_lem.ensures c.ask-cell.ensures)
 
 pub ask-cell-spec : {M : Type 1} → statement M
 ask-cell-spec =

@@ -4,16 +4,16 @@ use native.Mathlib.Omega.{arith}
 use mathlib.Core.Path.{◌≡◌, refl, sym, ap, ◌∙◌, subst}
 use lib.ListN.{length}
 use borrow.Author.Rules.{rules}
-use Rattle.format.specs.Message.{mostColumns, unlimited}
+use Rattle.format.specs.Message.{most_columns, unlimited}
 use Rattle.steps.specs.State.{State}
 use Rattle.write.specs.declared.State.{State as Code}
-use Rattle.write.specs.Shown.{seen, shownAnswer}
+use Rattle.write.specs.Shown.{seen, shown_answer}
 use mathlib.Core.List.{List}
 use Rattle.steps.specs.declared.Stage.TheVariants.{Row}
 use Rattle.write.specs.Shared.{tabled}
-use Rattle.write.proofs.Taken.{shown_ok, shown-no}
-use Rattle.whole.specs.Asked.{in_row, restAnswer, Opened}
-use Rattle.whole.proofs.Answers.{ground, columns-few, rest_end, rest-taken, rest-refused, tabled-seen, tabled-few, asked-counts}
+use Rattle.write.proofs.Taken.{shown_ok, shown_no}
+use Rattle.whole.specs.Asked.{in_row, rest_answer, Opened}
+use Rattle.whole.proofs.Answers.{ground, columns_few, rest_end, rest_taken, rest_refused, tabled_seen, tabled_few, asked_counts}
 use Rattle.whole.proofs.ask_cells.Statement.{statement}
 use Rattle.whole.proofs.ask_cells.Tie as tie
 use Rattle.whole.proofs.ask_cells.Reads as reads
@@ -25,11 +25,11 @@ use Rattle.write.proofs.in_table.Reads as in-table-reads
 -- the state that the loop begins with
 begun : (st : Code) (types : List ℕ) (size first : ℕ) {row : Code} → row ≡ tabled st Row first st.position 0 (st.rows + 1) → Opened (seen st types) size first
     → seen row types ≡ in_row (seen st types) first 0
-begun st types size first e o = ap (λ (r : Code). seen r types) e ∙ tabled-seen st types first st.position 0 (st.rows + 1) (columns-few st types size first o)
+begun st types size first e o = ap (λ (r : Code). seen r types) e ∙ tabled_seen st types first st.position 0 (st.rows + 1) (columns_few st types size first o)
 
 abbrev invariant-loop : tie.invariant-loop
 invariant-loop first types cells bytes size row₀ k₀ row k =
-    (k ≡ row.inner_count) × (row.columns ≤ mostColumns) × (restAnswer bytes cells (seen row types) size ≡ restAnswer bytes cells (seen row₀ types) size)
+    (k ≡ row.inner_count) × (row.columns ≤ most_columns) × (rest_answer bytes cells (seen row types) size ≡ rest_answer bytes cells (seen row₀ types) size)
 
 abbrev decreases-loop : tie.decreases-loop
 decreases-loop first types cells bytes size row₀ k₀ row k = length cells / 2 - k
@@ -49,7 +49,7 @@ loop-holds c =
     let f = c.before.before.before.before.before in
     let a = f.args in
     let e = c.in_table.ensures in
-    (sym (ap (λ (r : Code). r.inner_count) e), subst (λ (r : Code). r.columns ≤ mostColumns) (sym e) (tabled-few a.st a.first a.st.position 0 (a.st.rows + 1) (columns-few a.st a.types.now a.size a.first f.requires)), refl)
+    (sym (ap (λ (r : Code). r.inner_count) e), subst (λ (r : Code). r.columns ≤ most_columns) (sym e) (tabled_few a.st a.first a.st.position 0 (a.st.rows + 1) (columns_few a.st a.types.now a.size a.first f.requires)), refl)
 
 mul-ask-cell : tie.Need-overflow-mul-ask-cell invariant-loop decreases-loop
 mul-ask-cell c = search rules
@@ -88,15 +88,15 @@ returns c =
     let l = c.before.before.before.before.before.before.loop in
     let s = seen l.row a.types.now in
     let told = c.before.before.ask-cell.ensures in
-    let r = rest-refused a.bytes.now a.cells.now s a.size l.k _ _ l.invariant.0 c.before.before.before.before.before.loop-test.true (shown-no _ told c.enum_told.given.1) in
+    let r = rest_refused a.bytes.now a.cells.now s a.size l.k _ _ l.invariant.0 c.before.before.before.before.before.loop-test.true (shown_no _ told c.enum_told.given.1) in
     let start = begun a.st a.types.now a.size a.first c.before.before.before.before.before.before.before.in_table.ensures f.requires in
-    c.enum_told.given.1 ∙ ap shownAnswer (sym r ∙ l.invariant.2 ∙ ap (λ (x : State). restAnswer a.bytes.now a.cells.now x a.size) start)
+    c.enum_told.given.1 ∙ ap shown_answer (sym r ∙ l.invariant.2 ∙ ap (λ (x : State). rest_answer a.bytes.now a.cells.now x a.size) start)
 
 add-in-table-2 : tie.Need-overflow-add-in-table-2 invariant-loop decreases-loop
 add-in-table-2 c =
     let a = c.before.before.before.before.before.before.before.before.before.before.before.before.before.before.args in
     let l = c.before.before.before.before.before.before.before.before.loop in
-    let h = asked-counts a.bytes.now a.cells.now l.row a.types.now a.size l.k (shown_ok _ c.before.before.before.before.ask-cell.ensures c.before.before.a.given.1) in
+    let h = asked_counts a.bytes.now a.cells.now l.row a.types.now a.size l.k (shown_ok _ c.before.before.before.before.ask-cell.ensures c.before.before.a.given.1) in
     search (rules, h)
 
 in-table-requires-2 : tie.Need-in-table-requires-2 invariant-loop decreases-loop
@@ -106,7 +106,7 @@ add-k : tie.Need-overflow-add-k invariant-loop decreases-loop
 add-k c =
     let a = c.before.before.before.before.before.before.before.before.before.before.before.before.before.before.before.args in
     let l = c.before.before.before.before.before.before.before.before.before.loop in
-    let h = asked-counts a.bytes.now a.cells.now l.row a.types.now a.size l.k (shown_ok _ c.before.before.before.before.before.ask-cell.ensures c.before.before.before.a.given.1) in
+    let h = asked_counts a.bytes.now a.cells.now l.row a.types.now a.size l.k (shown_ok _ c.before.before.before.before.before.ask-cell.ensures c.before.before.before.a.given.1) in
     search (rules, h, l.invariant.0)
 
 loop-less : tie.Need-loop-smaller invariant-loop decreases-loop
@@ -120,9 +120,9 @@ loop-again c =
     let s = seen l.row a.types.now in
     let e = c.in-table2.ensures in
     let told = shown_ok _ c.before.before.before.before.before.ask-cell.ensures c.before.before.before.a.given.1 in
-    let turn = rest-taken a.bytes.now a.cells.now s a.size l.k n l.invariant.0 c.before.before.before.before.before.before.before.before.loop-test.true told in
-    let next = ap (λ (r : Code). seen r a.types.now) e ∙ tabled-seen l.row a.types.now n l.row.inner_at (l.row.inner_count + 1) l.row.rows l.invariant.1 in
-    (ap (λ (m : ℕ). m + 1) l.invariant.0 ∙ sym (ap (λ (r : Code). r.inner_count) e), subst (λ (r : Code). r.columns ≤ mostColumns) (sym e) (tabled-few l.row n l.row.inner_at (l.row.inner_count + 1) l.row.rows l.invariant.1), ap (λ (x : State). restAnswer a.bytes.now a.cells.now x a.size) next ∙ (sym turn ∙ l.invariant.2))
+    let turn = rest_taken a.bytes.now a.cells.now s a.size l.k n l.invariant.0 c.before.before.before.before.before.before.before.before.loop-test.true told in
+    let next = ap (λ (r : Code). seen r a.types.now) e ∙ tabled_seen l.row a.types.now n l.row.inner_at (l.row.inner_count + 1) l.row.rows l.invariant.1 in
+    (ap (λ (m : ℕ). m + 1) l.invariant.0 ∙ sym (ap (λ (r : Code). r.inner_count) e), subst (λ (r : Code). r.columns ≤ most_columns) (sym e) (tabled_few l.row n l.row.inner_at (l.row.inner_count + 1) l.row.rows l.invariant.1), ap (λ (x : State). rest_answer a.bytes.now a.cells.now x a.size) next ∙ (sym turn ∙ l.invariant.2))
 
 ask-close-requires : tie.Need-ask-close-requires invariant-loop decreases-loop
 ask-close-requires c κs = search rules
@@ -135,7 +135,7 @@ returns-2 c =
     let s = seen l.row a.types.now in
     let r = rest_end a.bytes.now a.cells.now s a.size (omega (arith, l.invariant.0, c.before.loop-test.false)) in
     let start = begun a.st a.types.now a.size a.first c.before.before.before.in_table.ensures f.requires in
-    c.ask-close.ensures ∙ ap shownAnswer (sym r ∙ l.invariant.2 ∙ ap (λ (x : State). restAnswer a.bytes.now a.cells.now x a.size) start)
+    c.ask-close.ensures ∙ ap shown_answer (sym r ∙ l.invariant.2 ∙ ap (λ (x : State). rest_answer a.bytes.now a.cells.now x a.size) start)
 
 pub ask-cells-spec : {M : Type 1} → statement M
 ask-cells-spec =

@@ -4,8 +4,8 @@ use native.Mathlib.Nat.{add-zero}
 use mathlib.Core.Path.{refl, ap, ap₂, ◌∙◌, ◌≡◌, sym}
 use mathlib.Core.Bool.{◌&&◌}
 use lib.Dec.{leb, eqb}
-use Rattle.format.specs.Message.{mostRow, mostColumns}
-use Rattle.steps.specs.Steps.{plan, closeRow}
+use Rattle.format.specs.Message.{most_row, most_columns}
+use Rattle.steps.specs.Steps.{plan, close_row}
 use Rattle.write.specs.Shown.{seen}
 use Rattle.write.proofs.Taken.{answered}
 use Rattle.write.proofs.Seen.{counted}
@@ -32,11 +32,11 @@ judge-requires c κs = search rules
 
 returns : tie.Need-returns
 returns c =
-    let h : length c.before.before.before.before.before.before.before.args.types.now ≡ mostColumns = omega arith in
-    answered (plan closeRow (seen c.before.before.before.before.before.before.before.args.st c.before.before.before.before.before.before.before.args.types.now) c.before.before.before.before.before.before.before.args.size) c.before.before.before.before.before.before.before.args.size c.judge.ensures
+    let h : length c.before.before.before.before.before.before.before.args.types.now ≡ most_columns = omega arith in
+    answered (plan close_row (seen c.before.before.before.before.before.before.before.args.st c.before.before.before.before.before.before.before.args.types.now) c.before.before.before.before.before.before.before.args.size) c.before.before.before.before.before.before.before.args.size c.judge.ensures
     (c.before.before.both.ensures ∙ ap₂ ◌&&◌ c.before.before.before.before.before.at_row.ensures (ap (eqb c.before.before.before.before.before.before.before.args.st.inner_count) (c.before.before.before.before.columns-seen.ensures ∙ sym (counted c.before.before.before.before.before.before.before.args.st.columns c.before.before.before.before.before.before.before.args.types.now h))))
     refl
-    (λ u w. (c.before.row_keeps.ensures ∙ ap (λ (m : ℕ). leb m (c.before.before.before.before.before.before.before.args.st.inner_at + 4 + mostRow)) (add-zero c.before.before.before.before.before.before.before.args.st.position), refl))
+    (λ u w. (c.before.row_keeps.ensures ∙ ap (λ (m : ℕ). leb m (c.before.before.before.before.before.before.before.args.st.inner_at + 4 + most_row)) (add-zero c.before.before.before.before.before.before.before.args.st.position), refl))
 
 pub ask-close-spec : {M : Type 1} → statement M
 ask-close-spec =

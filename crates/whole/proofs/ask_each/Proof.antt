@@ -1,9 +1,9 @@
 -- `whole::ask_each` meets its contract: a row that can't be opened is refused so; else its cells are asked. Assumes nothing.
 use mathlib.Core.Path.{sym, ap, ◌∙◌}
 use borrow.Author.Rules.{rules}
-use Rattle.write.specs.Shown.{seen, shownAnswer}
-use Rattle.write.proofs.Taken.{shown_ok, shown-no}
-use Rattle.whole.proofs.Answers.{row-refused, row_opened}
+use Rattle.write.specs.Shown.{seen, shown_answer}
+use Rattle.write.proofs.Taken.{shown_ok, shown_no}
+use Rattle.whole.proofs.Answers.{row_refused, row_opened}
 use Rattle.whole.proofs.ask_each.Statement.{statement}
 use Rattle.whole.proofs.ask_each.Tie as tie
 use Rattle.whole.proofs.ask_each.Reads as reads
@@ -24,7 +24,7 @@ returns : tie.Need-returns
 returns c =
     let a = c.before.before.before.before.before.args in
     let s = seen a.st a.types.now in
-    c.enum_told.given.1 ∙ sym (ap shownAnswer (row-refused a.bytes.now a.cells.now s a.size _ _ (shown-no _ c.before.before.ask-open.ensures c.enum_told.given.1)))
+    c.enum_told.given.1 ∙ sym (ap shown_answer (row_refused a.bytes.now a.cells.now s a.size _ _ (shown_no _ c.before.before.ask-open.ensures c.enum_told.given.1)))
 
 ask-cells-requires : tie.Need-ask-cells-requires
 ask-cells-requires c κs = shown_ok _ c.before.before.before.ask-open.ensures c.before.opened.given.1
@@ -33,7 +33,7 @@ returns-2 : tie.Need-returns-2
 returns-2 c =
     let a = c.before.before.before.before.before.before.before.args in
     let s = seen a.st a.types.now in
-    c.ask-cells.ensures ∙ sym (ap shownAnswer (row_opened a.bytes.now a.cells.now s a.size _ (shown_ok _ c.before.before.before.before.ask-open.ensures c.before.before.opened.given.1)))
+    c.ask-cells.ensures ∙ sym (ap shown_answer (row_opened a.bytes.now a.cells.now s a.size _ (shown_ok _ c.before.before.before.before.ask-open.ensures c.before.before.opened.given.1)))
 
 pub ask-each-spec : {M : Type 1} → statement M
 ask-each-spec =

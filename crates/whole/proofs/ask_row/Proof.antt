@@ -1,7 +1,7 @@
 -- `whole::ask_row` meets its contract: what is sure is so, and else each step is asked. Assumes nothing.
 use native.Mathlib.Omega.{arith}
 use mathlib.Core.Path.{sym, ap}
-use Rattle.write.specs.Shown.{shownAnswer}
+use Rattle.write.specs.Shown.{shown_answer}
 use borrow.Author.Rules.{rules}
 use Rattle.whole.proofs.ask_row.Statement.{statement}
 use Rattle.whole.proofs.ask_row.Tie as tie
@@ -14,7 +14,7 @@ sure-end-requires : tie.Need-sure-end-requires
 sure-end-requires c κs = search rules
 
 returns : tie.Need-returns
-returns c = sym (ap shownAnswer (c.before.sure-end.ensures (omega (arith, c.if1.true))))
+returns c = sym (ap shown_answer (c.before.sure-end.ensures (omega (arith, c.if1.true))))
 
 ask-each-requires : tie.Need-ask-each-requires
 ask-each-requires c κs = search rules

@@ -2,7 +2,7 @@
 use mathlib.Core.Path.{◌∙◌, ap, ap₂}
 use mathlib.Core.Bool.{Bool, ◌&&◌}
 use lib.Dec.{leb}
-use Rattle.format.specs.Message.{mostItems, mostColumns}
+use Rattle.format.specs.Message.{most_items, most_columns}
 use borrow.Author.Rules.{rules}
 use Rattle.whole.proofs.opens.Statement.{statement}
 use Rattle.whole.proofs.opens.Tie as tie
@@ -67,7 +67,7 @@ returns c =
     c.both9.ensures
     ∙ ap₂ ◌&&◌ c.before.before.before.is_at.ensures
     (c.before.both8.ensures
-    ∙ ap₂ ◌&&◌ (c.before.before.before.before.before.before.before.before.before.before.before.before.before.before.both2.ensures ∙ ap (λ (z : Bool). leb st.count mostItems && z) (c.before.before.before.before.before.before.before.before.before.before.before.before.before.before.before.both.ensures ∙ ap (λ (z : Bool). z && leb st.columns mostColumns) c.before.before.before.before.before.before.before.before.before.before.before.before.before.before.before.before.before.before.one_more.ensures))
+    ∙ ap₂ ◌&&◌ (c.before.before.before.before.before.before.before.before.before.before.before.before.before.before.both2.ensures ∙ ap (λ (z : Bool). leb st.count most_items && z) (c.before.before.before.before.before.before.before.before.before.before.before.before.before.before.before.both.ensures ∙ ap (λ (z : Bool). z && leb st.columns most_columns) c.before.before.before.before.before.before.before.before.before.before.before.before.before.before.before.before.before.before.one_more.ensures))
     (c.before.before.both7.ensures
     ∙ ap₂ ◌&&◌ (c.before.before.before.before.before.before.before.before.before.both4.ensures ∙ ap (λ (z : Bool). leb 4 st.count_at && z) (c.before.before.before.before.before.before.before.before.before.before.both3.ensures ∙ ap₂ ◌&&◌ c.before.before.before.before.before.before.before.before.before.before.before.before.ends_by.ensures c.before.before.before.before.before.before.before.before.before.before.before.ends-by2.ensures))
     (c.before.before.before.before.both6.ensures ∙ ap₂ ◌&&◌ c.before.before.before.before.before.before.before.before.ends-by3.ensures (c.before.before.before.before.before.both5.ensures ∙ ap₂ ◌&&◌ c.before.before.before.before.before.before.before.ends-by4.ensures c.before.before.before.before.before.before.ends-by5.ensures))))

@@ -5,10 +5,10 @@ use mathlib.Core.Path.{◌≡◌, refl, sym, ◌∙◌}
 use mathlib.Core.Bool.{true}
 use lib.ListN.{length, take}
 use borrow.Author.Rules.{rules}
-use Rattle.steps.specs.State.{allColumns}
-use Rattle.write.proofs.Tested.{all-next}
-use Rattle.whole.proofs.Answers.{Passed, past-turn, past_end}
-use Rattle.whole.proofs.Sures.{sure-column}
+use Rattle.steps.specs.State.{all_columns}
+use Rattle.write.proofs.Tested.{all_next}
+use Rattle.whole.proofs.Answers.{Passed, past_turn, past_end}
+use Rattle.whole.proofs.Sures.{sure_column}
 use Rattle.whole.proofs.past_cells.Statement.{statement}
 use Rattle.whole.proofs.past_cells.Tie as tie
 use Rattle.whole.proofs.past_cells.Reads as reads
@@ -17,7 +17,7 @@ use Rattle.whole.proofs.sure_size.Reads as sure-size-reads
 
 abbrev invariant-loop : tie.invariant-loop
 invariant-loop from end types cells bytes lent at₀ k₀ at k =
-    (k ≤ length cells / 2) × (from ≤ at) × (at ≤ end) × (allColumns (take k types) ≡ true) × Passed bytes cells types from end k at
+    (k ≤ length cells / 2) × (from ≤ at) × (at ≤ end) × (all_columns (take k types) ≡ true) × Passed bytes cells types from end k at
 
 abbrev decreases-loop : tie.decreases-loop
 decreases-loop from end types cells bytes lent at₀ k₀ at k = length cells / 2 - k
@@ -83,9 +83,9 @@ loop-again c =
     let test = c.before.before.before.before.before.before.loop-test.true in
     let hi : l.at + n ≤ a.end = omega (arith, i.2, c.if2.false) in
     let s = c.before.before.sure-size.ensures (omega (arith, c.before.if1.false)) in
-    let column = sure-column s in
-    let all : allColumns (take (l.k + 1) a.types.now) ≡ true = sym (all-next a.types.now l.k (omega (arith, test, few))) ∙ rw (column, i.3) in
-    (omega (arith, test), omega (arith, i.1), hi, all, past-turn a.bytes.now a.cells.now a.types.now a.from a.end l.k l.at n few test i.1 hi s i.4)
+    let column = sure_column s in
+    let all : all_columns (take (l.k + 1) a.types.now) ≡ true = sym (all_next a.types.now l.k (omega (arith, test, few))) ∙ rw (column, i.3) in
+    (omega (arith, test), omega (arith, i.1), hi, all, past_turn a.bytes.now a.cells.now a.types.now a.from a.end l.k l.at n few test i.1 hi s i.4)
 
 returns-3 : tie.Need-returns-3 invariant-loop decreases-loop
 returns-3 c =

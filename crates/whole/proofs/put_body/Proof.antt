@@ -1,7 +1,7 @@
 -- `whole::put_body` meets its contract: a null's length, or the length and the bytes, are written. Assumes nothing.
 use borrow.Author.Tests.{ne_eqb}
-use Rattle.whole.specs.Rows.{nullSize}
-use Rattle.whole.proofs.Values.{bytes-null, bytes-there}
+use Rattle.whole.specs.Rows.{null_size}
+use Rattle.whole.proofs.Values.{bytes_null, bytes_there}
 use Prim.Native.Nat.{ℕ, ◌+◌, ◌≤◌}
 use native.Mathlib.Omega.{arith}
 use mathlib.Core.Path.{sym, ap, ◌∙◌, subst}
@@ -28,7 +28,7 @@ text-at-requires : tie.Need-text-at-requires
 text-at-requires c κs =
     let f = c.before.before.before.before.before in
     let a = f.args in
-    subst (λ (bs : List ℕ). a.at + length bs ≤ length a.out.now) (bytes-null a.bytes.now a.start a.size c.before.before.if1.true) f.requires.1
+    subst (λ (bs : List ℕ). a.at + length bs ≤ length a.out.now) (bytes_null a.bytes.now a.start a.size c.before.before.if1.true) f.requires.1
 
 same_length : tie.Need-same-length
 same_length c = search rules
@@ -36,7 +36,7 @@ same_length c = search rules
 returns : tie.Need-returns
 returns c =
     let a = c.before.before.before.before.before.before.before.before.args in
-    let e = (bytes-null a.bytes.now a.start a.size c.before.before.before.before.before.if1.true) in
+    let e = (bytes_null a.bytes.now a.start a.size c.before.before.before.before.before.if1.true) in
     let w = c.before.before.text_at.ensures in
     (w.0 ∙ ap (λ (bs : List ℕ). a.at + length bs) (sym e), w.1 ∙ ap (λ (bs : List ℕ). put a.out.now a.at bs) (sym e))
 
@@ -44,7 +44,7 @@ add-end : tie.Need-overflow-add-end
 add-end c =
     let f = c.before.before.before in
     let a = f.args in
-    let h : a.start + a.size ≤ length a.bytes.now = f.requires.0 (ne_eqb a.size nullSize c.if1.false) in
+    let h : a.start + a.size ≤ length a.bytes.now = f.requires.0 (ne_eqb a.size null_size c.if1.false) in
     omega arith
 
 sub-text-at-2 : tie.Need-overflow-sub-text-at-2
@@ -57,14 +57,14 @@ part-text-at-end-2 : tie.Need-slice-bounds-text-at-end-2
 part-text-at-end-2 c =
     let f = c.before.before.before.before in
     let a = f.args in
-    let h : a.start + a.size ≤ length a.bytes.now = f.requires.0 (ne_eqb a.size nullSize c.before.if1.false) in
+    let h : a.start + a.size ≤ length a.bytes.now = f.requires.0 (ne_eqb a.size null_size c.before.if1.false) in
     omega arith
 
 text-at-requires-2 : tie.Need-text-at-requires-2
 text-at-requires-2 c κs =
     let f = c.before.before.before.before.before in
     let a = f.args in
-    subst (λ (bs : List ℕ). a.at + length bs ≤ length a.out.now) (bytes-there a.bytes.now a.start a.size c.before.before.if1.false) f.requires.1
+    subst (λ (bs : List ℕ). a.at + length bs ≤ length a.out.now) (bytes_there a.bytes.now a.start a.size c.before.before.if1.false) f.requires.1
 
 same-length-2 : tie.Need-same-length-2
 same-length-2 c = search rules
@@ -72,7 +72,7 @@ same-length-2 c = search rules
 returns-2 : tie.Need-returns-2
 returns-2 c =
     let a = c.before.before.before.before.before.before.before.before.args in
-    let e = (bytes-there a.bytes.now a.start a.size c.before.before.before.before.before.if1.false) in
+    let e = (bytes_there a.bytes.now a.start a.size c.before.before.before.before.before.if1.false) in
     let w = c.before.before.text-at2.ensures in
     (w.0 ∙ ap (λ (bs : List ℕ). a.at + length bs) (sym e), w.1 ∙ ap (λ (bs : List ℕ). put a.out.now a.at bs) (sym e))
 

@@ -4,8 +4,8 @@ use native.Mathlib.Omega.{arith}
 use mathlib.Core.Path.{◌≡◌, refl, ◌∙◌}
 use lib.ListN.{length}
 use borrow.Author.Rules.{rules}
-use Rattle.whole.specs.Laid.{laid, FitAll}
-use Rattle.whole.proofs.Lays.{fit_next, lay-turn, lay-end}
+use Rattle.whole.specs.Laid.{laid, Fit_all}
+use Rattle.whole.proofs.Lays.{fit_next, lay_turn, lay_end}
 use Rattle.whole.proofs.put_cells.Statement.{statement}
 use Rattle.whole.proofs.put_cells.Tie as tie
 use Rattle.whole.proofs.put_cells.Reads as reads
@@ -14,7 +14,7 @@ use Rattle.whole.proofs.put_cell.Reads as put-cell-reads
 
 abbrev invariant-loop : tie.invariant-loop
 invariant-loop out₀ from types cells bytes lent at₀ k₀ out at k =
-    (k ≤ length cells / 2) × (length out ≡ length out₀) × FitAll bytes types cells k (length cells / 2 - k) at (length out)
+    (k ≤ length cells / 2) × (length out ≡ length out₀) × Fit_all bytes types cells k (length cells / 2 - k) at (length out)
     × (laid bytes types cells k (length cells / 2 - k) at out ≡ laid bytes types cells 0 (length cells / 2) from out₀)
 
 abbrev decreases-loop : tie.decreases-loop
@@ -69,7 +69,7 @@ loop-again c =
     let l = c.before.before.before.before.before.before.before.before.loop in
     let test = c.before.before.before.before.before.before.before.loop-test.true in
     let same : length c.before.before.put-cell.new.0 ≡ length l.out = search rules in
-    let turn = lay-turn a.bytes.now a.types.now a.cells.now (length a.cells.now / 2) l.k l.at l.out test l.invariant.2 l.invariant.3 c.before.before.put-cell.ensures same in
+    let turn = lay_turn a.bytes.now a.types.now a.cells.now (length a.cells.now / 2) l.k l.at l.out test l.invariant.2 l.invariant.3 c.before.before.put-cell.ensures same in
     (omega (arith, test), same ∙ l.invariant.1, turn.0, turn.1)
 
 same_length : tie.Need-same-length invariant-loop decreases-loop
@@ -79,7 +79,7 @@ returns : tie.Need-returns invariant-loop decreases-loop
 returns c =
     let a = c.before.before.before.before.before.before.args in
     let l = c.before.loop in
-    lay-end a.bytes.now a.types.now a.cells.now (length a.cells.now / 2) l.k l.at l.out (omega (arith, c.loop-test.false)) ∙ l.invariant.3
+    lay_end a.bytes.now a.types.now a.cells.now (length a.cells.now / 2) l.k l.at l.out (omega (arith, c.loop-test.false)) ∙ l.invariant.3
 
 pub put-cells-spec : {M : Type 1} → statement M
 put-cells-spec =

@@ -4,8 +4,8 @@ use native.Mathlib.Omega.{arith}
 use mathlib.Core.Path.{sym, ap, ◌∙◌}
 use lib.ListN.{length}
 use borrow.Author.Tests.{leb-true, not-false}
-use Rattle.write.specs.Shared.{verdictOf}
-use Rattle.whole.proofs.Sures.{sure-null, sure-there}
+use Rattle.write.specs.Shared.{verdict_of}
+use Rattle.whole.proofs.Sures.{sure_null, sure_there}
 use borrow.Author.Rules.{rules}
 use Rattle.whole.proofs.sure_body.Statement.{statement}
 use Rattle.whole.proofs.sure_body.Tie as tie
@@ -15,7 +15,7 @@ use Rattle.scan.proofs.fits.Reads as fits-reads
 use Rattle.write.proofs.body_fault.Reads as body-fault-reads
 
 returns : tie.Need-returns
-returns c = λ _. (let a = c.before.before.args in sure-null a.bytes.now a.at a.t a.start a.size c.before.before.requires c.if1.true)
+returns c = λ _. (let a = c.before.before.args in sure_null a.bytes.now a.at a.t a.start a.size c.before.before.requires c.if1.true)
 
 fits-requires : tie.Need-fits-requires
 fits-requires c κs = search rules
@@ -64,7 +64,7 @@ returns-4 c =
     let b = c.before.before.before.before.before.before.before.before in
     let a = b.args in
     let h : a.start + a.size ≤ length a.bytes.now = leb-true _ _ (sym c.before.before.before.before.before.fits2.ensures ∙ not-false _ c.before.before.before.before.if2.false) in
-    λ _. sure-there a.bytes.now a.at a.t a.start a.size b.requires c.before.before.before.before.before.before.if1.false h (sym (ap verdictOf c.enum_told.given.1) ∙ c.before.before.body-fault.ensures)
+    λ _. sure_there a.bytes.now a.at a.t a.start a.size b.requires c.before.before.before.before.before.before.if1.false h (sym (ap verdict_of c.enum_told.given.1) ∙ c.before.before.body-fault.ensures)
 
 pub sure-body-spec : {M : Type 1} → statement M
 sure-body-spec =

@@ -2,8 +2,8 @@
 use Prim.Native.Nat.{ℕ, ◌+◌, ◌*◌, ◌^◌}
 use native.Mathlib.Omega.{arith}
 use mathlib.Core.Path.{refl, sym, ap, ◌∙◌}
-use Rattle.format.specs.Value.{width_of, fixedFine}
-use Rattle.whole.proofs.Sures.{eight-bytes, number-so}
+use Rattle.format.specs.Value.{width_of, fixed_fine}
+use Rattle.whole.proofs.Sures.{eight_bytes, number_so}
 use borrow.Author.Rules.{rules}
 use Rattle.whole.proofs.sure_fixed.Statement.{statement}
 use Rattle.whole.proofs.sure_fixed.Tie as tie
@@ -50,33 +50,33 @@ if-so-requires-6 c κs = search rules
 returns : tie.Need-returns
 returns c =
     let a = c.before.before.before.args in
-    number-so a.upper a.lower a.t 1 (omega arith) (omega arith) (ap width_of c.before.before.match.keys1) _ c.if-so.ensures (λ e. sym c.before.both.ensures ∙ e) (λ e. ap (λ (t : ℕ). fixedFine t (a.upper * 2 ^ 64 + a.lower)) c.before.before.match.keys1)
+    number_so a.upper a.lower a.t 1 (omega arith) (omega arith) (ap width_of c.before.before.match.keys1) _ c.if-so.ensures (λ e. sym c.before.both.ensures ∙ e) (λ e. ap (λ (t : ℕ). fixed_fine t (a.upper * 2 ^ 64 + a.lower)) c.before.before.match.keys1)
 
 returns-2 : tie.Need-returns-2
 returns-2 c =
     let a = c.before.before.before.args in
-    number-so a.upper a.lower a.t 2 (omega arith) (omega arith) (ap width_of c.before.before.match.keys2) _ c.if-so2.ensures (λ e. sym c.before.both2.ensures ∙ e) (λ e. ap (λ (t : ℕ). fixedFine t (a.upper * 2 ^ 64 + a.lower)) c.before.before.match.keys2)
+    number_so a.upper a.lower a.t 2 (omega arith) (omega arith) (ap width_of c.before.before.match.keys2) _ c.if-so2.ensures (λ e. sym c.before.both2.ensures ∙ e) (λ e. ap (λ (t : ℕ). fixed_fine t (a.upper * 2 ^ 64 + a.lower)) c.before.before.match.keys2)
 
 returns-3 : tie.Need-returns-3
 returns-3 c =
     let a = c.before.before.before.args in
-    number-so a.upper a.lower a.t 4 (omega arith) (omega arith) (ap width_of c.before.before.match.keys3) _ c.if-so3.ensures (λ e. sym c.before.both3.ensures ∙ e) (λ e. ap (λ (t : ℕ). fixedFine t (a.upper * 2 ^ 64 + a.lower)) c.before.before.match.keys3)
+    number_so a.upper a.lower a.t 4 (omega arith) (omega arith) (ap width_of c.before.before.match.keys3) _ c.if-so3.ensures (λ e. sym c.before.both3.ensures ∙ e) (λ e. ap (λ (t : ℕ). fixed_fine t (a.upper * 2 ^ 64 + a.lower)) c.before.before.match.keys3)
 
 returns-4 : tie.Need-returns-4
 returns-4 c =
     let a = c.before.before.args in
-    let w = eight-bytes a.t c.before.match.keys4 (a.upper * 2 ^ 64 + a.lower) in
-    number-so a.upper a.lower a.t 8 (omega arith) (omega arith) w.0 _ c.if-so4.ensures (λ e. e) (λ e. w.1)
+    let w = eight_bytes a.t c.before.match.keys4 (a.upper * 2 ^ 64 + a.lower) in
+    number_so a.upper a.lower a.t 8 (omega arith) (omega arith) w.0 _ c.if-so4.ensures (λ e. e) (λ e. w.1)
 
 returns-5 : tie.Need-returns-5
 returns-5 c =
     let a = c.before.before.before.args in
-    number-so a.upper a.lower a.t 16 (omega arith) (omega arith) (ap width_of c.before.before.match.keys5) _ c.if-so5.ensures (λ e. refl) (λ e. ap (λ (t : ℕ). fixedFine t (a.upper * 2 ^ 64 + a.lower)) c.before.before.match.keys5 ∙ (sym c.before.decimal-fine.ensures ∙ e))
+    number_so a.upper a.lower a.t 16 (omega arith) (omega arith) (ap width_of c.before.before.match.keys5) _ c.if-so5.ensures (λ e. refl) (λ e. ap (λ (t : ℕ). fixed_fine t (a.upper * 2 ^ 64 + a.lower)) c.before.before.match.keys5 ∙ (sym c.before.decimal-fine.ensures ∙ e))
 
 returns-6 : tie.Need-returns-6
 returns-6 c =
     let a = c.before.before.before.args in
-    number-so a.upper a.lower a.t 16 (omega arith) (omega arith) (ap width_of c.before.before.match.keys6) _ c.if-so6.ensures (λ e. refl) (λ e. ap (λ (t : ℕ). fixedFine t (a.upper * 2 ^ 64 + a.lower)) c.before.before.match.keys6 ∙ (sym c.before.point-fine.ensures ∙ e))
+    number_so a.upper a.lower a.t 16 (omega arith) (omega arith) (ap width_of c.before.before.match.keys6) _ c.if-so6.ensures (λ e. refl) (λ e. ap (λ (t : ℕ). fixed_fine t (a.upper * 2 ^ 64 + a.lower)) c.before.before.match.keys6 ∙ (sym c.before.point-fine.ensures ∙ e))
 
 returns-7 : tie.Need-returns-7
 returns-7 c = λ h. absurd (omega arith)

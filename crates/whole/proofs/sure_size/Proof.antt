@@ -1,5 +1,5 @@
 -- `whole::sure_size` meets its contract: by its type, a cell is a body or a number. Assumes nothing.
-use Rattle.whole.proofs.Sures.{is_body, is-fixed, sure-number}
+use Rattle.whole.proofs.Sures.{is_body, is_fixed, sure_number}
 use borrow.Author.Rules.{rules}
 use Rattle.whole.proofs.sure_size.Statement.{statement}
 use Rattle.whole.proofs.sure_size.Tie as tie
@@ -20,7 +20,7 @@ returns c = search rules
 returns-2 : tie.Need-returns-2
 returns-2 c =
     let a = c.before.before.before.args in
-    sure-number a.bytes.now a.at a.t a.a a.b (is-fixed a.t c.before.match.rest.1) c.sure-fixed.ensures
+    sure_number a.bytes.now a.at a.t a.a a.b (is_fixed a.t c.before.match.rest.1) c.sure-fixed.ensures
 
 pub sure-size-spec : {M : Type 1} → statement M
 sure-size-spec = tie.close (tie.spec sure-body-requires sure-fixed-requires returns returns-2)

@@ -3,8 +3,8 @@ use Prim.Native.Nat.{ℕ, ◌+◌, ◌/◌}
 use native.Mathlib.Omega.{arith}
 use mathlib.Core.Path.{◌≡◌, sym, subst}
 use lib.ListN.{length}
-use Rattle.format.specs.Message.{mostColumns}
-use Rattle.whole.specs.Laid.{FitAll}
+use Rattle.format.specs.Message.{most_columns}
+use Rattle.whole.specs.Laid.{Fit_all}
 use Rattle.whole.proofs.Lays.{refused, accepts, wrote}
 use borrow.Author.Rules.{rules}
 use Rattle.whole.proofs.whole_row.Statement.{statement}
@@ -42,7 +42,7 @@ put-cells-requires c κs =
     let x = accepts a.bytes.now a.cells.now a.st a.types.now a.out.now c.before.before.before.before.before.before.before.before.ask-row.ensures c.before.before.before.before.before.before.a.given.1 in
     let w = c.before.before.before.number_at.ensures in
     let same : length c.before.before.before.number_at.new.0 ≡ length a.out.now = search rules in
-    (x.wide, subst (λ (m : ℕ). FitAll a.bytes.now a.types.now a.cells.now 0 (length a.cells.now / 2) m (length c.before.before.before.number_at.new.0)) (sym w.0) (subst (λ (m : ℕ). FitAll a.bytes.now a.types.now a.cells.now 0 (length a.cells.now / 2) (a.st.position + 4) m) (sym same) x.taken.fits))
+    (x.wide, subst (λ (m : ℕ). Fit_all a.bytes.now a.types.now a.cells.now 0 (length a.cells.now / 2) m (length c.before.before.before.number_at.new.0)) (sym w.0) (subst (λ (m : ℕ). Fit_all a.bytes.now a.types.now a.cells.now 0 (length a.cells.now / 2) (a.st.position + 4) m) (sym same) x.taken.fits))
 
 sub-number-at : tie.Need-overflow-sub-number-at
 sub-number-at c =
@@ -76,7 +76,7 @@ returns-2 : tie.Need-returns-2
 returns-2 c =
     let a = c.before.before.before.before.before.before.before.before.before.before.before.before.before.before.before.before.before.before.before.before.before.before.args in
     let x = accepts a.bytes.now a.cells.now a.st a.types.now a.out.now c.before.before.before.before.before.before.before.before.before.before.before.before.before.before.before.before.before.ask-row.ensures c.before.before.before.before.before.before.before.before.before.before.before.before.before.before.before.a.given.1 in
-    let long : length a.types.now ≡ mostColumns = omega (arith, c.before.before.before.before.before.before.before.before.before.before.before.before.before.before.before.before.before.before.lent.given) in
+    let long : length a.types.now ≡ most_columns = omega (arith, c.before.before.before.before.before.before.before.before.before.before.before.before.before.before.before.before.before.before.lent.given) in
     wrote a.bytes.now a.cells.now a.st a.types.now a.out.now x long c.in_table.ensures c.before.before.before.before.before.before.before.before.before.before.before.before.number_at.ensures c.before.before.before.before.before.before.before.before.put-cells.ensures c.before.before.before.before.number-at2.ensures.1
 
 pub whole-row-spec : {M : Type 1} → statement M

@@ -5,8 +5,8 @@ use native.Mathlib.Omega.{arith}
 use mathlib.Core.Bool.{◌&&◌}
 use lib.ListN.{length}
 use lib.Dec.{leb}
-use Rattle.format.specs.Message.{mostColumns}
-use Rattle.steps.specs.State.{messageSound, sound}
+use Rattle.format.specs.Message.{most_columns}
+use Rattle.steps.specs.State.{message_sound, sound}
 use Rattle.write.proofs.Seen.{counted}
 use borrow.Author.Rules.{rules}
 use Rattle.write.proofs.at_row.Statement.{statement}
@@ -49,10 +49,10 @@ both-requires-5 : tie.Need-both-requires-5
 both-requires-5 c κs = search rules
 
 returns : tie.Need-returns
-unfolding sound messageSound
+unfolding sound message_sound
 returns c =
     let a = c.before.before.before.before.before.before.before.before.before.before.before.before.before.args in
-    let h : length a.types.now ≡ mostColumns = omega arith in
+    let h : length a.types.now ≡ most_columns = omega arith in
     let few = c.before.before.before.before.before.before.at_most.ensures ∙ ap (λ (n : ℕ). leb a.st.inner_count n) (c.before.before.before.before.before.before.before.columns-seen.ensures ∙ sym (counted a.st.columns a.types.now h)) in
     c.both5.ensures ∙ ap₂ ◌&&◌ c.before.before.before.before.before.is_at.ensures
     (c.before.both4.ensures ∙ ap₂ ◌&&◌ c.before.before.before.before.before.before.before.before.before.before.before.message-sound.ensures

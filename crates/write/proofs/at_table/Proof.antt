@@ -1,7 +1,7 @@
 -- `write::at_table` meets its contract: part by part. Assumes nothing.
 use mathlib.Core.Path.{ap₂, ◌∙◌}
 use mathlib.Core.Bool.{◌&&◌}
-use Rattle.steps.specs.State.{messageSound, sound}
+use Rattle.steps.specs.State.{message_sound, sound}
 use borrow.Author.Rules.{rules}
 use Rattle.write.proofs.at_table.Statement.{statement}
 use Rattle.write.proofs.at_table.Tie as tie
@@ -28,7 +28,7 @@ both-requires-3 : tie.Need-both-requires-3
 both-requires-3 c κs = search rules
 
 returns : tie.Need-returns
-unfolding sound messageSound
+unfolding sound message_sound
 returns c =
     c.both3.ensures ∙ ap₂ ◌&&◌ c.before.before.before.is_at.ensures
     (c.before.both2.ensures ∙ ap₂ ◌&&◌ c.before.before.before.before.before.before.message-sound.ensures (c.before.before.both.ensures ∙ ap₂ ◌&&◌ c.before.before.before.before.before.outer-sound.ensures c.before.before.before.before.ends_by.ensures))

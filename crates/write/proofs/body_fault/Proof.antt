@@ -2,10 +2,10 @@
 use mathlib.Core.Path.{sym, ap, ap₂, ◌∙◌}
 use mathlib.Core.Bool.{Bool}
 use Rattle.format.specs.declared.Fault.TheVariants.{WireType}
-use Rattle.format.specs.Value.{isCounted}
+use Rattle.format.specs.Value.{is_counted}
 use Rattle.steps.specs.Plans.{test, also}
-use Rattle.steps.specs.Arguments.{valueFault}
-use Rattle.write.proofs.Bytes.{also-none}
+use Rattle.steps.specs.Arguments.{value_fault}
+use Rattle.write.proofs.Bytes.{also_none}
 use borrow.Author.Rules.{rules}
 use Rattle.write.proofs.body_fault.Statement.{statement}
 use Rattle.write.proofs.body_fault.Tie as tie
@@ -17,10 +17,10 @@ test-requires : tie.Need-test-requires
 test-requires c κs = search rules
 
 returns : tie.Need-returns
-unfolding valueFault
+unfolding value_fault
 returns c =
     let a = c.before.before.before.before.args in
-    c.before.test.ensures ∙ ap (λ (b : Bool). test b WireType a.at) c.before.before.is-counted.ensures ∙ sym (rw c.if1.true (also-none (test (isCounted a.t) WireType a.at)))
+    c.before.test.ensures ∙ ap (λ (b : Bool). test b WireType a.at) c.before.before.is-counted.ensures ∙ sym (rw c.if1.true (also_none (test (is_counted a.t) WireType a.at)))
 
 ruled-fault-requires : tie.Need-ruled-fault-requires
 ruled-fault-requires c κs = search rules
@@ -29,7 +29,7 @@ also-requires : tie.Need-also-requires
 also-requires c κs = search rules
 
 returns-2 : tie.Need-returns-2
-unfolding valueFault
+unfolding value_fault
 returns-2 c =
     let a = c.before.before.before.before.before.before.args in
     c.also.ensures ∙ ap₂ also (c.before.before.before.test.ensures ∙ ap (λ (b : Bool). test b WireType a.at) c.before.before.before.before.is-counted.ensures) c.before.ruled-fault.ensures

@@ -1,5 +1,5 @@
 -- `write::message_sound` meets its contract: part by part. Assumes nothing.
-use Rattle.steps.specs.State.{messageSound}
+use Rattle.steps.specs.State.{message_sound}
 use borrow.Author.Rules.{rules}
 use Rattle.write.proofs.message_sound.Statement.{statement}
 use Rattle.write.proofs.message_sound.Tie as tie
@@ -20,7 +20,7 @@ both-requires-2 : tie.Need-both-requires-2
 both-requires-2 c κs = search rules
 
 returns : tie.Need-returns
-unfolding messageSound
+unfolding message_sound
 returns c = cc
 
 pub message-sound-spec : {M : Type 1} → statement M

@@ -1,5 +1,5 @@
 -- `write::outer_sound` meets its contract: part by part. Assumes nothing.
-use Rattle.steps.specs.State.{outerSound}
+use Rattle.steps.specs.State.{outer_sound}
 use borrow.Author.Rules.{rules}
 use Rattle.write.proofs.outer_sound.Statement.{statement}
 use Rattle.write.proofs.outer_sound.Tie as tie
@@ -26,7 +26,7 @@ both-requires-3 : tie.Need-both-requires-3
 both-requires-3 c κs = search rules
 
 returns : tie.Need-returns
-unfolding outerSound
+unfolding outer_sound
 returns c = cc
 
 pub outer-sound-spec : {M : Type 1} → statement M

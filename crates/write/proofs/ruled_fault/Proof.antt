@@ -2,10 +2,10 @@
 use mathlib.Core.Path.{sym, ap, ap₂, ◌∙◌}
 use Prim.Native.Nat.{ℕ}
 use borrow.Author.Tests.{ne_eqb}
-use Rattle.format.specs.Value.{ruleOf}
+use Rattle.format.specs.Value.{rule_of}
 use Rattle.steps.specs.Plans.{also}
-use Rattle.steps.specs.Arguments.{textFault}
-use Rattle.write.proofs.Bytes.{empty-is, geography-fault}
+use Rattle.steps.specs.Arguments.{text_fault}
+use Rattle.write.proofs.Bytes.{empty_is, geography_fault}
 use borrow.Author.Rules.{rules}
 use Rattle.write.proofs.ruled_fault.Statement.{statement}
 use Rattle.write.proofs.ruled_fault.Tie as tie
@@ -28,13 +28,13 @@ bytes-fault-requires-2 c κs = search rules
 returns : tie.Need-returns
 returns c =
     let a = c.before.before.before.args in
-    c.text-fault.ensures ∙ sym (ap (λ (k : ℕ). textFault (ruleOf k) a.at a.s.now) c.before.match.keys1)
+    c.text-fault.ensures ∙ sym (ap (λ (k : ℕ). text_fault (rule_of k) a.at a.s.now) c.before.match.keys1)
 
 returns-2 : tie.Need-returns-2
 returns-2 c =
     let a = c.before.before.before.before.before.args in
-    c.also.ensures ∙ ap₂ also c.before.before.bytes-fault.ensures (c.before.test.ensures ∙ sym (empty-is a.at a.s.now)) ∙ sym (geography-fault a.at a.s.now)
-    ∙ sym (ap (λ (k : ℕ). textFault (ruleOf k) a.at a.s.now) c.before.before.before.match.keys2)
+    c.also.ensures ∙ ap₂ also c.before.before.bytes-fault.ensures (c.before.test.ensures ∙ sym (empty_is a.at a.s.now)) ∙ sym (geography_fault a.at a.s.now)
+    ∙ sym (ap (λ (k : ℕ). text_fault (rule_of k) a.at a.s.now) c.before.before.before.match.keys2)
 
 returns-3 : tie.Need-returns-3
 returns-3 c =

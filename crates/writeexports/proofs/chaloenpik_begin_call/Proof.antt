@@ -1,8 +1,8 @@
 -- `writeexports::chaloenpik_begin_call` meets its contract: what the step leaves is kept in the numbers. Assumes nothing.
 use mathlib.Core.List.{[]}
-use Rattle.steps.specs.Steps.{beginCall}
+use Rattle.steps.specs.Steps.{begin_call}
 use Rattle.write.specs.Shown.{zero}
-use Rattle.numbers.proofs.Kept.{wrote-from}
+use Rattle.numbers.proofs.Kept.{wrote_from}
 use borrow.Author.Rules.{rules}
 use Rattle.writeexports.proofs.chaloenpik_begin_call.Statement.{statement}
 use Rattle.writeexports.proofs.chaloenpik_begin_call.Tie as tie
@@ -20,7 +20,7 @@ returns : tie.Need-returns
 returns c =
     let b = c.before.before.before.before in
     let a = b.before.before.before.before.args in
-    wrote-from (beginCall a.version a.procedure.now a.client.now) zero a.state.now [] a.out.now _ _ b.begin-call.ensures c.keep.ensures
+    wrote_from (begin_call a.version a.procedure.now a.client.now) zero a.state.now [] a.out.now _ _ b.begin-call.ensures c.keep.ensures
 
 pub chaloenpik-begin-call-spec : {M : Type 1} → statement M
 chaloenpik-begin-call-spec =

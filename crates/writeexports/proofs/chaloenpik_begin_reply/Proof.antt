@@ -1,8 +1,8 @@
 -- `writeexports::chaloenpik_begin_reply` meets its contract: what the step leaves is kept in the numbers. Assumes nothing.
 use mathlib.Core.List.{[]}
-use Rattle.steps.specs.Steps.{beginReply}
+use Rattle.steps.specs.Steps.{begin_reply}
 use Rattle.write.specs.Shown.{zero}
-use Rattle.numbers.proofs.Kept.{wrote-from}
+use Rattle.numbers.proofs.Kept.{wrote_from}
 use Rattle.writeexports.specs.Given.{opening}
 use borrow.Author.Rules.{rules}
 use Rattle.writeexports.proofs.chaloenpik_begin_reply.Statement.{statement}
@@ -22,7 +22,7 @@ returns c =
     let b = c.before.before.before.before in
     let a = b.before.before.before.before.before.before.args in
     let fields = opening a.client.now a.flags a.status a.statusnull a.statustext.now a.appstatus a.appnull a.apptext.now a.roundtrip a.exception.now in
-    wrote-from (beginReply a.version fields) zero a.state.now [] a.out.now _ _ b.begin-reply.ensures c.keep.ensures
+    wrote_from (begin_reply a.version fields) zero a.state.now [] a.out.now _ _ b.begin-reply.ensures c.keep.ensures
 
 pub chaloenpik-begin-reply-spec : {M : Type 1} → statement M
 chaloenpik-begin-reply-spec =

@@ -1,7 +1,7 @@
 -- `writeexports::chaloenpik_body_param` meets its contract: the state is read from the numbers, and what the step leaves is kept in them. Assumes nothing.
 use Rattle.format.specs.Value.{body}
 use Rattle.put.specs.Put.{optional}
-use Rattle.steps.specs.Steps.{oneParam}
+use Rattle.steps.specs.Steps.{one_param}
 use Rattle.numbers.proofs.Kept.{wrote}
 use mathlib.Core.List.{[]}
 use borrow.Author.Rules.{rules}
@@ -24,7 +24,7 @@ returns : tie.Need-returns
 returns c =
     let before-keep = c.before.before.before.before in
     let a = before-keep.before.before.before.before.before.before.args in
-    wrote (oneParam a.t (body (optional a.null a.s.now))) a.state.now [] a.out.now _ _ before-keep.before.before.load.ensures before-keep.body-param.ensures c.keep.ensures
+    wrote (one_param a.t (body (optional a.null a.s.now))) a.state.now [] a.out.now _ _ before-keep.before.before.load.ensures before-keep.body-param.ensures c.keep.ensures
 
 pub chaloenpik-body-param-spec : {M : Type 1} → statement M
 chaloenpik-body-param-spec =

@@ -1,5 +1,5 @@
 -- `writeexports::chaloenpik_bytes_param` meets its contract: the state is read from the numbers, and what the step leaves is kept in them. Assumes nothing.
-use Rattle.steps.specs.Steps.{bytesParam}
+use Rattle.steps.specs.Steps.{bytes_param}
 use Rattle.numbers.proofs.Kept.{wrote}
 use mathlib.Core.List.{[]}
 use borrow.Author.Rules.{rules}
@@ -22,7 +22,7 @@ returns : tie.Need-returns
 returns c =
     let before-keep = c.before.before.before.before in
     let a = before-keep.before.before.before.before.before.before.args in
-    wrote (bytesParam a.s.now) a.state.now [] a.out.now _ _ before-keep.before.before.load.ensures before-keep.bytes-param.ensures c.keep.ensures
+    wrote (bytes_param a.s.now) a.state.now [] a.out.now _ _ before-keep.before.before.load.ensures before-keep.bytes-param.ensures c.keep.ensures
 
 pub chaloenpik-bytes-param-spec : {M : Type 1} → statement M
 chaloenpik-bytes-param-spec =

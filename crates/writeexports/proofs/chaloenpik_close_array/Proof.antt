@@ -1,5 +1,5 @@
 -- `writeexports::chaloenpik_close_array` meets its contract: the state is read from the numbers, and what the step leaves is kept in them. Assumes nothing.
-use Rattle.steps.specs.Steps.{closeArray}
+use Rattle.steps.specs.Steps.{close_array}
 use Rattle.numbers.proofs.Kept.{wrote}
 use mathlib.Core.List.{[]}
 use borrow.Author.Rules.{rules}
@@ -22,7 +22,7 @@ returns : tie.Need-returns
 returns c =
     let before-keep = c.before.before.before.before in
     let a = before-keep.before.before.before.before.before.args in
-    wrote closeArray a.state.now [] a.out.now _ _ before-keep.before.before.load.ensures before-keep.close-array.ensures c.keep.ensures
+    wrote close_array a.state.now [] a.out.now _ _ before-keep.before.before.load.ensures before-keep.close-array.ensures c.keep.ensures
 
 pub chaloenpik-close-array-spec : {M : Type 1} → statement M
 chaloenpik-close-array-spec =

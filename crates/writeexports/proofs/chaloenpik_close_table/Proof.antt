@@ -1,5 +1,5 @@
 -- `writeexports::chaloenpik_close_table` meets its contract: the state is read from the numbers, and what the step leaves is kept in them. Assumes nothing.
-use Rattle.steps.specs.Steps.{closeTable}
+use Rattle.steps.specs.Steps.{close_table}
 use Rattle.numbers.proofs.Kept.{wrote}
 use borrow.Author.Rules.{rules}
 use Rattle.writeexports.proofs.chaloenpik_close_table.Statement.{statement}
@@ -21,7 +21,7 @@ returns : tie.Need-returns
 returns c =
     let before-keep = c.before.before.before.before in
     let a = before-keep.before.before.before.before.before.args in
-    wrote closeTable a.state.now a.types.now a.out.now _ _ before-keep.before.before.load.ensures before-keep.close-table.ensures c.keep.ensures
+    wrote close_table a.state.now a.types.now a.out.now _ _ before-keep.before.before.load.ensures before-keep.close-table.ensures c.keep.ensures
 
 pub chaloenpik-close-table-spec : {M : Type 1} → statement M
 chaloenpik-close-table-spec =

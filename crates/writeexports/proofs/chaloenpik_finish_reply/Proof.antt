@@ -1,5 +1,5 @@
 -- `writeexports::chaloenpik_finish_reply` meets its contract: the state is read from the numbers, and what the step leaves is kept in them. Assumes nothing.
-use Rattle.steps.specs.Steps.{finishReply}
+use Rattle.steps.specs.Steps.{finish_reply}
 use Rattle.numbers.proofs.Kept.{wrote}
 use mathlib.Core.List.{[]}
 use borrow.Author.Rules.{rules}
@@ -22,7 +22,7 @@ returns : tie.Need-returns
 returns c =
     let before-keep = c.before.before.before.before in
     let a = before-keep.before.before.before.before.before.args in
-    wrote finishReply a.state.now [] a.out.now _ _ before-keep.before.before.load.ensures before-keep.finish-reply.ensures c.keep.ensures
+    wrote finish_reply a.state.now [] a.out.now _ _ before-keep.before.before.load.ensures before-keep.finish-reply.ensures c.keep.ensures
 
 pub chaloenpik-finish-reply-spec : {M : Type 1} → statement M
 chaloenpik-finish-reply-spec =

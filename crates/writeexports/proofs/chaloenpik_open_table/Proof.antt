@@ -1,8 +1,8 @@
 -- `writeexports::chaloenpik_open_table` meets its contract: the state is read from the numbers, and what the step leaves is kept in them. Assumes nothing.
-use Rattle.steps.specs.Steps.{openTable}
-use Rattle.columns.specs.Entries.{columnsOf}
-use Rattle.numbers.specs.Entries.{entriesOf}
-use Rattle.numbers.proofs.Kept.{wrote-all}
+use Rattle.steps.specs.Steps.{open_table}
+use Rattle.columns.specs.Entries.{columns_of}
+use Rattle.numbers.specs.Entries.{entries_of}
+use Rattle.numbers.proofs.Kept.{wrote_all}
 use borrow.Author.Rules.{rules}
 use Rattle.writeexports.proofs.chaloenpik_open_table.Statement.{statement}
 use Rattle.writeexports.proofs.chaloenpik_open_table.Tie as tie
@@ -22,7 +22,7 @@ same_length c = search rules
 returns : tie.Need-returns
 returns c =
     let a = c.before.before.before.before.before.before.before.before.before.before.before.before.args in
-    wrote-all (openTable a.status (columnsOf (entriesOf a.list.now) a.names.now)) a.state.now a.types.now a.out.now _ _ _ c.before.before.before.before.before.before.before.load.ensures c.before.before.before.before.open-listed.ensures c.keep.ensures
+    wrote_all (open_table a.status (columns_of (entries_of a.list.now) a.names.now)) a.state.now a.types.now a.out.now _ _ _ c.before.before.before.before.before.before.before.load.ensures c.before.before.before.before.open-listed.ensures c.keep.ensures
 
 pub chaloenpik-open-table-spec : {M : Type 1} → statement M
 chaloenpik-open-table-spec =

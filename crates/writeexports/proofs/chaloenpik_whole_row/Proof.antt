@@ -1,8 +1,8 @@
 -- `writeexports::chaloenpik_whole_row` meets its contract: the state is read from the numbers, and what the row leaves is kept in them. Assumes nothing.
 use Rattle.write.specs.declared.State.{State}
 use Rattle.write.specs.Shown.{seen}
-use Rattle.whole.specs.Rows.{wholeRow}
-use Rattle.numbers.proofs.Kept.{gave-from}
+use Rattle.whole.specs.Rows.{whole_row}
+use Rattle.numbers.proofs.Kept.{gave_from}
 use borrow.Author.Rules.{rules}
 use Rattle.writeexports.proofs.chaloenpik_whole_row.Statement.{statement}
 use Rattle.writeexports.proofs.chaloenpik_whole_row.Tie as tie
@@ -23,7 +23,7 @@ returns : tie.Need-returns
 returns c =
     let before-keep = c.before.before.before.before in
     let a = before-keep.before.before.before.before.before.before.before.args in
-    gave-from (λ (z : State). wholeRow a.bytes.now a.cells.now (seen z a.types.now) a.out.now) a.state.now before-keep.before.before.load.ensures before-keep.whole_row.ensures c.keep.ensures
+    gave_from (λ (z : State). whole_row a.bytes.now a.cells.now (seen z a.types.now) a.out.now) a.state.now before-keep.before.before.load.ensures before-keep.whole_row.ensures c.keep.ensures
 
 pub chaloenpik-whole-row-spec : {M : Type 1} → statement M
 chaloenpik-whole-row-spec =

@@ -1,6 +1,6 @@
 -- `writeexports::chaloenpik_write_login_request` meets its contract: what the login answers, packed. Assumes nothing.
-use Rattle.steps.specs.Logins.{loginRequest}
-use Rattle.numbers.proofs.Kept.{wrote-login}
+use Rattle.steps.specs.Logins.{login_request}
+use Rattle.numbers.proofs.Kept.{wrote_login}
 use borrow.Author.Rules.{rules}
 use Rattle.writeexports.proofs.chaloenpik_write_login_request.Statement.{statement}
 use Rattle.writeexports.proofs.chaloenpik_write_login_request.Tie as tie
@@ -18,7 +18,7 @@ returns : tie.Need-returns
 returns c =
     let l = c.before.before.before in
     let a = l.before.before.before.before.before.before.args in
-    wrote-login (loginRequest a.version a.hashing a.service.now a.user.now a.hash.now a.out.now) l.login-request.ensures c.pack-answer.ensures
+    wrote_login (login_request a.version a.hashing a.service.now a.user.now a.hash.now a.out.now) l.login-request.ensures c.pack-answer.ensures
 
 pub chaloenpik-write-login-request-spec : {M : Type 1} → statement M
 chaloenpik-write-login-request-spec =

@@ -1,7 +1,7 @@
 -- `writeexports::chaloenpik_write_login_response` meets its contract: what the login answers, packed. Assumes nothing.
-use Rattle.steps.specs.Logins.{loginResponse}
+use Rattle.steps.specs.Logins.{login_response}
 use Rattle.login.specs.Parts.{welcome}
-use Rattle.numbers.proofs.Kept.{wrote-login}
+use Rattle.numbers.proofs.Kept.{wrote_login}
 use borrow.Author.Rules.{rules}
 use Rattle.writeexports.proofs.chaloenpik_write_login_response.Statement.{statement}
 use Rattle.writeexports.proofs.chaloenpik_write_login_response.Tie as tie
@@ -19,7 +19,7 @@ returns : tie.Need-returns
 returns c =
     let l = c.before.before.before in
     let a = l.before.before.before.before.args in
-    wrote-login (loginResponse a.version a.result (welcome a.host a.connection a.start a.leader a.build.now) a.out.now) l.login-response.ensures c.pack-answer.ensures
+    wrote_login (login_response a.version a.result (welcome a.host a.connection a.start a.leader a.build.now) a.out.now) l.login-response.ensures c.pack-answer.ensures
 
 pub chaloenpik-write-login-response-spec : {M : Type 1} → statement M
 chaloenpik-write-login-response-spec =
