@@ -1,5 +1,7 @@
 // The C interface for areas, the body of a geography: numbers and slices of numbers only. include/chaloenpik.h declares it.
 // Each function answers one number, as those for messages do (numbers/specs/Packed.antt).
+#![tactic(auto)]
+
 ghost use Rattle.std.specs.Prelude.{◌≡◌, length};
 ghost use Rattle.format.specs.Result.{ok, bind, told_answer};
 ghost use Rattle.format.specs.Geography.{fields_inside, turned_body};

@@ -1,4 +1,6 @@
 // Areas: the body of a geography, read. Every call takes any slice as a body, passes over it once, and gives what it was asked for or the first refusal.
+#![tactic(auto)]
+
 ghost use Rattle.std.specs.Prelude.{◌≡◌, ◌+◌, ◌^◌, ◌<◌, ◌≤◌, Bool, map, length, replicate, ◌==◌};
 ghost use Rattle.format.specs.declared.Fault.TheVariants.{PastEnd};
 ghost use Rattle.format.specs.Result.{ok, bind, pick, told_answer};

@@ -1,6 +1,8 @@
 // Shortcut cards: a column kept by its position, type and name, to be opened again without a search. A call accepts the message once; a refusal is
 // the message's own, then the card's form (12), a table past the end (11), no such column (9), a card that doesn't fit (10), a name too long (3), no room (8).
 // Why a card doesn't fit is told by a call of its own, which refuses none for that.
+#![tactic(auto)]
+
 ghost use Rattle.std.specs.Prelude.{◌≡◌, ◌&&◌, ◌++◌, ◌+◌, ◌≤◌, min, length, get_or, take, drop, eqb};
 ghost use Rattle.std.proofs.Math.Option.{some};
 ghost use Rattle.format.specs.declared.Fault.TheVariants.{CardForm};

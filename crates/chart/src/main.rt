@@ -1,5 +1,7 @@
 // The chart program's work, on a reply with areas that stands on standard input: what each row's area is, the field list inside the first one, its holes
 // turned for the chart, the turned area passed on in a reply of its own and read back, turned again, and the first area written anew by steps.
+#![tactic(auto)]
+
 ghost use Rattle.std.specs.Prelude.{◌+◌, ◌≤◌, length};
 
 use areas::{Bits, RingAnswer};

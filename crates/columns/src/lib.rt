@@ -1,5 +1,7 @@
 // The step that opens a table. Its columns are entries, each with a type and a name's place in a name buffer. They are looked at one by one,
 // then what stands around them is written, and then they are, one by one again: so a table costs what its columns cost, wherever they are lent.
+#![tactic(auto)]
+
 ghost use Rattle.std.specs.Prelude.{◌≡◌, ◌+◌, ◌*◌, ◌<◌, ◌≤◌, length, leb};
 ghost use Rattle.format.specs.Value.{ascii};
 ghost use Rattle.format.specs.Message.{most_columns, most_items};

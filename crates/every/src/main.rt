@@ -1,5 +1,7 @@
 // One message of each kind, with every wire type, is written step by step, read back, compared and listed.
 // What must be printed is made by the second encoder and the second reader alone: tests/second/every.py.
+#![tactic(auto)]
+
 ghost use Rattle.std.specs.Prelude.{◌<◌};
 ghost use Rattle.columns.specs.Entries.{columns_of};
 ghost use Rattle.steps.specs.Steps.{open_table};

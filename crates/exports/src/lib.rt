@@ -1,6 +1,8 @@
 // The part of the C interface that reads messages: numbers and slices of numbers only. `writeexports` has the part that writes them, `areaexports`
 // the one for areas; include/chaloenpik.h declares all of it.
 // Each function answers one number: what was found, or the refusal's number and place (numbers/specs/Packed.antt).
+#![tactic(auto)]
+
 ghost use Rattle.std.specs.Prelude.{true, ◌≡◌, length};
 ghost use Rattle.format.specs.Result.{ok, bind};
 ghost use Rattle.format.specs.Message.{read_message, kind_layout};

@@ -1,4 +1,6 @@
 // The field list of a message: how many fields it has, the n-th, the owner of a byte, and windows of the list.
+#![tactic(auto)]
+
 ghost use Rattle.std.specs.Prelude.{◌≡◌, length};
 ghost use Rattle.format.specs.declared.Fault.TheVariants.{PastEnd};
 ghost use Rattle.format.specs.Result.{ok, bind, told_answer};

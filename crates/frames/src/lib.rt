@@ -1,4 +1,6 @@
 // Frames on standard input: a size of 4 bytes, big-endian, then that many bytes.
+#![tactic(auto)]
+
 ghost use Rattle.std.specs.Prelude.{◌≤◌};
 ghost use Rattle.frames.specs.Within.{Within};
 

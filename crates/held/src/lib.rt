@@ -1,5 +1,7 @@
 // What holds a reference: a reader over one table of a message, each function thin over one of `query` or `cards`; the bytes of a value, handed back
 // beside what is told of them; and the step that is lent a table's columns, thin over one of `columns`.
+#![tactic(auto)]
+
 ghost use Rattle.std.specs.Prelude.{◌≡◌, length};
 ghost use Rattle.format.specs.Result.{told_answer};
 ghost use Rattle.cards.specs.Answers.{ask_open};

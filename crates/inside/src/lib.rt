@@ -1,5 +1,7 @@
 // The field list inside the body of a geography: how many fields it has, the n-th, the owner of a byte, and windows of the list.
 // A message's own list has one entry for the body; this is the finer one, with places counted from the body's first byte.
+#![tactic(auto)]
+
 ghost use Rattle.std.specs.Prelude.{◌≡◌, length, replicate};
 ghost use Rattle.format.specs.Result.{ok, bind, told_answer};
 ghost use Rattle.format.specs.Format.{each};

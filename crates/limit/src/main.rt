@@ -1,6 +1,8 @@
 // The insurer's question, asked of replies on standard input, one frame each: which bytes set the throttle limit of an engine?
 // A card is made from the first reply and opened over each of them. Where it opens a column, the engine's limit is printed with
 // its place in the message and the field that owns its first byte; where it doesn't fit any more, the refusal is, and why.
+#![tactic(auto)]
+
 ghost use Rattle.std.specs.Prelude.{◌≡◌, ◌≤◌, length};
 ghost use Rattle.format.specs.Result.{told_answer};
 ghost use Rattle.cards.specs.Card.{most_size};

@@ -1,5 +1,7 @@
 // The listing program: standard input is one byte of kind, then a message. Prints its field list,
 // or its refusal.
+#![tactic(auto)]
+
 use libc::STDIN_FILENO;
 
 fn main() {

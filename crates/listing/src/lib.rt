@@ -1,5 +1,7 @@
 // The field list of a message as text, on standard output: one line for each field, or the refusal.
 // No contract can say what is written; tests/compare holds it against the second reader.
+#![tactic(auto)]
+
 ghost use Rattle.std.specs.Prelude.{◌+◌, ◌≤◌, ◌≡◌, ◌++◌, length, take};
 ghost use Rattle.std.proofs.Math.Seq.{paste};
 ghost use Rattle.format.specs.Result.{number_of};

@@ -1,4 +1,6 @@
 // The logins, each written in one call, from the buffer's start and with no state.
+#![tactic(auto)]
+
 ghost use Rattle.std.specs.Prelude.{◌≡◌, ◌+◌, ◌≤◌, length, leb, eqb};
 ghost use Rattle.std.proofs.Math.Option.{some, none};
 ghost use Rattle.format.specs.declared.Fault.TheVariants.{Version};

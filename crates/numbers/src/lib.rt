@@ -1,4 +1,6 @@
 // Answers and the writer's state as numbers, for the C interface, which takes and gives nothing else.
+#![tactic(auto)]
+
 ghost use Rattle.std.specs.Prelude.{◌≡◌, [], ◌∷◌, ◌+◌, ◌*◌, ◌<◌, ◌≤◌, length};
 ghost use Rattle.format.specs.Result.{told_answer};
 ghost use Rattle.format.specs.Number.{num_at};

@@ -1,4 +1,6 @@
 // The steps that write the body of a geography: an area, ring by ring and vertex by vertex.
+#![tactic(auto)]
+
 ghost use Rattle.std.specs.Prelude.{◌≡◌, ◌+◌, ◌^◌, ◌<◌, ◌≤◌, true, leb, eqb};
 ghost use Rattle.format.specs.declared.Fault.TheVariants.{Geography};
 ghost use Rattle.format.specs.Result.{no};

@@ -1,5 +1,7 @@
 // Past things that stand in an accepted message, by their lengths alone: no text is looked at again, and no rule is asked twice.
 // What is passed stands there; for a place where nothing does, some place is answered.
+#![tactic(auto)]
+
 ghost use Rattle.std.specs.Prelude.{Bool, List, map, ℕ, replicate};
 ghost use Rattle.std.proofs.Math.Option.{none};
 ghost use Rattle.format.specs.Format.{number, each, present, Verdict};

@@ -1,4 +1,6 @@
 // Leaf writers. Each writes into the part of the output that it is lent, from the part's start; the functions at a place lend that part.
+#![tactic(auto)]
+
 ghost use Rattle.std.specs.Prelude.{◌≡◌, ◌+◌, ◌*◌, ◌^◌, ◌≤◌, ◌++◌, length, take, drop};
 ghost use Rattle.format.specs.Number.{num_bytes};
 ghost use Rattle.format.specs.Value.{width_of};

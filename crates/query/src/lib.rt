@@ -1,6 +1,8 @@
 // Questions about a message: how many tables it has, what a table, a column, a cell, a parameter or an array's element is, and where it stands.
 // Each call accepts the message once and then jumps by lengths: nothing that it passes is read again. A refusal is the message's own, then the
 // question's: past the end (11), another type (6), no such column (9).
+#![tactic(auto)]
+
 ghost use Rattle.std.specs.Prelude.{◌≡◌, false, List, map, ℕ, ◌+◌, ◌<◌, ◌≤◌, min, length, replicate, take, drop, eqb};
 ghost use Rattle.std.proofs.Math.Option.{Option};
 ghost use Rattle.format.specs.declared.Fault.TheVariants.{WireType};

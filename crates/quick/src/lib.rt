@@ -1,6 +1,8 @@
 // Past a table's names and rows, by the shortest way: places are kept in registers, a row whose columns have no rule is judged by its length
 // alone, and a cell's room by where the row's last cell ends. Each helper answers a place, or 0 where it isn't sure; then scan is
 // asked, which says what is refused and where.
+#![tactic(auto)]
+
 ghost use Rattle.std.specs.Prelude.{◌≡◌, ◌+◌, ◌<◌, ◌≤◌, length, replicate, true, false, map};
 ghost use Rattle.format.specs.declared.Fault.TheVariants.{Decimal, Point};
 ghost use Rattle.format.specs.Number.{num_at};

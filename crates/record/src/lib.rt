@@ -1,4 +1,6 @@
 // The record of a message of each kind, shown: numbers with their signs, blocks as arrays, strings by their places.
+#![tactic(auto)]
+
 ghost use Rattle.std.specs.Prelude.{◌≡◌, ℕ, ◌+◌, ◌<◌, ◌≤◌, min, length, take, drop};
 ghost use Rattle.std.proofs.Math.Option.{none};
 ghost use Rattle.format.specs.Number.{num_bytes};

@@ -1,5 +1,7 @@
 // Reads the cases of tests/cases.txt, one frame each: a byte of kind and a message. Prints the verdict
 // on each, one line: `accepted`, or `refused`, the number and the place.
+#![tactic(auto)]
+
 use frames::Frame;
 use libc::STDOUT_FILENO;
 use message::Verdict;

@@ -1,4 +1,6 @@
 // Values of the wire types, shown: signed numbers, floats, decimals by their halves, text and bytes by their place.
+#![tactic(auto)]
+
 ghost use Rattle.std.specs.Prelude.{◌≡◌, true, ◌+◌, min};
 ghost use Rattle.std.specs.Float.{binary64};
 ghost use Rattle.std.specs.Float.Ieee.{to_bits};

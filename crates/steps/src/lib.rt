@@ -1,5 +1,7 @@
 // The writer's steps as definitions, with the theorems about them: `specs/` and `proofs/`. Code and definitions share the stages.
 // What is open in a message that is being written.
+#![tactic(auto)]
+
 #[derive(Drop)]
 pub enum Stage {
     Closed,

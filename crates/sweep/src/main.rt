@@ -1,5 +1,7 @@
 // Lists many messages: standard input is a row of frames, each what the program `list` reads.
 // Prints for each what `list` would print, and a line with a single dot.
+#![tactic(auto)]
+
 use frames::Frame;
 use libc::STDOUT_FILENO;
 

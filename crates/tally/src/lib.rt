@@ -1,4 +1,6 @@
 // Counting the fields of an accepted message without visiting each, and what a count and a descent both stand on: a task, where it is, and where things lie.
+#![tactic(auto)]
+
 ghost use Rattle.std.specs.Prelude.{◌≡◌, ℕ, ◌+◌, ◌≤◌, Bool, true, false, List, [], map, length, replicate, ◌==◌};
 ghost use Rattle.format.specs.Format.{number, each, Verdict};
 ghost use Rattle.format.specs.Result.{ok, pick};

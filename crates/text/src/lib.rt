@@ -1,5 +1,7 @@
 // What the rules of names and texts ask of bytes: where the first one is that isn't ASCII, and where the first one is that begins no well-formed
 // sequence of UTF-8. Bytes that are ASCII are passed 8 or 16 at a time.
+#![tactic(auto)]
+
 ghost use Rattle.std.specs.Prelude.{◌≡◌, ℕ, ◌+◌, ◌-◌, ◌<◌, ◌≤◌, length, get_or, drop, true, ◌&&◌, ◌||◌};
 ghost use Rattle.format.specs.Value.{ascii, ascii_from};
 ghost use Rattle.format.specs.Format.{fine};

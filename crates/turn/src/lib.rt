@@ -1,4 +1,6 @@
 // Turning the holes of an area in place: each ring after the first keeps its first vertex and has the others in reverse order.
+#![tactic(auto)]
+
 ghost use Rattle.std.specs.Prelude.{◌≡◌, ◌+◌, ◌*◌, ◌≤◌, length};
 ghost use mathlib.Core.List.{List, ◌++◌, flat_map, reverse};
 ghost use Rattle.format.specs.Result.{told_answer};

@@ -1,5 +1,7 @@
 // Values as the reader shows them, written again: one step for a shown value of any type. m is the message that it was read from: the bytes of text,
 // varbinary and geographies stand there, and no other value looks at it.
+#![tactic(auto)]
+
 ghost use Rattle.std.specs.Prelude.{[]};
 ghost use Rattle.show.specs.Cells.{type_of, value_of};
 ghost use Rattle.steps.specs.Steps.{one_param, element, cell};

@@ -1,6 +1,8 @@
 // A whole row in one step: it opens the row, writes its cells and closes it. The cells are looked at before any is written, so that a refusal
 // changes nothing; the state and the types are looked at once. Numbers say the cells, two to each: the upper and lower 64 bits, and of a text or
 // binary cell where its bytes start among those that are lent, and how many they are.
+#![tactic(auto)]
+
 ghost use Rattle.std.specs.Prelude.{◌≡◌, ℕ, ◌+◌, ◌*◌, ◌/◌, ◌^◌, ◌<◌, ◌≤◌, true, length};
 ghost use Rattle.format.specs.Result.{ok, pick};
 ghost use Rattle.format.specs.Number.{num_bytes};

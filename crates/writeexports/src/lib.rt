@@ -1,6 +1,8 @@
 // The part of the C interface that writes messages: numbers and slices of numbers only. `exports` has the part that reads them, `areaexports` the
 // one for areas; include/chaloenpik.h declares all of it.
 // Each function answers one number: what was found, or the refusal's number and place (numbers/specs/Packed.antt).
+#![tactic(auto)]
+
 ghost use Rattle.std.specs.Prelude.{◌+◌, ◌*◌, ◌^◌, []};
 ghost use Rattle.format.specs.Value.{fixed, body};
 ghost use Rattle.put.specs.Put.{optional};
