@@ -1,0 +1,37 @@
+-- `scan::skip_decimal` meets its contract: the halves, then the rule on the signed upper half.
+use mathlib.Core.Path.{sym, ap, ◌∙◌}
+use Prim.Native.Nat.{ℕ, ◌+◌, ◌*◌, ◌^◌}
+use mir.Syntax.{w64}
+use mir.ValLaws.{to_z-of_z}
+use native.Mathlib.Omega.{arith}
+use borrow.Author.Tests.{not-true, not-false}
+use Rattle.format.specs.declared.Fault.TheVariants.{Decimal}
+use Rattle.format.specs.Format.{number}
+use Rattle.format.specs.Value.{decimal_fine}
+use Rattle.scan.specs.Shown.{shown_next}
+use Rattle.scan.specs.Signed.{unsigned}
+use Rattle.scan.proofs.Twos.{signed_back}
+use Rattle.scan.proofs.Steps.{ruled_go, ruled_bad, ruled_stop}
+use Rattle.scan.proofs.Sixteen.{halves_go, halves_stop}
+use Rattle.scan.proofs.skip_decimal.Goals as goal
+
+pub returns-in_default : goal.returns-in_default
+returns-in_default c =
+    let stop = halves_stop _ c.read_halves-halves.ensures c.in_default.is c.halves_refusal.ensures in
+    sym (ap shown_next (ruled_stop decimal_fine Decimal (number 16 0) _ _ stop))
+
+pub returns-then-not-decimal_fine : goal.returns-then-not-decimal_fine
+returns-then-not-decimal_fine c =
+    let upper = to_z-of_z w64 _ (record { sfits = c.signed64-upper.type_inv }) ∙ c.signed64-upper.ensures in
+    let bits = ap (unsigned 8) upper ∙ signed_back 8 c.in-Is.high (omega arith) in
+    let go = halves_go _ c.read_halves-halves.ensures c.in-Is.is in
+    let test = sym (ap (λ (n : ℕ). decimal_fine (n * 2 ^ 64 + c.in-Is.lower)) bits) ∙ sym c.decimal_fine.ensures ∙ not-true _ c.if-not-decimal_fine.true-raw in
+    sym (ap shown_next (ruled_bad decimal_fine Decimal (number 16 0) _ _ go test))
+
+pub returns : goal.returns
+returns c =
+    let upper = to_z-of_z w64 _ (record { sfits = c.signed64-upper.type_inv }) ∙ c.signed64-upper.ensures in
+    let bits = ap (unsigned 8) upper ∙ signed_back 8 c.in-Is.high (omega arith) in
+    let go = halves_go _ c.read_halves-halves.ensures c.in-Is.is in
+    let test = sym (ap (λ (n : ℕ). decimal_fine (n * 2 ^ 64 + c.in-Is.lower)) bits) ∙ sym c.decimal_fine.ensures ∙ not-false _ c.if-not-decimal_fine.false-raw in
+    sym (ap shown_next (ruled_go decimal_fine Decimal (number 16 0) _ _ go test))
