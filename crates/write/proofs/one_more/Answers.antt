@@ -3,11 +3,7 @@ use mathlib.Core.Path.{sym, ap}
 use Prim.Native.Nat.{ℕ}
 use lib.Dec.{leb}
 use native.Mathlib.Numerals.{add-one}
-use Rattle.write.proofs.one_more.Statement.{statement}
-use Rattle.write.proofs.one_more.Tie as tie
+use Rattle.write.proofs.one_more.Goals as goal
 
-returns : tie.Need-returns
+pub returns : goal.returns
 returns c = ap (λ (k : ℕ). leb k c.args.most) (sym (add-one c.args.n))
-
-pub one-more-spec : {M : Type 1} → statement M
-one-more-spec = tie.close (tie.spec returns)
