@@ -1,18 +1,18 @@
 -- The body of a geography keeps the laws, and so what the demands say of messages holds of bodies; and turning its holes twice restores it.
 use Prim.Native.Nat.{ℕ, suc, ◌<◌}
 use mathlib.Core.Path.{◌≡◌, refl, sym, ◌∙◌, ap, ap₂}
-use mathlib.Core.List.{List, [], ◌∷◌, ◌++◌, map, reverse, reverse-reverse, append-nil}
+use mathlib.Core.List.{List, [], ◌∷◌, map, reverse, reverse-reverse, append-nil}
 use lib.ListN.{length, replicate, length-reverse, length-map}
 use lib.Seq.{drop-length}
-use lib.Dec.{leb, eqb, lit<}
+use lib.Dec.{eqb}
 use native.Mathlib.Omega.{arith}
 use native.Mathlib.Nat.{zero-add}
 use borrow.Author.Tests.{eqb-true, eq-eqb}
-use Rattle.format.specs.Result.{Res, ok, no, bind}
+use Rattle.format.specs.Result.{Res, ok, no}
 use Rattle.format.specs.Number.{Bytes}
 use Rattle.format.specs.Format.{Format, number, block, ruled, into, both, each}
 use Rattle.format.specs.Message.{first, second, no_index}
-use Rattle.format.specs.Geography.{Vertex, vertex, Ring, ring, at_least, ringed, Polygon, polygon, polygon_fields, ring_kept, body_kept, fewest_vertices, to_end, read_whole, read_polygon, after_first, turned_ring, turned, turned_or, turned_body}
+use Rattle.format.specs.Geography.{Vertex, vertex, Ring, ring, at_least, ringed, Polygon, polygon, polygon_fields, ring_kept, body_kept, fewest_vertices, read_whole, read_polygon, after_first, turned_ring, turned, turned_or, turned_body}
 use Rattle.format.proofs.Results.{ok_same, passed, bound}
 use Rattle.format.proofs.Took.{Tiles}
 use Rattle.format.proofs.Owner.{Owner, owner}

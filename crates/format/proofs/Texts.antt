@@ -1,9 +1,9 @@
 -- Text, read sequence by sequence; and what is read by a rule is read without it.
 use Prim.Native.Nat.{ℕ, zero, suc, ◌+◌, ◌≤◌, ◌<◌}
-use mathlib.Core.Path.{◌≡◌, refl, ◌∙◌}
+use mathlib.Core.Path.{◌≡◌, refl}
 use mathlib.Core.Bool.{Bool, true, false, ◌&&◌}
 use mathlib.Core.List.{List, [], ◌∷◌}
-use mathlib.Core.Option.{Option, some, none}
+use mathlib.Core.Option.{Option, none}
 use lib.ListN.{length, take, drop, get_or}
 use lib.Dec.{leb, ltb, eqb}
 use native.Mathlib.Omega.{arith}
@@ -11,7 +11,7 @@ use native.Mathlib.Nat.{add-zero, add_assoc}
 use borrow.Author.Tests.{le-leb}
 use Rattle.format.specs.declared.Fault.{Fault}
 use Rattle.format.specs.declared.Fault.TheVariants.{Short, Negative, Limit, Text}
-use Rattle.format.specs.Result.{Res, ok, no, bind, pick}
+use Rattle.format.specs.Result.{ok, no, pick}
 use Rattle.format.specs.Number.{half, null4}
 use Rattle.format.specs.Format.{number, counted, Verdict, fine, bad, judged}
 use Rattle.format.specs.Value.{anything}

@@ -1,7 +1,7 @@
 -- The body of a geography: a polygon, by the 2016 document's "Geography Value Wire Representation". A message keeps the body as it is; what stands here is for
 -- the calls on a body. Its fields: 60, 61, 62 the three leading bytes (encoding version, internal, whether there are holes), 63 ring count; of each ring 64 its
 -- byte, 65 vertex count, 66 a float, 67 its kept bytes; 68 the body's kept bytes. The indices are ring, vertex and axis.
-use Rattle.std.specs.Prelude.{ℕ, ◌+◌, Bool, List, [], ◌∷◌, map, reverse, length, replicate, leb, ltb, eqb}
+use Rattle.std.specs.Prelude.{ℕ, List, [], ◌∷◌, map, reverse, length, replicate, leb, ltb, eqb}
 use Rattle.format.specs.declared.Fault.TheVariants.{Negative, Extra, Geography}
 use Rattle.format.specs.Result.{Res, ok, no, bind, pick}
 use Rattle.format.specs.Number.{half}

@@ -10,7 +10,7 @@ use Rattle.format.specs.declared.Fault.{Fault}
 use Rattle.format.specs.declared.Fault.TheVariants.{Short, Negative, Limit, Extra, Version, WireType}
 use Rattle.format.specs.Result.{Res, ok, no, bind, pick}
 use Rattle.format.specs.Number.{half}
-use Rattle.format.specs.Format.{Format, number, ruled, into, both}
+use Rattle.format.specs.Format.{Format, number, ruled, both}
 use Rattle.format.specs.Message.{
   Message,
   message,

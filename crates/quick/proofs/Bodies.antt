@@ -10,7 +10,7 @@ use lib.Dec.{leb, eqb}
 use native.Mathlib.Omega.{arith}
 use borrow.Author.Tests.{le-leb, ne_eqb}
 use Rattle.format.specs.declared.Fault.{Fault}
-use Rattle.format.specs.Result.{Res, ok, no, pick}
+use Rattle.format.specs.Result.{Res, ok, pick}
 use Rattle.format.specs.Number.{num_at, null4, half}
 use Rattle.format.specs.Format.{number, ruled, counted, Verdict, fine, judged}
 use Rattle.format.specs.Value.{most_bytes, not_empty, anything, ascii, string, value, width_of}

@@ -1,17 +1,16 @@
 -- The rule of a decimal, by where its upper half lies; the lower half decides at the two ends and at the null value.
 -- 10 ^ 38 is top * 2 ^ 64 + 687399551400673280 and 2 ^ 128 - 10 ^ 38 is bottom * 2 ^ 64 + 17759344522308878336.
 use Prim.Native.Nat.{ℕ, suc, ◌+◌, ◌*◌, ◌-◌, ◌^◌, ◌≤◌, ◌<◌}
-use mathlib.Core.Path.{◌≡◌, refl, sym, ◌∙◌, ap, subst}
+use mathlib.Core.Path.{◌≡◌, refl, sym, ◌∙◌}
 use mathlib.Core.Bool.{Bool, true, false, ◌||◌, true≢false}
 use lib.Dec.{ltb, eqb}
 use lib.IntN.{ℤ, pos, negsuc}
 use lib.Signed.{lt_z}
-use lib.Arith.{digits_div}
 use mir.Syntax.{w64}
 use mir.Val.{SFits, of_z}
 use native.Mathlib.Omega.{arith}
 use native.Mathlib.Nat.{le_of_lt}
-use borrow.Author.Tests.{lt-ltb, le-ltb, ltb-true, ltb-false, ne_eqb}
+use borrow.Author.Tests.{lt-ltb, le-ltb, ltb-true, ltb-false}
 use Rattle.format.specs.Value.{decimal_fine}
 use Rattle.format.proofs.Results.{ltb_add}
 use Rattle.scan.proofs.Sixteen.{upper_less, null_upper, null_lower}

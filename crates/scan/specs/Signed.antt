@@ -1,5 +1,5 @@
 -- Two's complement: numbers of k bytes as signed numbers, and back.
-use Rattle.std.specs.Prelude.{ℕ, suc, ◌-◌, ◌%◌, ◌^◌, Bool, ltb, ℤ, pos, negsuc}
+use Rattle.std.specs.Prelude.{ℕ, suc, ◌-◌, ◌%◌, ◌^◌, ltb, ℤ, pos, negsuc}
 use Rattle.format.specs.Number.{half}
 use Rattle.format.specs.Result.{pick}
 

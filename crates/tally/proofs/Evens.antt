@@ -4,7 +4,7 @@ use Rattle.format.specs.declared.Fault.TheVariants.{Decimal, Point, WireType}
 use Rattle.format.specs.Result.{ok, pick}
 use Rattle.format.specs.Number.{Bytes}
 use Rattle.format.specs.Format.{Format, Index, number, ruled, into, each, room, nothing, piece}
-use Rattle.format.specs.Value.{Value, value, fixed, fixed_fine, is_counted, is_column, width_of, t_tinyint, t_smallint, t_integer, t_bigint, t_float, t_timestamp, t_decimal, t_point}
+use Rattle.format.specs.Value.{Value, value, fixed_fine, is_counted, is_column, width_of, t_tinyint, t_smallint, t_integer, t_bigint, t_float, t_timestamp, t_decimal, t_point}
 use Rattle.format.specs.Message.{second, third, row, most_row, column_type}
 use Rattle.format.proofs.Results.{ok_same, bound}
 use Rattle.format.proofs.Laws.{Lawful, lawful_each, all_map, lawful_number, lawful_ruled}

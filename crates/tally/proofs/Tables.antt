@@ -5,7 +5,7 @@ use lib.ListN.{length-replicate}
 use Rattle.format.specs.declared.Fault.TheVariants.{WireType, Limit, Negative}
 use Rattle.format.specs.Result.{ok}
 use Rattle.format.specs.Number.{Bytes, half}
-use Rattle.format.specs.Format.{Format, Index, number, block, nothing, ruled, room, into, both, each}
+use Rattle.format.specs.Format.{Format, Index, number, block, nothing, room, into, both, each}
 use Rattle.format.specs.Value.{string, ascii, is_column, Value, value}
 use Rattle.format.specs.Message.{count, column_type, list, third, most_columns, unlimited, most_row, Metadata, metadata, row, Table, table, in_table, second, first, most_items, flag_byte, after_flags, head, response}
 use Rattle.format.proofs.Results.{ok_same, bound, spared, passed}

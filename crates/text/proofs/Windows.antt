@@ -1,6 +1,6 @@
 -- Bytes that may each stand after the three before them are a text, if a sequence begins with the first one and none goes on past the last.
 use Prim.Native.Nat.{ℕ, zero, suc, ◌+◌, ◌≤◌, ◌<◌}
-use mathlib.Core.Path.{◌≡◌, refl, sym, ◌∙◌, ap, subst}
+use mathlib.Core.Path.{◌≡◌, refl, sym, ◌∙◌, subst}
 use mathlib.Core.Bool.{Bool, true, false, ◌&&◌, ◌||◌, true≢false}
 use mathlib.Core.List.{List, [], ◌∷◌}
 use lib.ListN.{length, drop, get_or, drop_of_length-le}
@@ -10,7 +10,7 @@ use native.Mathlib.Omega.{arith}
 use borrow.Author.Tests.{le-leb, lt-leb, leb-true, leb-false, ltb-false, eq-eqb, eqb-true, eqb-false}
 use Rattle.format.specs.Result.{pick}
 use Rattle.format.specs.Format.{fine}
-use Rattle.format.specs.Text.{from_to, tail, sequence, utf8_from}
+use Rattle.format.specs.Text.{from_to, tail, utf8_from}
 use Rattle.format.proofs.Texts.{utf8_low, utf8_next}
 use Rattle.text.specs.Shown.{second_of_three, second_of_four}
 use Rattle.text.specs.Windows.{unlike, goes_on, wrong_pair, wrong_after, Right_run, Between}

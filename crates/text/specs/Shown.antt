@@ -1,5 +1,5 @@
 -- What is found among the bytes of a name or a text, and what is asked of the second byte of a sequence once the first one is known.
-use Rattle.std.specs.Prelude.{ℕ, ◌+◌, ◌<◌, Bool, ◌&&◌, List, get_or, leb, ltb, eqb}
+use Rattle.std.specs.Prelude.{ℕ, ◌+◌, ◌<◌, Bool, ◌&&◌, List, get_or, ltb, eqb}
 use Rattle.format.specs.declared.Fault.TheVariants.{Text}
 use Rattle.format.specs.Result.{pick}
 use Rattle.format.specs.Format.{Verdict, fine, bad}

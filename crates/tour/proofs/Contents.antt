@@ -2,7 +2,7 @@
 use Rattle.std.proofs.Common.{◌≡◌, ℕ, Bool, true, false, eqb, leb, List, refl, ap, lit<, eq-eqb, ne_eqb}
 use mathlib.Core.Option.{Option, some, none, get_or}
 use Rattle.format.specs.declared.Fault.TheVariants.{Version}
-use Rattle.format.specs.Result.{ok, no}
+use Rattle.format.specs.Result.{ok}
 use Rattle.format.specs.Number.{Bytes}
 use Rattle.format.specs.Format.{Format, Index, number, block, nothing, into, both, present, Verdict}
 use Rattle.format.specs.Value.{string}

@@ -1,6 +1,5 @@
 -- `message::skip_tables` meets its contract: where the readings that are left end is where all end. Assumes nothing.
 use mathlib.Core.Path.{refl, sym, ◌∙◌}
-use Prim.Native.Nat.{◌-◌}
 use borrow.Author.Rules.{rules}
 use Rattle.format.specs.Message.{first, table}
 use Rattle.scan.proofs.Loops.{loop_same, loop_done, loop_turn, loop_stop}

@@ -1,6 +1,6 @@
 -- `quick::past_cells` meets its contract: while the place is in the room, where the cells that are left end is where all end. Assumes nothing.
 use mathlib.Core.Path.{refl, sym, ap, ◌∙◌}
-use Prim.Native.Nat.{◌-◌, ◌<◌}
+use Prim.Native.Nat.{◌<◌}
 use lib.ListN.{length, get_or}
 use native.Mathlib.Omega.{arith}
 use Rattle.format.specs.Message.{third}

@@ -1,6 +1,6 @@
 -- `quick::plain_row` meets its contract: any bytes are the cells so far, as many as their sizes add up to. Assumes nothing.
 use mathlib.Core.Path.{◌≡◌, refl, sym, ap, ◌∙◌}
-use Prim.Native.Nat.{◌+◌, ◌-◌, ◌<◌}
+use Prim.Native.Nat.{◌+◌, ◌<◌}
 use lib.ListN.{length, get_or}
 use native.Mathlib.Omega.{arith}
 use Rattle.format.specs.Message.{third}

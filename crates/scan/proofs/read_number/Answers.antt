@@ -1,6 +1,6 @@
 -- `scan::read_number` meets its contract: after i turns n is what i bytes gave. Assumes nothing.
 use mathlib.Core.Path.{sym, ◌∙◌}
-use Prim.Native.Nat.{◌+◌, ◌-◌, ◌<◌}
+use Prim.Native.Nat.{◌+◌, ◌<◌}
 use lib.Dec.{lit<}
 use native.Mathlib.Nat.{min-le_right}
 use native.Mathlib.Omega.{arith}

@@ -1,6 +1,5 @@
 -- `scan::skip_cells` meets its contract: where the readings that are left end is where all end. Assumes nothing.
 use mathlib.Core.Path.{refl, sym, ap, ◌∙◌}
-use Prim.Native.Nat.{◌-◌}
 use lib.ListN.{length, get_or}
 use borrow.Author.Rules.{rules}
 use Rattle.format.specs.Message.{third}

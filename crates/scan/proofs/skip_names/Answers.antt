@@ -1,6 +1,5 @@
 -- `scan::skip_names` meets its contract: where the readings that are left end is where all end. Assumes nothing.
 use mathlib.Core.Path.{refl, sym, ap, ◌∙◌}
-use Prim.Native.Nat.{◌-◌}
 use borrow.Author.Rules.{rules}
 use mathlib.Core.Bool.{false}
 use Rattle.format.specs.Message.{third}

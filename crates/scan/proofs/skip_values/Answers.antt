@@ -1,6 +1,5 @@
 -- `scan::skip_values` meets its contract: where the readings that are left end is where all end. Assumes nothing.
 use mathlib.Core.Path.{refl, sym, ap, ◌∙◌}
-use Prim.Native.Nat.{◌-◌}
 use borrow.Author.Rules.{rules}
 use Rattle.format.specs.Message.{second}
 use Rattle.format.specs.Value.{value}

@@ -1,5 +1,5 @@
 -- `tally::fixed_row` meets its contract: the sizes so far and those that are left are all of them. Assumes nothing.
-use Rattle.std.proofs.Common.{◌≡◌, ◌+◌, ◌-◌, ◌<◌, [], ◌∷◌, get_or, drop, refl, add-one, arith, drop_of_length-le, drop-cons}
+use Rattle.std.proofs.Common.{◌≡◌, ◌+◌, ◌<◌, [], ◌∷◌, get_or, drop, refl, add-one, arith, drop_of_length-le, drop-cons}
 use Rattle.format.specs.Value.{width_of}
 use Rattle.tally.proofs.Evens.{width_most}
 use Rattle.tally.proofs.fixed_row.Goals as goal

@@ -1,5 +1,5 @@
 -- `tally::tally_names` meets its contract: what is left, after what was counted, is the whole. Assumes nothing.
-use Rattle.std.proofs.Common.{◌-◌, false, refl}
+use Rattle.std.proofs.Common.{false, refl}
 use Rattle.tally.proofs.Tours.{bytes_all}
 use Rattle.tally.proofs.Rounds.{round_first, round_next, round_last, all_same}
 use Rattle.format.specs.Value.{string, ascii}

@@ -1,5 +1,5 @@
 -- `text::are_low` meets its contract: the bytes that were looked at are all below what they are joined to. Assumes nothing.
-use Prim.Native.Nat.{◌-◌, ◌≤◌}
+use Prim.Native.Nat.{◌≤◌}
 use native.Mathlib.Omega.{arith}
 use borrow.Author.Tests.{leb-true}
 use Rattle.text.proofs.Runs.{below_none, below_more}

@@ -1,7 +1,5 @@
 -- `text::are_right` meets its contract: as long as nothing wrong was found, all bytes that were looked at are right. Assumes nothing.
 use mathlib.Core.Path.{◌≡◌, sym, subst, ◌∙◌}
-use mathlib.Core.Bool.{false}
-use Prim.Native.Nat.{◌-◌}
 use native.Mathlib.Omega.{arith}
 use borrow.Author.Tests.{not-true}
 use Rattle.text.specs.Windows.{Right_run}

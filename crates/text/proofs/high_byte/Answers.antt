@@ -1,6 +1,5 @@
 -- `text::high_byte` meets its contract: what is said of the bytes that are left is what is said of all. Assumes nothing.
 use mathlib.Core.Path.{refl, sym, ap, ◌∙◌}
-use Prim.Native.Nat.{◌-◌}
 use lib.ListN.{length}
 use native.Mathlib.Omega.{arith}
 use Rattle.format.specs.Value.{ascii_from}

@@ -1,7 +1,7 @@
 -- `text::is_short_ascii` meets its contract: the bytes before the place that is looked at are all ASCII. Assumes nothing.
 use mathlib.Core.Path.{◌≡◌, sym, subst}
 use mathlib.Core.Bool.{true≢false}
-use Prim.Native.Nat.{ℕ, ◌-◌, ◌<◌}
+use Prim.Native.Nat.{ℕ, ◌<◌}
 use lib.ListN.{length, get_or}
 use native.Mathlib.Omega.{arith}
 use Rattle.text.specs.Shown.{Low_run}

@@ -1,6 +1,6 @@
 -- `text::passed` meets its contract: what is said of the bytes that are left is what is said of all. Assumes nothing.
 use mathlib.Core.Path.{refl, sym, ◌∙◌}
-use Prim.Native.Nat.{◌+◌, ◌-◌}
+use Prim.Native.Nat.{◌+◌}
 use lib.ListN.{get_or}
 use native.Mathlib.Omega.{arith}
 use Rattle.text.proofs.Sequences.{few_bytes}

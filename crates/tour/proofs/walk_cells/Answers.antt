@@ -1,5 +1,5 @@
 -- `tour::walk_cells` meets its contract: what is left, after what was met, is the whole. Assumes nothing.
-use Rattle.std.proofs.Common.{◌-◌, length, get_or, arith}
+use Rattle.std.proofs.Common.{length, get_or, arith}
 use Rattle.format.specs.Value.{value}
 use Rattle.format.specs.Message.{third}
 use Rattle.format.proofs.Formats.{lawful_value}

@@ -1,5 +1,5 @@
 -- `tour::walk_names` meets its contract: what is left, after what was met, is the whole. Assumes nothing.
-use Rattle.std.proofs.Common.{◌-◌, false, arith}
+use Rattle.std.proofs.Common.{false, arith}
 use Rattle.format.specs.Value.{string, ascii}
 use Rattle.format.specs.Message.{third}
 use Rattle.tally.proofs.Values.{lawful_string}

@@ -1,5 +1,5 @@
 -- `tour::walk_params` meets its contract: what is left, after what was met, is the whole. Assumes nothing.
-use Rattle.std.proofs.Common.{◌-◌, arith}
+use Rattle.std.proofs.Common.{arith}
 use Rattle.format.specs.Message.{first, param}
 use Rattle.format.proofs.Formats.{lawful_param}
 use Rattle.tally.specs.Walks.{index_of}

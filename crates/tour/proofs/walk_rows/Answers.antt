@@ -1,5 +1,5 @@
 -- `tour::walk_rows` meets its contract: what is left, after what was met or passed, is the whole. Assumes nothing.
-use Rattle.std.proofs.Common.{◌+◌, ◌-◌, ◌≤◌, refl, arith}
+use Rattle.std.proofs.Common.{◌+◌, ◌≤◌, refl, arith}
 use Rattle.format.specs.Message.{second, row}
 use Rattle.format.proofs.Formats.{lawful_row}
 use Rattle.tally.specs.Walks.{index_of}

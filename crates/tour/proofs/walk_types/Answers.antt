@@ -1,5 +1,5 @@
 -- `tour::walk_types` meets its contract: what is left, after what was met, is the whole. Assumes nothing.
-use Rattle.std.proofs.Common.{◌-◌, arith}
+use Rattle.std.proofs.Common.{arith}
 use Rattle.format.specs.declared.Fault.TheVariants.{WireType}
 use Rattle.format.specs.Value.{is_column}
 use Rattle.format.specs.Message.{third, column_type}

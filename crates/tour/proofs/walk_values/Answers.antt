@@ -1,5 +1,5 @@
 -- `tour::walk_values` meets its contract: what is left, after what was met, is the whole. Assumes nothing.
-use Rattle.std.proofs.Common.{◌-◌, arith}
+use Rattle.std.proofs.Common.{arith}
 use Rattle.format.specs.Value.{value}
 use Rattle.format.specs.Message.{second}
 use Rattle.format.proofs.Formats.{lawful_value}
