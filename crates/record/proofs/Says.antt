@@ -11,7 +11,7 @@ use Rattle.format.specs.declared.Fault.{Fault}
 use Rattle.format.specs.declared.Fault.TheVariants.{Short}
 use Rattle.format.specs.Result.{ok, no, pick}
 use Rattle.format.specs.Number.{num_at}
-use Rattle.format.specs.Format.{Format, Index, Verdict, number, block, ruled, both, present, nothing, each, counted}
+use Rattle.format.specs.Format.{Format, Index, Verdict, number, block, ruled, both, present, nothing, each}
 use Rattle.format.specs.Value.{string, anything, most_bytes}
 use Rattle.format.specs.Message.{Message, content_of, read_message, list, binary, noted, trip}
 use Rattle.format.proofs.Results.{passed, ok_same}

@@ -1,0 +1,10 @@
+-- `quick::read_room` meets its contract: a body that surely is one is what a longer limit gives too. Assumes nothing.
+use native.Mathlib.Omega.{arith}
+use Rattle.format.specs.Message.{most_message}
+use Rattle.quick.proofs.Bodies.{room_reads}
+use Rattle.quick.proofs.read_room.Goals as goal
+
+pub returns : goal.returns
+returns c =
+    let a = c.args in
+    room_reads a.s.now a.at most_message c.sure_body.ensures c.in-Is.is (omega arith)
