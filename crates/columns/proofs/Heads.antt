@@ -1,7 +1,6 @@
 -- What the code that writes around the columns has to show, where the step is refused and where it is taken.
-use Prim.Native.Nat.{ℕ, ◌+◌, ◌-◌, ◌*◌, ◌≤◌}
-use native.Mathlib.Omega.{arith}
-use mathlib.Core.Path.{◌≡◌, refl, sym, ap, ap₂, ◌∙◌}
+use Prim.Native.Nat.{ℕ, ◌+◌, ◌-◌, ◌≤◌}
+use mathlib.Core.Path.{◌≡◌, sym, ap, ap₂, ◌∙◌}
 use mathlib.Core.List.{List, []}
 use lib.ListN.{length, replicate, length-replicate}
 use lib.Dec.{leb}
@@ -16,7 +15,6 @@ use Rattle.format.specs.declared.Answer.{Answer}
 use Rattle.format.specs.declared.Answer.TheVariants.{Is, No}
 use Rattle.steps.specs.declared.Stage.TheVariants.{Reply}
 use Rattle.write.specs.declared.State.{State as Code}
-use Rattle.write.specs.declared.Outcome.{Outcome}
 use Rattle.steps.specs.State.{State, at_stage, closed}
 use Rattle.steps.specs.Plans.{Plan, also, test}
 use Rattle.steps.specs.Steps.{message_end}

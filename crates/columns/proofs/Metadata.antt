@@ -1,24 +1,23 @@
 -- What is written of columns: where nothing is wrong with them their names stand in their buffer, and their bytes are the metadata's.
-use Prim.Native.Nat.{ℕ, zero, suc, ◌+◌, ◌-◌, ◌<◌, ◌≤◌}
+use Prim.Native.Nat.{ℕ, ◌+◌, ◌-◌, ◌≤◌}
 use native.Mathlib.Omega.{arith}
 use mathlib.Core.Path.{◌≡◌, refl, sym, ap, ap₂, ◌∙◌}
 use mathlib.Core.Bool.{Bool, true, false}
 use mathlib.Core.List.{List, [], ◌∷◌, ◌++◌, map, flat_map}
 use mathlib.Core.Option.{Option, some, none}
-use lib.ListN.{length, take, drop, get_or, replicate, length-append, length-drop, length-map}
+use lib.ListN.{length, take, drop, replicate, length-append, length-drop, length-map}
 use lib.Dec.{leb}
-use lib.Seq.{length-take-le, take-length}
+use lib.Seq.{length-take-le}
 use borrow.Author.Tests.{le-leb, leb-true}
-use Rattle.format.specs.declared.Fault.TheVariants.{Limit, WireType}
+use Rattle.format.specs.declared.Fault.TheVariants.{Limit}
 use Rattle.format.specs.Result.{pick}
 use Rattle.format.specs.Number.{num_bytes}
 use Rattle.format.specs.Format.{Verdict, fine, number, room, ruled, into, both, counted, each, nothing}
 use Rattle.format.specs.Value.{string, ascii, most_bytes}
-use Rattle.format.specs.Message.{metadata, column_type, third, most_columns}
+use Rattle.format.specs.Message.{metadata, column_type, third}
 use Rattle.format.proofs.Numbers.{length-num_bytes}
 use Rattle.put.specs.Put.{sized}
 use Rattle.put.proofs.Laws.{sized_some}
-use Rattle.steps.specs.State.{all_columns}
 use Rattle.steps.specs.Plans.{also, test, placed}
 use Rattle.steps.specs.Arguments.{name_fault, name_faults, types_of, metadata_of}
 use Rattle.steps.proofs.Back.{also_fine, test_fine}

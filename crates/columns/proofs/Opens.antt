@@ -1,10 +1,10 @@
 -- The step that opens a table, by its two walks: what is found of the columns is what the plan asks, and what is written is the plan's.
-use Prim.Native.Nat.{ℕ, ◌+◌, ◌-◌, ◌<◌, ◌≤◌}
+use Prim.Native.Nat.{ℕ, ◌+◌, ◌-◌, ◌≤◌}
 use native.Mathlib.Nat.{zero-add}
 use native.Mathlib.Omega.{arith}
 use mathlib.Core.Path.{◌≡◌, refl, sym, ap, ap₂, ◌∙◌, subst}
 use mathlib.Core.Bool.{Bool, true, false}
-use mathlib.Core.List.{List, [], ◌∷◌, ◌++◌, flat_map, append_assoc}
+use mathlib.Core.List.{List, [], ◌++◌, flat_map, append_assoc}
 use lib.ListN.{length, length-append, length-map}
 use lib.Seq.{sets}
 use lib.Dec.{leb}
@@ -14,18 +14,17 @@ use Rattle.format.specs.declared.Fault.TheVariants.{Limit, WireType}
 use Rattle.format.specs.Result.{Res, ok, no}
 use Rattle.format.specs.Number.{num_bytes}
 use Rattle.format.specs.Format.{Verdict, fine, bad}
-use Rattle.format.specs.Message.{metadata, most_columns, most_items}
+use Rattle.format.specs.Message.{most_columns}
 use Rattle.format.proofs.Numbers.{length-num_bytes}
 use Rattle.put.specs.Put.{put}
 use Rattle.put.proofs.Laws.{put_length, twice}
-use Rattle.format.specs.declared.Answer.TheVariants.{Is, No}
 use Rattle.write.specs.declared.State.{State as Code}
 use Rattle.write.specs.declared.Outcome.{Outcome}
 use Rattle.steps.specs.State.{State, all_columns}
 use Rattle.steps.specs.Plans.{Plan, Out, answer_within, answer_of, out_of, carry, also, test}
-use Rattle.steps.specs.Arguments.{name_faults, types_of, metadata_of}
+use Rattle.steps.specs.Arguments.{name_faults, types_of}
 use Rattle.steps.specs.Steps.{Step, step, plan, open_table}
-use Rattle.write.specs.Shown.{seen, shown, shown_answer, types_after, Stepped, Opened}
+use Rattle.write.specs.Shown.{seen, shown, shown_answer, types_after, Opened}
 use Rattle.steps.proofs.Plans.{Accepted, answer_ok}
 use Rattle.steps.proofs.Accepted.{step_ok}
 use Rattle.steps.proofs.Back.{also_fine, test_fine}
@@ -34,10 +33,10 @@ use Rattle.columns.specs.declared.Column.{Column as Entry}
 use Rattle.columns.specs.declared.Survey.{Survey}
 use Rattle.columns.specs.declared.Head.{Head}
 use Rattle.columns.specs.Entries.{columns_of, types_in, type_bytes, name_bytes, names_size, columns_fault}
-use Rattle.columns.specs.Walks.{none_at, add_all, survey_fault, head_answer, head_bytes, opened_at, head_of, head_out, Page, put_all, Fits_all}
+use Rattle.columns.specs.Walks.{none_at, add_all, head_answer, head_bytes, opened_at, head_of, head_out, Page, put_all, Fits_all}
 use Rattle.columns.proofs.Metadata.{columns_length, types_same, types_size, Standing, all_standing, names_length, metadata_is, table_length}
 use Rattle.columns.proofs.Apart.{apart}
-use Rattle.columns.proofs.Surveys.{Found, found, fault_same}
+use Rattle.columns.proofs.Surveys.{found, fault_same}
 use Rattle.columns.proofs.Pages.{none_put, none_fit, all_fit, all_put}
 
 -- what the tests give is what the plan asks; its length is asked only where nothing else refuses

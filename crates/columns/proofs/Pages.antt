@@ -1,16 +1,14 @@
 -- What the walk that writes columns leaves: their types and their names, each where they belong, and the types in their memory.
-use Prim.Native.Nat.{ℕ, suc, ◌+◌, ◌-◌, ◌<◌, ◌≤◌}
+use Prim.Native.Nat.{ℕ, suc, ◌+◌, ◌-◌, ◌≤◌}
 use native.Mathlib.Numerals.{add-one}
 use native.Mathlib.Omega.{arith}
-use mathlib.Core.Path.{◌≡◌, refl, sym, ap, ap₂, ◌∙◌}
+use mathlib.Core.Path.{◌≡◌, refl, sym, ap, ◌∙◌}
 use mathlib.Core.Bool.{false}
 use mathlib.Core.List.{List, [], ◌∷◌, ◌++◌, flat_map}
 use lib.ListN.{length, set, length-append}
 use lib.Seq.{sets}
 use lib.Dec.{eqb}
 use borrow.Author.Tests.{ne_eqb}
-use Rattle.format.specs.Result.{pick}
-use Rattle.format.specs.Number.{num_bytes}
 use Rattle.format.specs.Message.{most_columns}
 use Rattle.format.proofs.Numbers.{length-num_bytes}
 use Rattle.put.specs.Put.{put}
@@ -18,7 +16,7 @@ use Rattle.put.proofs.Laws.{put_length, put_nothing, twice}
 use Rattle.columns.specs.declared.Column.{Column as Entry}
 use Rattle.columns.specs.declared.Walk.{Walk}
 use Rattle.columns.specs.Entries.{types_in, type_bytes, name_bytes}
-use Rattle.columns.specs.Walks.{Fits, moved, column_out, column_types, Page, put_one, put_all, Fits_all}
+use Rattle.columns.specs.Walks.{moved, Page, put_one, put_all, Fits_all}
 use Rattle.columns.proofs.Metadata.{Standing, types_size}
 use Rattle.columns.proofs.Apart.{apart}
 

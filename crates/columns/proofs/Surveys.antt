@@ -1,5 +1,5 @@
 -- What a survey finds of columns is what the definition asks of them.
-use Prim.Native.Nat.{ℕ, suc, ◌+◌, ◌*◌, ◌<◌, ◌≤◌}
+use Prim.Native.Nat.{ℕ, ◌+◌, ◌*◌, ◌<◌, ◌≤◌}
 use native.Mathlib.Nat.{add-zero}
 use native.Mathlib.Omega.{arith}
 use mathlib.Core.Path.{◌≡◌, refl, sym, ap, ap₂, ◌∙◌}
@@ -8,16 +8,14 @@ use mathlib.Core.List.{List, [], ◌∷◌}
 use lib.ListN.{length}
 use lib.Dec.{leb}
 use borrow.Author.Tests.{le-leb, lt-leb, leb-true, leb-false}
-use Rattle.format.specs.declared.Fault.TheVariants.{Limit, WireType}
 use Rattle.format.specs.declared.Refusal.{Refusal}
-use Rattle.format.specs.Result.{pick}
 use Rattle.format.specs.Format.{Verdict, fine, bad}
 use Rattle.format.specs.Value.{is_column, most_bytes}
 use Rattle.format.specs.Message.{most_columns}
 use Rattle.write.specs.declared.Check.{Check}
 use Rattle.write.specs.declared.Check.TheVariants.{Fine, Bad}
 use Rattle.steps.specs.State.{all_columns}
-use Rattle.steps.specs.Plans.{also, test}
+use Rattle.steps.specs.Plans.{also}
 use Rattle.steps.specs.Arguments.{name_fault, name_faults, types_of}
 use Rattle.write.specs.Shared.{verdict_of}
 use Rattle.columns.specs.declared.Column.{Column as Entry}

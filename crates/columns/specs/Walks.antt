@@ -1,5 +1,5 @@
 -- The two walks over the columns of a table: they are looked at one by one, and written one by one. What comes of each column, and of a list of them.
-use Rattle.std.specs.Prelude.{ℕ, suc, ◌+◌, ◌-◌, ◌*◌, ◌<◌, ◌≤◌, Bool, true, ◌&&◌, List, [], ◌∷◌, ◌++◌, length, set, leb, ltb, eqb}
+use Rattle.std.specs.Prelude.{ℕ, ◌+◌, ◌-◌, ◌*◌, ◌<◌, ◌≤◌, true, ◌&&◌, List, [], ◌∷◌, ◌++◌, length, set, leb, eqb}
 use Rattle.format.specs.declared.Fault.TheVariants.{Limit, WireType}
 use Rattle.format.specs.Result.{Res, ok, no, pick}
 use Rattle.format.specs.Number.{num_bytes}

@@ -19,7 +19,7 @@ use text::Found;
 use write::{COLUMNS, Check, Outcome, State};
 
 // A column: its type, and where its name stands in a name buffer.
-#[derive(Drop)]
+#[derive(Clone, Copy)]
 pub struct Column {
     pub wire_type: u8,
     pub start: usize,
@@ -28,7 +28,7 @@ pub struct Column {
 
 // What was found of columns, one after the other: how many they are, whether their types are columns', the first fault of their names, and how
 // many bytes their names have, with their lengths. Of more than a table may have only that counts. `at` is the writer's position, where faults stand.
-#[derive(Drop)]
+#[derive(Clone, Copy)]
 pub struct Survey {
     pub at: usize,
     pub n: usize,
@@ -39,7 +39,7 @@ pub struct Survey {
 
 // Where the next column is written, of so many that are left: the place of its type in the memory for types, and in the output those of its
 // type and of its name.
-#[derive(Drop)]
+#[derive(Clone, Copy)]
 pub struct Walk {
     pub left: usize,
     pub i: usize,
@@ -48,7 +48,7 @@ pub struct Walk {
 }
 
 // What was written around the columns: the step that was made, and where they go. Of a step that was refused none are left.
-#[derive(Drop)]
+#[derive(Clone, Copy)]
 pub struct Head {
     pub step: Outcome,
     pub walk: Walk,

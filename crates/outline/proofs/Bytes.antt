@@ -1,5 +1,5 @@
 -- The bytes of areas, rings and vertices, field by field: the formats, unfolded once.
-use Prim.Native.Nat.{ℕ, ◌+◌}
+use Prim.Native.Nat.{ℕ}
 use mathlib.Core.Path.{◌≡◌, refl, ◌∙◌, ap}
 use mathlib.Core.List.{[], ◌∷◌, ◌++◌, append-nil}
 use lib.ListN.{length, replicate, length-append}

@@ -15,7 +15,7 @@ ghost use Rattle.outline.specs.Shown.{Stepped};
 use format::{Answer, Fault, Refusal};
 
 // What is open: nothing, an area, or a ring of it.
-#[derive(Drop)]
+#[derive(Clone, Copy)]
 pub enum Outline {
     Closed,
     Area,
@@ -24,7 +24,7 @@ pub enum Outline {
 
 // An area that is being written, in numbers: how many rings it has, the open one with them; where that one began, and how many
 // vertices it has so far. What isn't open is 0.
-#[derive(Drop)]
+#[derive(Clone, Copy)]
 pub struct State {
     pub stage: Outline,
     pub position: usize,
@@ -34,7 +34,7 @@ pub struct State {
 }
 
 // A step's answer, and the state after it.
-#[derive(Drop)]
+#[derive(Clone, Copy)]
 pub struct Outcome {
     pub answer: Answer,
     pub state: State,

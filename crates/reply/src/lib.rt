@@ -19,7 +19,7 @@ use steps::Stage;
 use write::{Check, Outcome, State};
 
 // What a response says before its table count, beside its client data and its strings; its numbers without a sign.
-#[derive(Drop)]
+#[derive(Clone, Copy)]
 pub struct Head {
     pub version: u8,
     pub flags: u8,

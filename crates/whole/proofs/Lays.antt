@@ -3,12 +3,11 @@ use Prim.Native.Nat.{ℕ, zero, suc, ◌+◌, ◌-◌, ◌*◌, ◌/◌, ◌^◌
 use native.Mathlib.Omega.{arith}
 use native.Mathlib.Nat.{add-zero}
 use mathlib.Core.Path.{◌≡◌, refl, sym, ap, ◌∙◌, subst}
-use mathlib.Core.Bool.{true}
 use mathlib.Core.List.{List, [], ◌∷◌, ◌++◌}
 use mathlib.Core.Option.{Option, some, none}
 use lib.ListN.{length, get_or, length-take}
 use lib.Seq.{get_or-take}
-use lib.Dec.{ltb, eqb, lit≤}
+use lib.Dec.{eqb, lit≤}
 use borrow.Author.Tests.{ltb-true, eqb-true}
 use Rattle.format.specs.declared.Fault.{Fault}
 use Rattle.format.specs.declared.Refusal.{Refusal}
@@ -37,7 +36,7 @@ use Rattle.write.proofs.Taken.{shown_ok, shown_no}
 use Rattle.write.proofs.Seen.{tabled_shown}
 use Rattle.rows.proofs.Cells.{cell_fine}
 use Rattle.whole.specs.Rows.{value_in, cell_step, steps_from, cell_steps, run_each, whole_row, Wrote_row}
-use Rattle.whole.specs.Asked.{asked, answers, in_row, row_answer, Opened}
+use Rattle.whole.specs.Asked.{answers, in_row, row_answer, Opened}
 use Rattle.whole.specs.Laid.{upper_of, lower_of, Fits, cell_bytes, cell_at, laid, Fit_all}
 use Rattle.whole.proofs.Values.{cell_stands, cell_bytes_lem}
 use Rattle.whole.proofs.Answers.{ground, columns_few, types_are}

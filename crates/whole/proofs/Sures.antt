@@ -7,12 +7,12 @@ use mathlib.Core.Bool.{Bool, true, false}
 use mathlib.Core.List.{List}
 use mathlib.Core.Option.{Option, some, none}
 use lib.ListN.{length, take, drop}
-use lib.Dec.{leb, eqb}
+use lib.Dec.{leb}
 use borrow.Author.Tests.{eq-eqb, ne_eqb}
 use Rattle.format.specs.declared.Answer.{Answer}
 use Rattle.format.specs.Format.{Verdict, fine}
 use Rattle.format.specs.Result.{pick}
-use Rattle.format.specs.Value.{Value, fixed, body, value, is_column, is_counted, width_of, fixed_fine, t_bigint, t_float, t_timestamp, t_string, t_varbinary, t_geography}
+use Rattle.format.specs.Value.{Value, fixed, body, is_column, is_counted, width_of, fixed_fine, t_bigint, t_float, t_timestamp, t_string, t_varbinary, t_geography}
 use Rattle.put.specs.Put.{sized}
 use Rattle.put.proofs.Laws.{sized_null, sized_some}
 use Rattle.steps.specs.State.{State}

@@ -1,0 +1,7 @@
+-- `outline::at_area` meets its contract: part by part. Assumes nothing.
+use Rattle.outline.specs.State.{sound}
+use Rattle.outline.proofs.at_area.Goals as goal
+
+pub returns : goal.returns
+unfolding sound
+returns c = cc
