@@ -11,7 +11,7 @@ use borrow.Author.Tests.{not-true}
 use Rattle.format.specs.declared.Fault.TheVariants.{WireType}
 use Rattle.format.specs.Format.{Verdict, fine}
 use Rattle.format.specs.Number.{num_bytes}
-use Rattle.format.specs.Value.{fixed, body, value, width_of, is_column, anything, t_array, t_tinyint}
+use Rattle.format.specs.Value.{fixed, body, width_of, is_column, anything, t_array, t_tinyint}
 use Rattle.format.specs.Message.{one, array, bytes, values, param, most_items}
 use Rattle.put.specs.Put.{sized}
 use Rattle.format.proofs.Numbers.{length-num_bytes}

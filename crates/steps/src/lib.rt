@@ -2,7 +2,7 @@
 // What is open in a message that is being written.
 #![tactic(auto)]
 
-#[derive(Drop)]
+#[derive(Clone, Copy)]
 pub enum Stage {
     Closed,
     Call,

@@ -13,7 +13,7 @@ ghost use Rattle.tally.specs.Walks.{Stepped};
 
 // What is to be done with the fields, and what came of it so far. Those from the first-th on that end past an offset are listed, while
 // they fit: how many fields were seen, how many of them were listed, and the number of the last of these. No walk looks inside.
-#[derive(Drop)]
+#[derive(Clone, Copy)]
 pub struct Task {
     pub first: usize,
     pub offset: usize,
@@ -23,7 +23,7 @@ pub struct Task {
 }
 
 // The three numbers that follow a field's number.
-#[derive(Drop)]
+#[derive(Clone, Copy)]
 pub struct Indices {
     pub i: usize,
     pub j: usize,
@@ -31,14 +31,14 @@ pub struct Indices {
 }
 
 // Where the descent is, and the task that it hands on from field to field.
-#[derive(Drop)]
+#[derive(Clone, Copy)]
 pub struct Tour {
     pub at: usize,
     pub task: Task,
 }
 
 // How many fields lie before a place, counted without a task.
-#[derive(Drop)]
+#[derive(Clone, Copy)]
 pub struct Tally {
     pub at: usize,
     pub seen: usize,

@@ -57,7 +57,7 @@ fn reverse_vertices(b: &mut [u8], from: usize, n: usize)
     requires { from + 24 * n ≤ length b.old }
     ensures { Reversed b.old from n b.new }
 {
-    bytes::reverse(b, from, from + format::VERTEX * n);
+    b[from..from + format::VERTEX * n].reverse();
     mend_vertices(b, from, n);
 }
 
@@ -69,7 +69,7 @@ fn mend_vertices(b: &mut [u8], from: usize, n: usize)
     let mut at = from;
     let mut i = 0;
     while i < n {
-        bytes::reverse(b, at, at + format::VERTEX);
+        b[at..at + format::VERTEX].reverse();
         at += format::VERTEX;
         i += 1;
     }

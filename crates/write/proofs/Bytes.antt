@@ -1,7 +1,7 @@
 -- The bytes of values that have no fault, and how faults of texts are put together.
 use Prim.Native.Nat.{ℕ, ◌≤◌, ◌<◌}
 use mathlib.Core.Path.{◌≡◌, refl, sym, ◌∙◌, ap}
-use mathlib.Core.Bool.{Bool, true, false, not}
+use mathlib.Core.Bool.{Bool, true, not}
 use mathlib.Core.List.{List, [], ◌∷◌, ◌++◌}
 use mathlib.Core.Option.{Option, some, none}
 use lib.ListN.{length}
@@ -9,16 +9,15 @@ use lib.Dec.{leb, eqb}
 use native.Mathlib.Omega.{arith}
 use borrow.Author.Tests.{ne_eqb, le-leb, lt-leb, leb-true}
 use Rattle.format.specs.declared.Fault.TheVariants.{Limit, Text}
-use Rattle.format.specs.Result.{pick}
 use Rattle.format.specs.Number.{num_bytes}
 use Rattle.format.specs.Format.{Verdict, fine, bad, number, ruled, into, both, nothing, counted}
 use Rattle.format.specs.Text.{utf8_from, utf8}
 use Rattle.text.specs.declared.Found.{Found}
 use Rattle.text.specs.Shown.{shown_at}
 use Rattle.text.proofs.Finds.{finds_texts}
-use Rattle.format.specs.Value.{Value, fixed, body, value, string, width_of, is_counted, is_column, fixed_fine, anything, not_empty, rule_of, most_bytes, t_null, t_tinyint, t_string, t_geography, t_array}
+use Rattle.format.specs.Value.{Value, fixed, body, value, string, width_of, is_counted, is_column, fixed_fine, anything, not_empty, rule_of, most_bytes, t_null, t_tinyint, t_array}
 use Rattle.format.specs.Message.{one, array, bytes, items, argument, param}
-use Rattle.put.specs.Put.{optional, sized}
+use Rattle.put.specs.Put.{sized}
 use Rattle.steps.specs.Plans.{also, test, placed}
 use Rattle.steps.specs.Arguments.{text_fault, null_text_fault, is_number_of, value_fault}
 use Rattle.steps.proofs.Back.{also_fine, test_fine, no_column, column_fixed, number_fits}

@@ -1,15 +1,15 @@
 -- Tests that agree, and what a step answers by the first test that fails.
 use Prim.Native.Nat.{ℕ, ◌+◌, ◌<◌, ◌≤◌}
 use mathlib.Core.Path.{◌≡◌, refl, sym, ap, ◌∙◌}
-use mathlib.Core.Bool.{Bool, true, false, not, ◌&&◌, ◌||◌}
+use mathlib.Core.Bool.{Bool, true, false, ◌&&◌}
 use mathlib.Core.List.{List, [], ◌∷◌, ◌++◌}
 use lib.ListN.{length, take, get_or}
-use lib.Dec.{leb, eqb}
+use lib.Dec.{leb}
 use lib.Seq.{take-suc}
 use native.Mathlib.Numerals.{add-one}
 use borrow.Author.Tests.{le-leb, lt-leb, leb-true, leb-false}
 use Rattle.format.specs.declared.Fault.TheVariants.{Limit, Output}
-use Rattle.format.specs.Result.{ok, no, pick}
+use Rattle.format.specs.Result.{ok, no}
 use Rattle.format.specs.Format.{fine}
 use Rattle.format.specs.Value.{is_column}
 use Rattle.format.specs.Message.{most_message}
