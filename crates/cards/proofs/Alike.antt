@@ -1,6 +1,6 @@
 -- One turn of the search for a column of a type and name: the types stand side by side, and each name ends where the next begins.
 use Prim.Native.Nat.{ℕ, zero, suc, ◌+◌, ◌-◌, ◌≤◌, ◌<◌}
-use mathlib.Core.Path.{◌≡◌, refl, sym, ◌∙◌, ap}
+use mathlib.Core.Path.{◌≡◌, sym, ◌∙◌, ap}
 use mathlib.Core.Bool.{Bool, true, false, ◌&&◌}
 use mathlib.Core.List.{List, [], ◌∷◌}
 use mathlib.Core.Option.{Option, some, none}
@@ -10,7 +10,7 @@ use lib.Dec.{eqb}
 use native.Mathlib.Numerals.{add-one}
 use native.Mathlib.Omega.{arith}
 use Rattle.format.specs.declared.Fault.{Fault}
-use Rattle.format.specs.Result.{ok, no, pick}
+use Rattle.format.specs.Result.{ok, no}
 use Rattle.format.specs.Format.{Format, number, counted}
 use Rattle.format.specs.Message.{third, unlimited, Metadata, metadata, Table, table}
 use Rattle.format.proofs.Results.{no_ok, ok_same}

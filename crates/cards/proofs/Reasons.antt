@@ -21,7 +21,6 @@ use Rattle.text.specs.declared.Found.{Found}
 use Rattle.places.specs.Places.{tables_of}
 use Rattle.places.specs.Entries.{entry}
 use Rattle.places.proofs.Lists.{entry_below}
-use Rattle.query.specs.Answers.{is_named}
 use Rattle.query.proofs.Names.{same_yes, same_true}
 use Rattle.cards.specs.declared.Reason.{Reason}
 use Rattle.cards.specs.declared.Fit.{Fit}

@@ -27,7 +27,7 @@ use Rattle.query.specs.Answers.{same, is_named, first_named}
 use Rattle.query.proofs.Names.{same_yes, same_true}
 use Rattle.query.proofs.Theorems.{First, finds_first}
 use Rattle.cards.specs.Card.{Card, a_card, card_form, card_bytes, most_name, GoodCard}
-use Rattle.cards.specs.Answers.{fitting, fits, opened, ask_open, ask_card, size_of, ask_made, written, Made}
+use Rattle.cards.specs.Answers.{fitting, fits, opened, ask_open, ask_card, size_of, ask_made, Made}
 use Rattle.cards.proofs.Forms.{card_size_lem, encodes→form, every_position}
 use Rattle.cards.proofs.Columns.{few_columns, column_type_lem, column_name}
 

@@ -1,6 +1,6 @@
 -- Cards at the ends of both kinds, and on the other side of them; and how cards of both kinds fit two tables. All by computing.
 use Rattle.std.specs.Prelude.{ℕ, ◌≡◌, refl, List, [], ◌∷◌, ◌++◌, map, replicate, take}
-use Rattle.std.proofs.Math.Option.{Option, some, none}
+use Rattle.std.proofs.Math.Option.{some, none}
 use Rattle.format.specs.declared.Fault.TheVariants.{CardForm}
 use Rattle.format.specs.Result.{ok, no}
 use Rattle.format.specs.Number.{num_at, num_bytes}

@@ -22,7 +22,7 @@ use scan::Body;
 use text::Found;
 
 // A kind of card: its first byte, how many bytes its position has, and the first and the last position that it holds.
-#[derive(Drop)]
+#[derive(Clone, Copy)]
 struct Kind {
     number: u8,
     width: usize,

@@ -14,7 +14,7 @@ use Rattle.format.specs.Result.{Res, ok, no, bind}
 use Rattle.format.specs.Number.{num_bytes, Bytes}
 use Rattle.format.specs.Format.{Index, Entry, number, block, ruled, into, both, counted, piece}
 use Rattle.format.specs.Value.{Value, fixed, body, value, is_column, t_varbinary, t_tinyint, t_null, t_array}
-use Rattle.format.specs.Message.{first, second, list, binary, count, column_type, most_items, Items, bytes, values, bytes_of, values_of, items, Argument, null, one, array, argument, Param, param, Invocation, invocation, Message, content_of, the_invocation, read_message, message_fields, no_index}
+use Rattle.format.specs.Message.{first, second, list, binary, column_type, most_items, Items, bytes, values, bytes_of, values_of, items, Argument, null, one, array, argument, Param, param, Invocation, invocation, Message, content_of, the_invocation, read_message, message_fields, no_index}
 use Rattle.format.proofs.Results.{ok_same, no_ok, bound}
 use Rattle.format.proofs.Took.{tiles_piece}
 use Rattle.places.specs.Stands.{Stands}

@@ -10,10 +10,10 @@ use borrow.Author.Tests.{eqb-true, eqb-false}
 use Rattle.format.specs.declared.Fault.TheVariants.{PastEnd, WireType}
 use Rattle.format.specs.Result.{Res, ok, no, bind}
 use Rattle.format.specs.Number.{Bytes}
-use Rattle.format.specs.Format.{number, nothing, each, counted}
+use Rattle.format.specs.Format.{number, each}
 use Rattle.format.specs.Text.{utf8}
 use Rattle.format.specs.Value.{Value, value, string, anything, most_bytes}
-use Rattle.format.specs.Message.{first, second, list, Argument, one_of, argument, Param, param, Message, message, the_invocation, read_message}
+use Rattle.format.specs.Message.{first, second, Argument, one_of, Param, param, Message, the_invocation, read_message}
 use Rattle.format.proofs.Lengths.{lawful_counted}
 use Rattle.format.proofs.Formats.{lawful_value, lawful_param}
 use Rattle.pass.specs.Passes.{Passes}

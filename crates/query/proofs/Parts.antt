@@ -7,9 +7,7 @@ use lib.ListN.{length, take, drop}
 use lib.Dec.{eqb}
 use lib.Ieee.{binary64, nan_bits}
 use native.Mathlib.Omega.{arith}
-use mathlib.Core.List.{List, [], ◌∷◌}
-use types.Run.{OneOf, miss}
-use denote.Enum.Declared.{tag_of}
+use mathlib.Core.List.{List}
 use Rattle.format.specs.declared.Fault.TheVariants.{WireType}
 use Rattle.format.specs.Result.{Res, ok, no, pick}
 use Rattle.format.specs.Value.{Value, fixed, body, value, t_tinyint, t_smallint, t_integer, t_float, t_string, t_timestamp, t_decimal, t_varbinary, t_point, is_null_point}
@@ -19,14 +17,13 @@ use Rattle.show.specs.Cells.{cell_of, fixed_cell, plain_cell, body_cell}
 use Rattle.places.specs.Stands.{Stands}
 use Rattle.places.proofs.Values.{body_stands}
 use Rattle.query.specs.declared.Part.{Part}
-use Rattle.query.specs.contracts.Part.{the_type}
 use Rattle.query.specs.Answers.{part_of, span_in, told_part}
 
 -- an answer that tells no part tells the empty one
-pub no_span : (span : Part) → OneOf (1 ∷ 2 ∷ []) (tag_of the_type span) → span_in (told_part span) ≡ (0, 0)
-no_span (Part.Is start size) tag = absurd (miss (1 ∷ 2 ∷ []) 0 tt tag)
-no_span Part.Null tag = refl
-no_span (Part.No r) tag = refl
+pub no_span : (span : Part) → ((start size : ℕ) → span ≡ Part.Is start size → ⊥) → span_in (told_part span) ≡ (0, 0)
+no_span (Part.Is start size) other = absurd (other start size refl)
+no_span Part.Null other = refl
+no_span (Part.No r) other = refl
 
 -- what a cell gives as a part
 record Gives (p : ℕ) (cell : Cell) (r : Res (Option (ℕ × ℕ))) : Type 0 where

@@ -29,7 +29,7 @@ use Rattle.query.specs.declared.Named.{Named}
 use Rattle.query.specs.declared.CellAnswer.{CellAnswer}
 use Rattle.query.specs.declared.Part.{Part}
 use Rattle.query.specs.declared.Argued.{Argued}
-use Rattle.query.specs.Answers.{Given, same, is_named, first_named, span_in, of_table, of_param, ask_cell_span, ask_parameter_span, ask_element_span, Handed, told_table, told_column, told_placed, told_named, told_cell, told_part, told_argument}
+use Rattle.query.specs.Answers.{Given, is_named, first_named, span_in, of_table, of_param, ask_cell_span, ask_parameter_span, ask_element_span, Handed, told_table, told_column, told_placed, told_named, told_cell, told_part, told_argument}
 use Rattle.query.proofs.Names.{same_yes, same_true}
 use Rattle.query.proofs.Opened.{Told, part_told}
 

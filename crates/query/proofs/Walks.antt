@@ -7,7 +7,7 @@ use lib.Seq.{length-take-le}
 use native.Mathlib.Omega.{arith}
 use native.Mathlib.Nat.{add-zero}
 use borrow.Author.Tests.{le-leb}
-use Rattle.format.specs.Format.{Format, Index, number, nothing, each, counted}
+use Rattle.format.specs.Format.{Format, Index, number, nothing, each}
 use Rattle.format.specs.Message.{first, Table, metadata, row, table, second, third}
 use Rattle.format.proofs.Laws.{lawful_number, lawful_each, all_map, length-each}
 use Rattle.format.proofs.Formats.{lawful_value}
@@ -20,7 +20,6 @@ use Rattle.places.specs.Entries.{cell_here}
 use Rattle.places.proofs.Stands.{stands_read, stands_fits, stands_at_lem}
 use Rattle.places.proofs.Lists.{Sized, sized, total, jump_lands, entry_in, stands_entry, stands_front, front_bytes}
 use Rattle.places.proofs.Layouts.{length-number, status_stands, columns_stand, types_stand, names_stand, metadata_stands, row_count_stands, rows_stand, type_place_lem, name_place_lem, row_place, sized_table, sized_metadata, sized_row, cells_stand, types_part, cell_place, sized_name, names_all, name, type_stands, name_length-stands}
-use Rattle.places.proofs.Values.{there}
 use Rattle.query.specs.Shown.{past_of, spot_of}
 use Rattle.query.specs.Answers.{layout_of, column_of}
 use Rattle.query.specs.declared.TableLayout.{TableLayout}

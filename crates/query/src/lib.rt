@@ -27,7 +27,7 @@ use show::{Raw, Shown};
 // ---- What the questions are answered with.
 
 // What a table says of itself: its status, how many columns and rows it has, and where it and its parts stand.
-#[derive(Drop)]
+#[derive(Clone, Copy)]
 pub struct TableLayout {
     pub status: u8,
     pub columns: usize,
@@ -49,7 +49,7 @@ pub enum TableAnswer {
 }
 
 // What a column says of itself: its type and where that stands, where its name starts and how long it is.
-#[derive(Drop)]
+#[derive(Clone, Copy)]
 pub struct ColumnLayout {
     pub wire_type: u8,
     pub type_at: usize,

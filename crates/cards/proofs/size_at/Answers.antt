@@ -1,0 +1,13 @@
+-- `cards::size_at` meets its contract: the size of the kind that the position has. Assumes nothing.
+use mathlib.Core.Path.{◌∙◌, ap}
+use Rattle.cards.specs.Card.{card_size}
+use Rattle.cards.proofs.Forms.{kind_narrow, few_bytes}
+use Rattle.cards.proofs.size_at.Goals as goal
+
+pub size_of-requires : goal.size_of-requires
+size_of-requires c = rw c.kind_of.ensures (kind_narrow c.args.position)
+
+pub returns : goal.returns
+returns c =
+    let size = c.size_of.ensures ∙ ap card_size c.kind_of.ensures in
+    (size, rw size (few_bytes c.args.position))

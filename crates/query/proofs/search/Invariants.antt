@@ -1,0 +1,24 @@
+use Prim.Native.Nat.{ℕ, ◌+◌, ◌-◌, ◌≤◌}
+use mathlib.Core.List.{List}
+use mathlib.Core.Option.{Option}
+use lib.ListN.{length, get_or, replicate}
+use Rattle.format.specs.Format.{each}
+use Rattle.format.specs.Message.{third}
+use Rattle.places.specs.Stands.{Stands}
+use Rattle.places.proofs.Layouts.{name}
+use Rattle.query.specs.Answers.{first_named}
+use Rattle.query.proofs.Ends.{Equal_from}
+use Rattle.query.proofs.Names.{Left}
+use Rattle.query.proofs.search.Given as goal
+
+abbrev pub invariant-bytes : goal.invariant-bytes
+invariant-bytes l = (l.rest ≤ length l.name) × Equal_from (λ k. get_or l.m (l.start + k) 0) l.name l.rest
+
+abbrev pub decreases-bytes : goal.decreases-bytes
+decreases-bytes l = l.rest
+
+abbrev pub invariant-columns : goal.invariant-columns
+invariant-columns l = (l.i ≤ l.count) × ((names : List (Option (List ℕ))) → Stands (each third 0 (replicate l.count name)) l.m l.from names → Left l.m l.count l.name l.i l.at (first_named l.name names 0))
+
+abbrev pub decreases-columns : goal.decreases-columns
+decreases-columns l = l.count - l.i
