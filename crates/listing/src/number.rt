@@ -1,6 +1,6 @@
 // A number as text: its decimal digits, in ASCII.
-ghost use Rattle.std.specs.Prelude.{◌≡◌, ◌+◌, ◌<◌, ◌≤◌, length, take, drop};
-ghost use Rattle.listing.specs.Digits.{IsDigitCount, IsPrefixLen, last_digits};
+ghost use Rattle.std.specs.Prelude.{◌≡◌, ◌<◌, ◌≤◌, length, take, drop};
+ghost use Rattle.listing.specs.Digits.{IsDigitCount, IsPrefixLen, hex_digit_ascii, last_digits};
 
 // Puts n's decimal digits at the start of out, and answers how many there are.
 pub fn decimal(n: u64, out: &mut [u8; 20]) -> usize
@@ -44,7 +44,7 @@ fn write_digits(n: u64, k: usize, out: &mut [u8])
 
 fn digit_to_ascii(d: u64) -> u8
     requires { d < 10 }
-    ensures { result ≡ 48 + d }
+    ensures { result ≡ hex_digit_ascii d }
 {
     b'0' + d as u8
 }
