@@ -1,12 +1,13 @@
-// Frames on standard input: a size of 4 bytes, big-endian, then that many bytes.
+// Frames of an input: a size of 4 bytes, big-endian, then that many bytes.
 #![tactic(auto)]
 
-ghost use Rattle.std.specs.Prelude.{◌≤◌};
-ghost use Rattle.frames.specs.Within.{Within};
+ghost use Rattle.std.specs.Prelude.{◌≤◌, IfOk};
+ghost use Rattle.frames.specs.Within.{IsPrefixLen, Within};
 
-use libc::STDIN_FILENO;
+use std::io;
+use std::io::Read;
 
-// What stands next on standard input: a whole frame of so many bytes, the end of the input, or a
+// What stands next on an input: a whole frame of so many bytes, the end of the input, or a
 // frame that is cut short or longer than the buffer.
 #[derive(Drop)]
 pub enum Frame {
@@ -16,27 +17,42 @@ pub enum Frame {
 }
 
 // Reads the next frame to the start of buf. No contract can say what is read; this one says that
-// the frame lies within buf.
-pub fn next(buf: &mut [u8]) -> Frame
-    ensures { Within result buf.new }
+// the frame lies within buf. A read that fails is an error.
+pub fn next<R: Read>(input: &mut R, buf: &mut [u8]) -> io::Result<Frame>
+    ensures { IfOk result (λ frame. Within frame buf.new) }
 {
     let mut head = [0u8; 4];
-    let got = io::read_full(STDIN_FILENO, &mut head);
+    let got = read_full(input, &mut head)?;
     if got == 0 {
-        return Frame::End;
+        return Ok(Frame::End);
     }
     let size = big_endian(&head);
     if got < 4 {
-        return Frame::Broken;
+        return Ok(Frame::Broken);
     }
     if buf.len() < size {
-        return Frame::Broken;
+        return Ok(Frame::Broken);
     }
-    let came = io::read_full(STDIN_FILENO, &mut buf[..size]);
+    let came = read_full(input, &mut buf[..size])?;
     if came < size {
-        return Frame::Broken;
+        return Ok(Frame::Broken);
     }
-    Frame::Is(size)
+    Ok(Frame::Is(size))
+}
+
+// Reads until buf is full or the input ends, and answers how many bytes it put at the start of buf.
+pub fn read_full<R: Read>(input: &mut R, buf: &mut [u8]) -> io::Result<usize>
+    ensures { IfOk result (λ n. IsPrefixLen n buf.new) }
+{
+    let mut done = 0;
+    while done < buf.len() {
+        let n = input.read(&mut buf[done..])?;
+        if n == 0 {
+            break;
+        }
+        done += n;
+    }
+    Ok(done)
 }
 
 fn big_endian(head: &[u8; 4]) -> usize {

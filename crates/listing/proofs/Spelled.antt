@@ -11,7 +11,7 @@ use lib.Dec.{ltb}
 use lib.ListN.{length, take, set}
 use lib.Seq.{paste, length-paste, take-paste, take-length, take-suc-set}
 use borrow.Author.Tests.{ltb-true, ltb-false}
-use Rattle.io.specs.Digits.{IsDigitCount, last_digits}
+use Rattle.listing.specs.Digits.{IsDigitCount, last_digits}
 use Rattle.listing.specs.Text.{places_from, spelled}
 
 -- a number that takes m digits is no less than the power of any fewer

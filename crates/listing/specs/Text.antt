@@ -1,6 +1,6 @@
 -- A line of the listing as text.
 use Rattle.std.specs.Prelude.{ℕ, zero, suc, ◌+◌, ◌^◌, cond, List, [], ◌∷◌, ◌++◌, ltb, get_or}
-use Rattle.io.specs.Digits.{last_digits}
+use Rattle.listing.specs.Digits.{last_digits}
 
 -- the fewest digits, from k on, that hold n; at most `more` more than k are tried
 unfoldable pub places_from : ℕ → ℕ → ℕ → ℕ

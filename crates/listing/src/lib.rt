@@ -1,19 +1,22 @@
 // The field list of a message as text, on standard output: one line for each field, or the refusal.
-// No contract can say what is written; tests/compare holds it against the second reader.
+// No contract can say what is written; tests/compare holds it against the second reader. A write that fails is an error.
 #![tactic(auto)]
 
-ghost use Rattle.std.specs.Prelude.{◌+◌, ◌≤◌, ◌≡◌, ◌++◌, length, take};
+ghost use Rattle.std.specs.Prelude.{◌+◌, ◌≤◌, ◌≡◌, ◌++◌, length, take, IfOk};
 ghost use Rattle.std.proofs.Math.Seq.{paste};
 ghost use Rattle.format.specs.Result.{number_of};
 ghost use Rattle.format.specs.Message.{is_kind};
 ghost use Rattle.message.specs.Verdict.{told_verdict};
-ghost use Rattle.io.specs.Counts.{IsPrefixLen};
+ghost use Rattle.listing.specs.Digits.{IsPrefixLen};
 ghost use Rattle.listing.specs.Listing.{listing_of};
 ghost use Rattle.listing.specs.Text.{spelled, behind_of, words_of};
 
+mod number;
+
 use format::{Answer, Fault, Refusal};
-use libc::STDOUT_FILENO;
 use message::Verdict;
+use number::decimal;
+use std::io;
 
 // The longest input: one byte of kind and a message of 65,536 bytes.
 const MOST_INPUT: usize = 65537;
@@ -28,16 +31,16 @@ const LINE: usize = 126;
 
 // Prints what the listing program prints for its input, one byte of kind and then a message: its field list, or a refusal.
 // Answers which.
-pub fn print(input: &[u8]) -> Verdict
-    ensures { told_verdict result ≡ listing_of input.now }
+pub fn print(rt: &impl Print, input: &[u8]) -> io::Result<Verdict>
+    ensures { IfOk result (λ verdict. told_verdict verdict ≡ listing_of input.now) }
 {
     let verdict = judge(input);
     let Verdict::No(refusal) = verdict else {
-        print_fields(input);
-        return verdict;
+        print_fields(rt, input)?;
+        return Ok(verdict);
     };
-    print_refusal(refusal);
-    verdict
+    print_refusal(rt, refusal)?;
+    Ok(verdict)
 }
 
 // What is printed for an input: the field list where all is fine, or a refusal.
@@ -70,64 +73,63 @@ fn refusal_at_0(fault: Fault) -> Refusal
 }
 
 // Prints a refusal: `refused`, its number, its place. Answers the number.
-pub fn print_refusal(refusal: Refusal) -> u8
-    ensures { result ≡ number_of refusal.fault }
+pub fn print_refusal(rt: &impl Print, refusal: Refusal) -> io::Result<u8>
+    ensures { IfOk result (λ number. number ≡ number_of refusal.fault) }
 {
     let fault = refusal.fault;
     let number = format::number_of(fault);
-    io::write_all(STDOUT_FILENO, b"refused ");
-    io::print_decimal(STDOUT_FILENO, number as u64);
-    io::write_all(STDOUT_FILENO, b" ");
-    io::print_decimal(STDOUT_FILENO, refusal.place as u64);
-    io::write_all(STDOUT_FILENO, b"\n");
-    number
+    let place = refusal.place;
+    println!(rt; "refused {number} {place}")?;
+    Ok(number)
 }
 
 // Window after window, until one isn't full. A field has at least one byte, so the list is no longer than the message.
-fn print_fields(input: &[u8]) {
+fn print_fields(rt: &impl Print, input: &[u8]) -> io::Result<()> {
     if input.len() == 0 {
-        return;
+        return Ok(());
     }
     let kind = input[0];
     let m = &input[1..];
     let mut first = 0;
-    while first <= m.len() && print_window(kind, m, first) {
+    while first <= m.len() && print_window(rt, kind, m, first)? {
         first += WINDOW;
     }
+    Ok(())
 }
 
 // Prints the entries from `first` on, as many as a window takes, and answers whether there may be more.
-fn print_window(kind: u8, m: &[u8], first: usize) -> bool {
+fn print_window(rt: &impl Print, kind: u8, m: &[u8], first: usize) -> io::Result<bool> {
     let mut numbers = [0u64; WINDOW * NUMBERS];
     let answer = fields::window(kind, m, first, &mut numbers);
     let Answer::Is(n) = answer else {
-        return false;
+        return Ok(false);
     };
-    print_entries(&numbers, n);
-    n == WINDOW
+    print_entries(rt, &numbers, n)?;
+    Ok(n == WINDOW)
 }
 
 // Prints the first n entries, or as many as there are.
-fn print_entries(numbers: &[u64], n: usize) {
+fn print_entries(rt: &impl Print, numbers: &[u64], n: usize) -> io::Result<()> {
     let mut i = 0;
     let mut from = 0;
     while i < n {
         if numbers.len() - from < NUMBERS {
-            return;
+            return Ok(());
         }
-        print_line(numbers, from);
+        print_line(rt, numbers, from)?;
         from += NUMBERS;
         i += 1;
     }
+    Ok(())
 }
 
 // Prints the six numbers from `from` on as a line.
-fn print_line(numbers: &[u64], from: usize)
+fn print_line(rt: &impl Print, numbers: &[u64], from: usize) -> io::Result<()>
     requires { from + 6 ≤ length numbers.now }
 {
     let mut line = [0u8; LINE];
     let end = put_line(&mut line, numbers, from);
-    io::write_all(STDOUT_FILENO, &line[..end]);
+    rt.write_all(&line[..end])
 }
 
 // Puts the six numbers from `from` on to the start of line, in decimal, one space between and a
@@ -161,7 +163,7 @@ fn put_number(line: &mut [u8], at: usize, n: u64, after: u8) -> usize
     ensures line_after { take result line.new ≡ take at line.old ++ spelled n after }
 {
     let mut digits = [0u8; 20];
-    let count = io::decimal(n, &mut digits);
+    let count = decimal(n, &mut digits);
     copy(&digits[..count], line, at);
     line[at + count] = after;
     at + count + 1

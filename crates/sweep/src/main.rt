@@ -1,33 +1,37 @@
 // Lists many messages: standard input is a row of frames, each what the program `list` reads.
 // Prints for each what `list` would print, and a line with a single dot.
+// A read or a write that fails ends it with an error.
 #![tactic(auto)]
 
 use frames::Frame;
-use libc::STDOUT_FILENO;
+use std::io;
+use std::io::Read;
 
 // A proved loop has to end, and nothing says that the input does. So this one counts its turns down,
 // from a number that no run uses up.
-fn main() {
+fn main(rt: HostRuntime) -> io::Result<()> {
+    let mut input = rt.stdin();
     let mut turns = u64::MAX;
-    while turns > 0 && list_next() {
+    while turns > 0 && list_next(&rt, &mut input)? {
         turns -= 1;
     }
+    Ok(())
 }
 
 // Lists the next frame, and answers whether to go on.
-fn list_next() -> bool {
+fn list_next<R: Read>(rt: &impl Print, input: &mut R) -> io::Result<bool> {
     // A byte of kind and a message of 65,536 bytes.
     let mut frame = [0u8; 65537];
-    match frames::next(&mut frame) {
+    match frames::next(input, &mut frame)? {
         Frame::Is(n) => {
-            listing::print(&frame[..n]);
-            io::write_all(STDOUT_FILENO, b".\n");
-            true
+            listing::print(rt, &frame[..n])?;
+            rt.println(".")?;
+            Ok(true)
         }
-        Frame::End => false,
+        Frame::End => Ok(false),
         Frame::Broken => {
-            io::write_all(STDOUT_FILENO, b"broken\n");
-            false
+            rt.println("broken")?;
+            Ok(false)
         }
     }
 }
