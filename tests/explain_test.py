@@ -133,11 +133,11 @@ class InsurersQuestion(unittest.TestCase):
                                     "the number or bytes behind it: 800000000000 x 10^-12", "row 1 is the only one of 4 rows whose ENGINE_ID is 2"])
         self.assertIn("The bytes that are the value, bytes 238 to 253:", told)
         self.assertTrue(any(line.startswith("238  16  00 00 00 00 00 00 00 00 00 00 00 ba 43 b7 40 00  cell") for line in told))
-        self.assertTrue(any("`cells-alike`" in line for line in told))
+        self.assertTrue(any("`cells_alike`" in line for line in told))
 
     def test_the_promises_it_names_are_there(self):
         promises = (ROOT / "docs" / "PROMISES.md").read_text() + (ROOT / "crates" / "exactly" / "proofs" / "Exactly.antt").read_text()
-        for name in ("cells-alike", "cell-reads-its-bytes"):
+        for name in ("cells_alike", "cell_reads_its_bytes"):
             self.assertIn("`%s`" % name, lines.PROMISE)
             self.assertIn("pub %s :" % name, promises)
 
@@ -1195,15 +1195,16 @@ class Listing(unittest.TestCase):
 
 class Building(unittest.TestCase):
     def test_the_crates_of_a_program(self):
-        self.assertEqual(building.closure("list"), {"list", "listing", "fields", "tour", "tally", "message", "quick", "scan", "text", "format"})
+        self.assertEqual(set(building.closure("list")), {"list", "listing", "fields", "tour", "tally", "message", "quick", "scan", "text", "format"})
 
     def test_a_line_for_each_crate(self):
         said = io.StringIO()
         with contextlib.redirect_stderr(said):
-            progress = building.Progress(3)
-            for line in ("fn scan::x: proved", "rt: format proved (unchanged since it was last proved)", "rt: scan proved (37 s)", "rt: quick proved (16 s)"):
+            progress = building.Progress(["format", "scan", "quick"])
+            for line in ("fn scan::x: proved", "library format: modules loaded=3 checked=0", "crate scan: modules loaded=22 checked=11", "logic=proved functions=1", "only=0 proved=0",
+                         "crate quick: modules loaded=0 checked=9", "logic=proved functions=4"):
                 progress.line(line)
-        self.assertEqual(said.getvalue(), "explain: 2 of 3: scan proved (37 s)\nexplain: 3 of 3: quick proved (16 s)\n")
+        self.assertEqual(said.getvalue(), "explain: 2 of 3: scan proved\nexplain: 3 of 3: quick proved\n")
 
     def test_what_is_older_than_its_sources_is_made_again(self):
         with tempfile.TemporaryDirectory() as folder:
@@ -1223,9 +1224,9 @@ class Building(unittest.TestCase):
             rt.write_text("#!/bin/sh\necho $* >>'%s'\nexit $(wc -l <'%s')\n" % (asked, asked))
             rt.chmod(0o755)
             with mock.patch.dict(os.environ, PATH=folder + os.pathsep + os.environ["PATH"]), mock.patch.object(building, "LOGS", ROOT / "target" / "explain" / "test"):
-                with self.assertRaisesRegex(building.Missing, "`rt check list` failed; target/explain/test/list.log says why"):
+                with self.assertRaisesRegex(building.Missing, "`rt run` failed; target/explain/test/list.log says why"):
                     building.list_program()
-            self.assertEqual(asked.read_text(), "check list\n")
+            self.assertEqual(asked.read_text(), "run\n")
 
     def test_no_kit(self):
         done = subprocess.run([sys.executable, str(ROOT / "explain"), "4", str(SAMPLE)], env={"PATH": "/nowhere"}, stderr=subprocess.PIPE, encoding="utf-8")
@@ -1280,9 +1281,8 @@ class WithTheProvedLibrary(unittest.TestCase):
 
     def test_a_far_card(self):
         """The program `limit`, whose own input has it make a near card."""
-        building.proved("limit")
         messages = harbour.big_replies()
-        printed = listing.run(ROOT / "target" / "bin" / "limit", harbour.framed(messages)).decode("ascii")
+        printed = listing.run(building.program("limit"), harbour.framed(messages)).decode("ascii")
         self.assertEqual(printed, harbour.limits(messages))
         self.assertEqual([line.split(",")[0].split(":")[0] for line in printed.splitlines()], ["limit 800000000000 x 10^-12"] * 2 + ["card refused 10 0", "stale"] * 3)
 

@@ -62,7 +62,7 @@ fn missing(archive: PathBuf) -> String {
     }
     format!(
         "the archive of the proved library is missing: {archive}\n\
-         Make it with `tools/c/archive` in the repository, which calls `rt staticlib` for three crates and needs the Rattle kit.\n\
+         Make it with `tools/c/archive` in the repository, which calls `rt lib` for three crates and needs the Rattle kit.\n\
          Or set {LIB_DIR} to the folder of an installed libchaloenpik.a."
     )
 }

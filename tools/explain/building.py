@@ -1,13 +1,11 @@
-"""The programs that list fields, proved and built. `rt` proves only what has changed, so it is asked each time: no answer comes from a program that is
-older than the crates. What the prover says goes to a log. Run by itself this makes target/bin/list."""
+"""The programs that list fields, proved and built. `rt` proves only what has changed, so it is asked each time, and the archive of the C interface is made
+again where a file of a crate is newer: no answer comes from a program that is older than the crates. What the prover says goes to a log. Run by itself
+this makes the program `list`."""
 
 import contextlib
 import fcntl
-import os
 import pathlib
-import platform
 import re
-import shutil
 import subprocess
 import sys
 import threading
@@ -16,9 +14,9 @@ ROOT = pathlib.Path(__file__).resolve().parents[2]
 LOGS = PROGRAMS = ROOT / "target" / "explain"
 SOURCES = pathlib.Path(__file__).parent
 ARCHIVE = ROOT / "target" / "staticlib" / "libexports.a"
-LIST = ROOT / "target" / "bin" / "list"
+INTERFACE = ("writeexports", "areaexports", "exports")  # the crates that it is made of
 SILENT = 2  # seconds before a run that proves something says so
-PROVED = re.compile(r"rt: (\S+) proved \((.*)\)")
+CHECKED = re.compile(r"crate (\S+): modules loaded=")
 
 
 class Missing(Exception):
@@ -27,8 +25,7 @@ class Missing(Exception):
 
 def list_program():
     """The paper's listing program, for messages of at most 65,536 bytes."""
-    proved("list")
-    return LIST
+    return program("list")
 
 
 def fields_program():
@@ -49,10 +46,9 @@ def cards_program():
 def c_program(name):
     """A program of this folder over the C interface."""
     made, source = PROGRAMS / name, SOURCES / (name + ".c")
-    for crate in ("exports", "writeexports", "areaexports"):
-        proved(crate)
-    with told_after("making the archive of the C interface, about a minute and a half"):
-        logged("archive", ["tools/c/archive"])  # makes it only if it has to
+    crates = list(dict.fromkeys(crate for top in INTERFACE for crate in closure(top)))
+    with told_after("making the archive of the C interface, %d crates: this takes minutes the first time; the prover's notes go to %s" % (len(crates), log_of("archive"))):
+        logged("archive", ["tools/c/archive"], Progress(crates).line)  # makes it only if it has to
     with alone("explain"):
         if not fresh(made, ARCHIVE, source, ROOT / "include"):
             logged(name, ["tools/c/kit", "build", str(made), str(source), str(ARCHIVE)])
@@ -67,11 +63,12 @@ def fresh(made, *sources):
     return made.stat().st_mtime >= max(file.stat().st_mtime for file in files)
 
 
-def proved(name):
-    """Proves a crate and what it depends on, as far as it isn't, and says how far it is."""
-    count = len(closure(name))
-    with alone("rt"), told_after("proving %s, %d crates: this takes minutes the first time; the prover's notes go to %s" % (name, count, log_of(name))):
-        logged(name, ["rt", "check", name], Progress(count).line)
+def program(name):
+    """Proves and builds a program and what it depends on, as far as it isn't, and says how far it is. It is run once, on no input."""
+    crates = closure(name)
+    with alone("rt"), told_after("proving %s, %d crates: this takes minutes the first time; the prover's notes go to %s" % (name, len(crates), log_of(name))):
+        logged(name, ["rt", "run"], Progress(crates).line, ROOT / "crates" / name)
+    return ROOT / "crates" / name / "out" / name
 
 
 @contextlib.contextmanager
@@ -95,29 +92,32 @@ def alone(name):
 
 
 class Progress:
-    """One line for each crate that had to be proved."""
+    """One line for each crate that had to be proved, of those in the order in which they are."""
 
-    def __init__(self, count):
-        self.count, self.done = count, 0
+    def __init__(self, crates):
+        self.crates, self.name = crates, None
 
     def line(self, text):
-        match = PROVED.match(text)
+        match = CHECKED.match(text)
         if match:
-            self.done += 1
-            if not match[2].startswith("unchanged"):
-                say("%d of %d: %s proved (%s)" % (self.done, self.count, match[1], match[2]))
+            self.name = match[1]
+        elif text.startswith("logic=proved ") and self.name in self.crates:
+            say("%d of %d: %s proved" % (self.crates.index(self.name) + 1, len(self.crates), self.name))
 
 
 def closure(name):
-    """A crate and the project's crates that it depends on, by crates.txt."""
-    lines = [line.split(":") for line in (ROOT / "crates.txt").read_text().splitlines() if ":" in line and not line.startswith("#")]
-    needs = {crate.strip(): words.split() for crate, words in lines}
-    found, open_ones = set(), [name]
-    while open_ones:
-        crate = open_ones.pop()
-        if crate in needs and crate not in found:
-            found.add(crate)
-            open_ones += needs[crate]
+    """A crate and the project's crates that it depends on, by crates.txt, in the order in which `rt` proves them: each after those that it uses."""
+    lines = [line.split("#")[0].split(":") for line in (ROOT / "crates.txt").read_text().splitlines()]
+    uses = {line[0].split()[0]: line[1].split() for line in lines if len(line) == 2}
+    found = []
+
+    def find(crate):
+        for used in uses[crate]:
+            if used in uses and used not in found:
+                find(used)
+        found.append(crate)
+
+    find(name)
     return found
 
 
@@ -125,12 +125,12 @@ def log_of(name):
     return (LOGS / (name + ".log")).relative_to(ROOT)
 
 
-def logged(name, command, each=lambda text: None):
+def logged(name, command, each=lambda text: None, folder=ROOT):
     """Runs a command, its output into a log, and each line of it to a function."""
     LOGS.mkdir(parents=True, exist_ok=True)
     with open(ROOT / log_of(name), "w", encoding="utf-8", errors="backslashreplace") as log:
         try:
-            running = subprocess.Popen(command, cwd=ROOT, stdout=subprocess.PIPE, stderr=subprocess.STDOUT, stdin=subprocess.DEVNULL, errors="backslashreplace")
+            running = subprocess.Popen(command, cwd=folder, stdout=subprocess.PIPE, stderr=subprocess.STDOUT, stdin=subprocess.DEVNULL, errors="backslashreplace")
         except FileNotFoundError as problem:
             raise Missing("the Rattle kit's command `rt` isn't found: it proves and builds the program that lists fields (README, \"What is needed\")") from problem
         with running:
@@ -143,24 +143,6 @@ def logged(name, command, each=lambda text: None):
 
 def say(text):
     print("explain: " + text, file=sys.stderr, flush=True)
-
-
-def command(program):
-    """How a program is run: under the kit's loader and C library, and elsewhere than on x86-64 under its emulator."""
-    tools = kit() / "on" / platform.machine() / "toolchain"
-    emulator = tools / "bin" / "qemu-x86_64"
-    words = [tools / "lib" / "ld-linux-x86-64.so.2", "--library-path", tools / "lib", program]
-    return [str(word) for word in ([emulator] if emulator.exists() else []) + words]
-
-
-def kit():
-    home = os.environ.get("RATTLE_HOME")
-    if home:
-        return pathlib.Path(home)
-    rt = shutil.which("rt")
-    if rt is None:
-        raise Missing("the Rattle kit's command `rt` isn't found, whose loader runs the program that lists fields")
-    return pathlib.Path(rt).resolve().parents[1]
 
 
 if __name__ == "__main__":  # for ./list

@@ -13,7 +13,7 @@ INDENT = "  "       # before the name of a field inside an area
 
 PROMISE = """\
 No byte but those of the value and the one of its column's type has a part in what is read: two accepted replies in which these are equal show the same
-value, whatever their other bytes are (proved: `cells-alike`, over `cell-reads-its-bytes`; docs/PROMISES.md, demand 3). The other bytes above say
+value, whatever their other bytes are (proved: `cells_alike`, over `cell_reads_its_bytes`; docs/PROMISES.md, demand 3). The other bytes above say
 which cell it is and where it stands. Whether the message is accepted at all hangs on all its bytes. The digits and words are put to them outside the proof."""
 
 

@@ -29,7 +29,7 @@ def listing(kind, message):
 
 def run(program, given):
     try:
-        return subprocess.run(building.command(program), input=given, stdout=subprocess.PIPE, check=True).stdout
+        return subprocess.run([str(program)], input=given, stdout=subprocess.PIPE, check=True).stdout
     except (OSError, subprocess.CalledProcessError) as problem:
         raise Missing("%s didn't run: %s" % (program.relative_to(building.ROOT), problem)) from problem
 

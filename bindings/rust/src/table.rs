@@ -41,7 +41,7 @@ impl<'m> From<&Column<'m>> for Column<'m> {
 /// while it is opened 48 more are needed for each field of the message.
 ///
 /// That the message is accepted, which fields it has and where they stand is the proved library's answer, and by the theorem
-/// `cell-reads-its-bytes` a cell reads as exactly the bytes listed for it. What these bytes say, as a [`Value`], is put together
+/// `cell_reads_its_bytes` a cell reads as exactly the bytes listed for it. What these bytes say, as a [`Value`], is put together
 /// outside the proof; tests hold it against the proved [`crate::cell`].
 ///
 /// ```
