@@ -24,7 +24,7 @@ loop-i-preserved c =
     let l = c.loop-i in
     let walk = c.walk_ring-tour in
     let by = bytes_all a.s.now c.type_inv.s in
-    round_next first (λ m. ring) (λ m. lawful_ring) a.s.now by (index_of a.ix) a.n l.i c.loop-i-test.true l.invariant walk.ensures walk.auto.1.0
+    round_next first (λ m. ring) (λ m. lawful_ring) a.s.now by (index_of a.ix) a.n l.i c.loop-i-test.true l.invariant walk.ensures walk.auto.out
 
 pub shape_of-out : goal.shape_of-out
 shape_of-out c = c.loop-i.invariant.long

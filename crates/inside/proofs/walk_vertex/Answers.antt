@@ -25,7 +25,7 @@ loop-k-preserved c =
     let l = c.loop-k in
     let walk = c.walk_fixed-tour in
     let by = bytes_all a.s.now c.type_inv.s in
-    round_next third (λ m. number 8 66) (λ m. lawful_number 8 66) a.s.now by (index_of a.ix) 3 l.k c.loop-k-test.true l.invariant walk.ensures walk.auto.1.0
+    round_next third (λ m. number 8 66) (λ m. lawful_number 8 66) a.s.now by (index_of a.ix) 3 l.k c.loop-k-test.true l.invariant walk.ensures walk.auto.out
 
 pub shape_of-out : goal.shape_of-out
 shape_of-out c = c.loop-k.invariant.long

@@ -24,7 +24,7 @@ loop-j-preserved c =
     let l = c.loop-j in
     let walk = c.walk_vertex-tour in
     let by = bytes_all a.s.now c.type_inv.s in
-    round_next second (λ m. vertex) (λ m. lawful_vertex) a.s.now by (index_of a.ix) a.n l.j c.loop-j-test.true l.invariant walk.ensures walk.auto.1.0
+    round_next second (λ m. vertex) (λ m. lawful_vertex) a.s.now by (index_of a.ix) a.n l.j c.loop-j-test.true l.invariant walk.ensures walk.auto.out
 
 pub shape_of-out : goal.shape_of-out
 shape_of-out c = c.loop-j.invariant.long
