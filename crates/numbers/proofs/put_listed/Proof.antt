@@ -6,7 +6,7 @@ use mathlib.Core.List.{List, []}
 use lib.ListN.{length, drop, length-drop}
 use Rattle.columns.specs.declared.Column.{Column}
 use Rattle.columns.specs.declared.Walk.{Walk}
-use Rattle.columns.specs.Walks.{Fits, Fits_all, Page, put_all}
+use Rattle.columns.specs.Walks.{Fits, FitsAll, Page, put_all}
 use Rattle.numbers.specs.Entries.{entry_at, entries_of}
 use Rattle.numbers.proofs.Entries.{no_more, page, fits_next, put_turn}
 use borrow.Author.Rules.{rules}
@@ -18,7 +18,7 @@ use Rattle.columns.proofs.walk_in.Reads as walk-in-reads
 use Rattle.numbers.proofs.column_at.Reads as column-at-reads
 
 abbrev invariant-loop : tie.invariant-loop
-invariant-loop out₀ types₀ head list names walk₀ i₀ out types walk i = (i ≤ length list) × (length out ≡ length out₀) × Fits_all names (length out) walk (entries_of (drop i list)) × (put_all names (page out types walk) (entries_of (drop i list)) ≡ put_all names (page out₀ types₀ walk₀) (entries_of list))
+invariant-loop out₀ types₀ head list names walk₀ i₀ out types walk i = (i ≤ length list) × (length out ≡ length out₀) × FitsAll names (length out) walk (entries_of (drop i list)) × (put_all names (page out types walk) (entries_of (drop i list)) ≡ put_all names (page out₀ types₀ walk₀) (entries_of list))
 
 abbrev decreases-loop : tie.decreases-loop
 decreases-loop out₀ types₀ head list names walk₀ i₀ out types walk i = length list - i
@@ -29,7 +29,7 @@ walk-in-requires c κs = search rules
 loop-holds : tie.Need-loop-init invariant-loop decreases-loop
 loop-holds c =
     let b = c.before.before.before.before in
-    (search rules, refl, subst (λ (w : Walk). Fits_all b.args.names.now (length b.args.out.now) w (entries_of b.args.list.now)) (sym c.walk-in.ensures) b.requires, refl)
+    (search rules, refl, subst (λ (w : Walk). FitsAll b.args.names.now (length b.args.out.now) w (entries_of b.args.list.now)) (sym c.walk-in.ensures) b.requires, refl)
 
 sub-loop : tie.Need-overflow-sub-loop invariant-loop decreases-loop
 sub-loop c = search rules
