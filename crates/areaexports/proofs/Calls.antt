@@ -29,8 +29,8 @@ use Rattle.outline.specs.Calls.{Finished}
 use Rattle.outline.proofs.Taken.{shown_ok}
 use Rattle.outline.proofs.Frame.{step_no, step_keeps}
 use Rattle.outline.proofs.Calls.{spelled_calls, good_calls as library-good, calls_wrote as library-wrote}
-use Rattle.areaexports.specs.Stored.{stage_of, state_of, numbers_of, kept, Wrote_from, Wrote}
-use Rattle.areaexports.specs.Calls.{Left, Chain, Chain_to, Calls, Calls_to}
+use Rattle.areaexports.specs.Stored.{stage_of, state_of, numbers_of, kept, WroteFrom, Wrote}
+use Rattle.areaexports.specs.Calls.{Left, Chain, ChainTo, Calls, CallsTo}
 
 -- an answer's low 8 bits
 refused_not : (f : Fault) (p : ℕ) → packed_no f p % 2 ^ 8 ≡ 0 → ⊥
@@ -73,7 +73,7 @@ state_left s st ns b (ok n) e before = state_again (step s st b).state
 state_left s st ns b (no f p) e before = before f p refl ∙ sym (step_no s st b f p e).0
 
 same_from : (s : Step) (st : State) (ns b : List ℕ) (l : Left) → ((f : Fault) (p : ℕ) → (step s st b).answer ≡ no f p → state_of ns ≡ st)
-    → Wrote_from s st ns b l.answer l.numbers l.buffer → Same (came (step s st b)) l
+    → WroteFrom s st ns b l.answer l.numbers l.buffer → Same (came (step s st b)) l
 same_from s st ns b l before w =
     let o = step s st b in
     record {
@@ -94,8 +94,8 @@ to_library (s ∷ ss) l o e c =
     let next = in_library (outcome s l) c.1 in
     (c.0, next, subst (λ (st : State). Stepped s st l.buffer next.came next.buffer) e.state (refl, c.2.2), to_library ss c.1 (outcome s l) (same_next s l c.1 c.2) c.3)
 
-chain_there : (ss : List Step) (l : Left) (o : Outcome) (e : Same o l) (c : Chain ss l) (n : ℕ) (b' : List ℕ) → Chain_to ss l c n b'
-    → (m : ℕ) × (n * 2 ^ 8 ≡ above m) × library.Chain_to ss (in_library o l) (to_library ss l o e c) m b'
+chain_there : (ss : List Step) (l : Left) (o : Outcome) (e : Same o l) (c : Chain ss l) (n : ℕ) (b' : List ℕ) → ChainTo ss l c n b'
+    → (m : ℕ) × (n * 2 ^ 8 ≡ above m) × library.ChainTo ss (in_library o l) (to_library ss l o e c) m b'
 unfolding to_library
 chain_there [] l o e c n b' to =
     let a = packed_ok o.answer l.answer e.answer (ap (λ (x : ℕ). x % 2 ^ 8) to.0 ∙ omega arith) in
@@ -106,18 +106,18 @@ chain_there (s ∷ ss) l o e c n b' to =
     (r.0, r.1, ((a.0, a.1), r.2))
 
 chain_here : (ss : List Step) (l : Left) (o : Outcome) (e : Same o l) (c : Chain ss l) (n : ℕ) (b' : List ℕ) → n < 2 ^ 56
-    → library.Chain_to ss (in_library o l) (to_library ss l o e c) n b' → Chain_to ss l c n b'
+    → library.ChainTo ss (in_library o l) (to_library ss l o e c) n b' → ChainTo ss l c n b'
 unfolding to_library
 chain_here [] l o e c n b' few to = (ok_packed o.answer l.answer n e.answer to.0 ∙ above_whole n few, to.1)
 chain_here (s ∷ ss) l o e c n b' few to =
     (ok_accepted o.answer l.answer to.0.0 e.answer to.0.1, chain_here ss c.1 (outcome s l) (same_next s l c.1 c.2) c.3 n b' few to.1)
 
 -- the first of some calls that are all accepted, of the interface and of the library
-first_accepted : (ss : List Step) (l : Left) (c : Chain ss l) (n : ℕ) (b' : List ℕ) → Chain_to ss l c n b' → l.answer % 2 ^ 8 ≡ 0
+first_accepted : (ss : List Step) (l : Left) (c : Chain ss l) (n : ℕ) (b' : List ℕ) → ChainTo ss l c n b' → l.answer % 2 ^ 8 ≡ 0
 first_accepted [] l c n b' to = ap (λ (x : ℕ). x % 2 ^ 8) to.0 ∙ omega arith
 first_accepted (s ∷ ss) l c n b' to = to.0
 
-library_first : (ss : List Step) (l : library.Left) (c : library.Chain ss l) (n : ℕ) (b' : List ℕ) → library.Chain_to ss l c n b' → (m : ℕ) × (l.came.answer ≡ Is m)
+library_first : (ss : List Step) (l : library.Left) (c : library.Chain ss l) (n : ℕ) (b' : List ℕ) → library.ChainTo ss l c n b' → (m : ℕ) × (l.came.answer ≡ Is m)
 library_first [] l c n b' to = (n, to.0)
 library_first (s ∷ ss) l c n b' to = to.0
 
@@ -126,7 +126,7 @@ step_size : (s : Step) (st : State) (b : List ℕ) (a : Res ℕ) → (step s st 
 step_size s st b (ok n) e = (step_keeps s st b n e).size
 step_size s st b (no f p) e = ap length (step_no s st b f p e).1
 
-chain_size : (ss : List Step) (l : Left) (c : Chain ss l) (n : ℕ) (b' : List ℕ) → Chain_to ss l c n b' → length b' ≡ length l.buffer
+chain_size : (ss : List Step) (l : Left) (c : Chain ss l) (n : ℕ) (b' : List ℕ) → ChainTo ss l c n b' → length b' ≡ length l.buffer
 chain_size [] l c n b' to = sym (ap length to.1)
 chain_size (s ∷ ss) l c n b' to =
     chain_size ss c.1 c.3 n b' to.1 ∙ (ap length c.2.2 ∙ step_size s (state_of l.numbers) l.buffer _ refl)
@@ -151,7 +151,7 @@ module _ (i j : ℕ) (ss : List Step) (ns b : List ℕ) (c : Calls i j ss ns b) 
 
 -- the calls that a good polygon spells, on a buffer with room for it, are accepted and write it
 pub good_calls : (p : Polygon) → polygon.Good p → (ns b : List ℕ) → length b < 2 ^ 56 → let m = polygon.bytes p in length m ≤ length b → (c : Calls p.edition p.internal (polygon_rest p) ns b)
-    → Calls_to p.edition p.internal (polygon_rest p) ns b c (length m) (overlaid b m)
+    → CallsTo p.edition p.internal (polygon_rest p) ns b c (length m) (overlaid b m)
 unfolding of_library
 good_calls p g ns b few room c =
     let m = polygon.bytes p in
@@ -164,7 +164,7 @@ good_calls p g ns b few room c =
     (library-good p g b room (of_library p.edition p.internal (polygon_rest p) ns b c k))
 
 -- calls that are accepted from a begin to a finish have written a good polygon
-pub calls_wrote : (i j : ℕ) (ss : List Step) (ns b : List ℕ) → length b < 2 ^ 56 → (c : Calls i j ss ns b) (n : ℕ) (b' : List ℕ) → Calls_to i j ss ns b c n b' → Finished ss
+pub calls_wrote : (i j : ℕ) (ss : List Step) (ns b : List ℕ) → length b < 2 ^ 56 → (c : Calls i j ss ns b) (n : ℕ) (b' : List ℕ) → CallsTo i j ss ns b c n b' → Finished ss
     → library.Wrote (begin_area i j ∷ ss) b n b'
 unfolding of_library
 calls_wrote i j ss ns b few c n b' to f =

@@ -9,10 +9,10 @@ use Rattle.outline.specs.declared.State.{State}
 use Rattle.outline.specs.declared.Outcome.{Outcome}
 use Rattle.outline.specs.Steps.{Step, step}
 use Rattle.outline.specs.Shown.{Stepped}
-use Rattle.areaexports.specs.Stored.{state_of, kept, Wrote_from, Wrote}
+use Rattle.areaexports.specs.Stored.{state_of, kept, WroteFrom, Wrote}
 
 pub wrote_from : (S : Step) (st : State) (ns b b' ns' : List ℕ) {s : Outcome} {r : ℕ} → Stepped S st b s b'
-    → (r ≡ packed itself (told_answer s.answer)) × (ns' ≡ kept ns (told_answer s.answer) s.state) → Wrote_from S st ns b r ns' b'
+    → (r ≡ packed itself (told_answer s.answer)) × (ns' ≡ kept ns (told_answer s.answer) s.state) → WroteFrom S st ns b r ns' b'
 wrote_from S st ns b b' ns' {s} steps keeps =
     let o = step S st b in
     let told : told_answer s.answer ≡ o.answer = ap (λ (z : Outcome). told_answer z.answer) steps.0 ∙ told_shown_lem o.answer in
@@ -24,4 +24,4 @@ wrote_from S st ns b b' ns' {s} steps keeps =
 
 pub wrote : (S : Step) (ns b b' ns' : List ℕ) {st : State} {s : Outcome} {r : ℕ} → st ≡ state_of ns → Stepped S st b s b'
     → (r ≡ packed itself (told_answer s.answer)) × (ns' ≡ kept ns (told_answer s.answer) s.state) → Wrote S ns b r ns' b'
-wrote S ns b b' ns' {st} {s} {r} is steps keeps = subst (λ (z : State). Wrote_from S z ns b r ns' b') is (wrote_from S st ns b b' ns' steps keeps)
+wrote S ns b b' ns' {st} {s} {r} is steps keeps = subst (λ (z : State). WroteFrom S z ns b r ns' b') is (wrote_from S st ns b b' ns' steps keeps)

@@ -31,11 +31,11 @@ kept ns (no f p) s = ns
 
 -- a step from a state st, on a buffer b, answers r, and leaves the numbers ns' and the buffer b': all three are what the definition gives; a refusal leaves
 -- the numbers ns
-abbrev pub Wrote_from : Step → State → List ℕ → List ℕ → ℕ → List ℕ → List ℕ → Type 0
-Wrote_from s st ns b r ns' b' =
+abbrev pub WroteFrom : Step → State → List ℕ → List ℕ → ℕ → List ℕ → List ℕ → Type 0
+WroteFrom s st ns b r ns' b' =
     let o = step s st b in
     (r ≡ packed itself o.answer) × (ns' ≡ kept ns o.answer o.state) × (b' ≡ o.buffer)
 
 -- from the state that the numbers say
 abbrev pub Wrote : Step → List ℕ → List ℕ → ℕ → List ℕ → List ℕ → Type 0
-Wrote s ns b r ns' b' = Wrote_from s (state_of ns) ns b r ns' b'
+Wrote s ns b r ns' b' = WroteFrom s (state_of ns) ns b r ns' b'

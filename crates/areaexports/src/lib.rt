@@ -12,7 +12,7 @@ ghost use Rattle.outline.specs.Steps.{begin_area, open_ring, add_vertex, close_r
 ghost use Rattle.numbers.specs.Packed.{packed, nothing, itself, number_in};
 ghost use Rattle.numbers.specs.Listed.{lent, part_numbers};
 ghost use Rattle.areaexports.specs.Listed.{ring_numbers, axes};
-ghost use Rattle.areaexports.specs.Stored.{stage_of, state_of, numbers_of, kept, Wrote_from, Wrote};
+ghost use Rattle.areaexports.specs.Stored.{stage_of, state_of, numbers_of, kept, WroteFrom, Wrote};
 
 use areas::{Bits, RingAnswer, RingLayout};
 use format::Answer;
@@ -102,7 +102,7 @@ pub extern "C" fn chaloenpik_area_begin(
     edition: u8,
     internal: u8,
 ) -> u64
-    ensures { Wrote_from (begin_area edition internal) (closed 0) state.old out.old result state.new out.new }
+    ensures { WroteFrom (begin_area edition internal) (closed 0) state.old out.old result state.new out.new }
 {
     let step = outline::begin(out, edition, internal);
     keep(state, step)

@@ -292,25 +292,25 @@ pub left_over : (n : ℕ) (bs : List ℕ) → take (length bs - n) (drop n bs) �
 left_over n bs = take_all (length bs - n) (drop n bs) (le_of_eq (length-drop n bs))
 
 -- ---- a form is refused 12, and nothing else
-abbrev Only_form : Res Card → Type 0
-Only_form r = (f : Fault) (p : ℕ) → r ≡ no f p → f ≡ CardForm
+abbrev OnlyForm : Res Card → Type 0
+OnlyForm r = (f : Fault) (p : ℕ) → r ≡ no f p → f ≡ CardForm
 
-only_no : (p : ℕ) → Only_form (no CardForm p)
+only_no : (p : ℕ) → OnlyForm (no CardForm p)
 only_no p f q e = cc
 
-only_pick : (t : Bool) {r q : Res Card} → Only_form r → Only_form q → Only_form (pick t r q)
+only_pick : (t : Bool) {r q : Res Card} → OnlyForm r → OnlyForm q → OnlyForm (pick t r q)
 only_pick true h i = h
 only_pick false h i = i
 
-only_rest : (at p : ℕ) (bs : List ℕ) → Only_form (card_rest at p bs)
+only_rest : (at p : ℕ) (bs : List ℕ) → OnlyForm (card_rest at p bs)
 unfolding card_rest
 only_rest at p bs = only_pick (is_column (get_or bs 0 0)) (only_pick (leb (get_or bs 1 0) most_name) (by_name (wrong_from (get_or bs 1 0) 0 (drop 2 bs)) _) (only_no (at + 1))) (only_no at)
   where
-    by_name : (o : Option ℕ) (c : Card) → Only_form (unless o (at + 2) c)
+    by_name : (o : Option ℕ) (c : Card) → OnlyForm (unless o (at + 2) c)
     by_name none c = λ f q e. absurd (no_ok (sym e))
     by_name (some k) c = only_no (at + 2 + k)
 
-only_sized : (k : Kind) (bs : List ℕ) → Only_form (sized k bs)
+only_sized : (k : Kind) (bs : List ℕ) → OnlyForm (sized k bs)
 unfolding card_body
 only_sized k bs =
     only_pick (eqb (length bs) (card_size k))

@@ -15,7 +15,7 @@ use Rattle.format.proofs.Numbers.{length-num_bytes}
 use Rattle.put.specs.Put.{put}
 use Rattle.text.specs.declared.Found.{Found}
 use Rattle.query.specs.Answers.{same}
-use Rattle.query.proofs.Ends.{Equal_from, equal_from_end}
+use Rattle.query.proofs.Ends.{EqualFrom, equal_from_end}
 use Rattle.query.proofs.Names.{same_yes, same_no}
 use Rattle.cards.specs.Card.{Card, position_place, type_place, front_bytes, rest_bytes, most_name, name_byte, wrong_from}
 use Rattle.cards.specs.declared.Kind.{Kind}
@@ -61,7 +61,7 @@ module _ (xs ys : List ℕ) where
   pub other_byte : (i : ℕ) → (get_or xs i 0 ≡ get_or ys i 0 → ⊥) → false ≡ same xs ys
   other_byte i n = sym (same_no xs ys (λ e. n (ap (λ (l : List ℕ). get_or l i 0) e)))
 
-  pub all_bytes : length xs ≡ length ys → Equal_from (λ k. get_or xs k 0) ys 0 → true ≡ same xs ys
+  pub all_bytes : length xs ≡ length ys → EqualFrom (λ k. get_or xs k 0) ys 0 → true ≡ same xs ys
   all_bytes e h = let equal = equal_from_end xs ys e h in sym (rw equal (same_yes ys))
 
 -- bytes copied to the front, from the first to the last

@@ -19,25 +19,25 @@ use Rattle.numbers.specs.Packed.{above, packed_by, packed}
 use Rattle.causes.specs.Before.{number_before, Told, found, refused, told, Split, unpacked}
 use Rattle.causes.proofs.Split.{before_small, split_found, split_fault, split}
 
-abbrev pub Split_in : {A : Type 0} → Res A → Type 0
-Split_in r = Split (told number_before r) (told number_of r)
+abbrev pub SplitIn : {A : Type 0} → Res A → Type 0
+SplitIn r = Split (told number_before r) (told number_of r)
 
-pub reading_split : (layout : ℕ) (m : List ℕ) → Split_in (read_message layout m)
+pub reading_split : (layout : ℕ) (m : List ℕ) → SplitIn (read_message layout m)
 reading_split layout m = split (read_message layout m)
 
-pub step_split : (s : Step) (st : State) (b : List ℕ) → Split_in (step s st b).answer
+pub step_split : (s : Step) (st : State) (b : List ℕ) → SplitIn (step s st b).answer
 step_split s st b = split (step s st b).answer
 
-pub request_split : (version hash_version : ℕ) (service user hash b : List ℕ) → Split_in (login_request version hash_version service user hash b).answer
+pub request_split : (version hash_version : ℕ) (service user hash b : List ℕ) → SplitIn (login_request version hash_version service user hash b).answer
 request_split version hash_version service user hash b = split (login_request version hash_version service user hash b).answer
 
-pub response_split : (version result : ℕ) (w : Welcome) (b : List ℕ) → Split_in (login_response version result w b).answer
+pub response_split : (version result : ℕ) (w : Welcome) (b : List ℕ) → SplitIn (login_response version result w b).answer
 response_split version result w b = split (login_response version result w b).answer
 
-pub body_split : (b : List ℕ) → Split_in (read_polygon b)
+pub body_split : (b : List ℕ) → SplitIn (read_polygon b)
 body_split b = split (read_polygon b)
 
-pub outline_split : (s : outline.Step) (st : Outline) (b : List ℕ) → Split_in (outline.step s st b).answer
+pub outline_split : (s : outline.Step) (st : Outline) (b : List ℕ) → SplitIn (outline.step s st b).answer
 outline_split s st b = split (outline.step s st b).answer
 
 -- an answer of the C interface, taken apart

@@ -28,14 +28,14 @@ judges_utf8 : Judges of_message utf8
 judges_utf8 s at n fits is f k e = rw (utf8_bad 4 0 _ f k e).0 tt
 
 -- what the rule of a name refuses is a byte above 127, at its place
-abbrev pub At_byte : ℕ → List ℕ → Fault → ℕ → Type 0
-At_byte k bs f p = (i : ℕ) × (i < length bs) × (p ≡ k + i) × (f ≡ Name) × (name_byte_fine (get_or bs i 0) ≡ false)
+abbrev pub AtByte : ℕ → List ℕ → Fault → ℕ → Type 0
+AtByte k bs f p = (i : ℕ) × (i < length bs) × (p ≡ k + i) × (f ≡ Name) × (name_byte_fine (get_or bs i 0) ≡ false)
 
-pub ascii_byte : (k : ℕ) (bs : List ℕ) (f : Fault) (p : ℕ) → ascii_from k bs ≡ bad f p → At_byte k bs f p
+pub ascii_byte : (k : ℕ) (bs : List ℕ) (f : Fault) (p : ℕ) → ascii_from k bs ≡ bad f p → AtByte k bs f p
 ascii_byte k [] f p e = absurd (let z : ◌≡◌ {A = ℕ} 0 1 = cc in omega arith)
 ascii_byte k (b ∷ bs) f p e = by_test (name_byte_fine b) refl (ascii_byte (k + 1) bs f p) e
   where
-    by_test : (t : Bool) → name_byte_fine b ≡ t → (ascii_from (k + 1) bs ≡ bad f p → At_byte (k + 1) bs f p) → pick t (ascii_from (k + 1) bs) (bad Name k) ≡ bad f p → At_byte k (b ∷ bs) f p
+    by_test : (t : Bool) → name_byte_fine b ≡ t → (ascii_from (k + 1) bs ≡ bad f p → AtByte (k + 1) bs f p) → pick t (ascii_from (k + 1) bs) (bad Name k) ≡ bad f p → AtByte k (b ∷ bs) f p
     by_test true is rest e = let h = rest e in (suc h.0, omega (arith, h.1), omega (arith, h.2), h.3, h.4)
     by_test false is rest e = let same : k ≡ p = cc in (0, omega arith, omega arith, cc, is)
 
@@ -84,11 +84,11 @@ fixed_cases P decimal point any t = go (eqb t t_decimal) (eqb t t_point) refl re
     go false true is q = subst P (sym (eqb-true t t_point q)) point
     go false false is q = any t (λ n. rw (is, q) refl)
 
-abbrev Fixed_breaks : List ℕ → ℕ → ℕ → Type 0
-Fixed_breaks s at t = at + width_of t ≤ length s → fixed_fine t (num_at (width_of t) s at) ≡ false → Holds (of_message (pick (eqb t t_decimal) Decimal Point)) s at
+abbrev FixedBreaks : List ℕ → ℕ → ℕ → Type 0
+FixedBreaks s at t = at + width_of t ≤ length s → fixed_fine t (num_at (width_of t) s at) ≡ false → Holds (of_message (pick (eqb t t_decimal) Decimal Point)) s at
 
-fixed_breaks : (t : ℕ) (s : List ℕ) (at : ℕ) → Fixed_breaks s at t
-fixed_breaks t s at = fixed_cases (Fixed_breaks s at) (λ fits bad. (fits, bad)) (λ fits bad. (fits, bad)) (λ t all fits bad. absurd (true≢false (sym (all (num_at (width_of t) s at)) ∙ bad))) t
+fixed_breaks : (t : ℕ) (s : List ℕ) (at : ℕ) → FixedBreaks s at t
+fixed_breaks t s at = fixed_cases (FixedBreaks s at) (λ fits bad. (fits, bad)) (λ fits bad. (fits, bad)) (λ t all fits bad. absurd (true≢false (sym (all (num_at (width_of t) s at)) ∙ bad))) t
 
 right_fixed : (b t : ℕ) → Right of_message (ruled (fixed_fine t) (pick (eqb t t_decimal) Decimal Point) (number (width_of t) b))
 right_fixed b t =

@@ -139,9 +139,9 @@ module _ {claim : Fault → Claim} {A B : Type 0} where
 
 module _ (claim : Fault → Claim) {A : Type 0} where
   -- each format of a list is right
-  abbrev pub All_right : List (Format A) → Type 0
-  All_right [] = Unit
-  All_right (f ∷ fs) = Right claim f × All_right fs
+  abbrev pub AllRight : List (Format A) → Type 0
+  AllRight [] = Unit
+  AllRight (f ∷ fs) = Right claim f × AllRight fs
 
 module _ {claim : Fault → Claim} {A : Type 0} where
   pub right_pick : (t : Bool) {f g : Format A} → Right claim f → Right claim g → Right claim (pick t f g)
@@ -153,15 +153,15 @@ module _ {claim : Fault → Claim} {A : Type 0} where
   right_present true d r = right_into some (λ o. Option.get_or o d) r
   right_present false d r = right_nothing none
 
-  pub all_replicate : (n : ℕ) {f : Format A} → Right claim f → All_right claim (replicate n f)
+  pub all_replicate : (n : ℕ) {f : Format A} → Right claim f → AllRight claim (replicate n f)
   all_replicate zero r = tt
   all_replicate (suc n) r = (r, all_replicate n r)
 
-  pub all_map : {B : Type 0} (g : B → Format A) → ((b : B) → Right claim (g b)) → (l : List B) → All_right claim (map g l)
+  pub all_map : {B : Type 0} (g : B → Format A) → ((b : B) → Right claim (g b)) → (l : List B) → AllRight claim (map g l)
   all_map g r [] = tt
   all_map g r (b ∷ l) = (r b, all_map g r l)
 
-  pub right_each : (at-index : ℕ → Index → Index) (k : ℕ) (fs : List (Format A)) → All_right claim fs → Right claim (each at-index k fs)
+  pub right_each : (at-index : ℕ → Index → Index) (k : ℕ) (fs : List (Format A)) → AllRight claim fs → Right claim (each at-index k fs)
   unfolding each
   right_each at-index k [] r = right_nothing []
   right_each at-index k (f ∷ fs) r = record {

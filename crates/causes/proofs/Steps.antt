@@ -24,14 +24,14 @@ use Rattle.steps.specs.Logins.{Welcome, login_request, login_response, request_f
 use Rattle.outline.specs.declared.State.{State as Outline}
 use Rattle.outline.specs.Steps as outline
 use Rattle.causes.specs.Causes.{Rightly}
-use Rattle.causes.specs.Given.{Given, value, flags, columns, nothing, given, Anywhere, No_cause, For, of_value, High_byte, Claims, of_outline}
+use Rattle.causes.specs.Given.{Given, value, flags, columns, nothing, given, Anywhere, NoCause, For, of_value, HighByte, Claims, of_outline}
 use Rattle.causes.proofs.Messages.{ascii_byte, fixed_cases}
 use Rattle.causes.proofs.Verdicts.{Blames, rightly_carry, blames_fine, blames_bad, blames_test, blames_also, blames_pick, blames_text, blames_note, blames_utf8}
 
 ruleset laws = (blames_fine, blames_test, blames_also, blames_pick, blames_text, blames_note, blames_utf8, refl)
 
-abbrev Fixed_breaks : ℕ → ℕ → Type 0
-Fixed_breaks n t = fixed_fine t n ≡ false → of_value t (fixed n) (pick (eqb t t_decimal) Decimal Point)
+abbrev FixedBreaks : ℕ → ℕ → Type 0
+FixedBreaks n t = fixed_fine t n ≡ false → of_value t (fixed n) (pick (eqb t t_decimal) Decimal Point)
 
 -- a body is refused by the rule of its type if it is an empty geography, or no text
 rule_blames : (t : ℕ) (bs : List ℕ) → Blames (of_value t (body (some bs))) (rule_of t bs)
@@ -50,17 +50,17 @@ value_blames : (p t : ℕ) (v : Value) → Blames (of_value t v) (value_fault p 
 unfolding value_fault
 value_blames p t (fixed n) =
     blames_also (test (is_number_of t n) WireType p) (blames_test (is_number_of t n) WireType p (λ e. refl))
-    (blames_test (fixed_fine t n) (pick (eqb t t_decimal) Decimal Point) p (fixed_cases (Fixed_breaks n) (λ bad. (refl, bad)) (λ bad. (refl, bad)) (λ t all bad. absurd (true≢false (sym (all n) ∙ bad))) t))
+    (blames_test (fixed_fine t n) (pick (eqb t t_decimal) Decimal Point) p (fixed_cases (FixedBreaks n) (λ bad. (refl, bad)) (λ bad. (refl, bad)) (λ t all bad. absurd (true≢false (sym (all n) ∙ bad))) t))
 value_blames p t (body b) =
     blames_also (test (is_counted t) WireType p) (blames_test (is_counted t) WireType p (λ e. refl))
     (blames_note (rule_of t) p b refl (λ bs is. subst (λ (b : Option (List ℕ)). Blames (of_value t (body b)) (rule_of t bs)) (sym is) (rule_blames t bs)))
 
-name_blames : (p : ℕ) (b : Option (List ℕ)) → Blames (For Name (High_byte b)) (name_fault p b)
+name_blames : (p : ℕ) (b : Option (List ℕ)) → Blames (For Name (HighByte b)) (name_fault p b)
 name_blames p none = blames_bad PastEnd 0 refl
 name_blames p (some bs) = blames_text ascii p bs refl (record { blames = λ f q e. let h = ascii_byte 4 bs f q e in rw h.3 (h.0, h.1, h.4) })
 
 widen : {A D : Type 0} {v : Verdict} → (A → D) → Blames (For Name A) v → Blames (For Name D) v
-widen {A} {D} h b = record { blames = λ f p e. wider (eqb (number_of f) (number_of Name)) (No_cause f) (b.blames f p e) }
+widen {A} {D} h b = record { blames = λ f p e. wider (eqb (number_of f) (number_of Name)) (NoCause f) (b.blames f p e) }
   where
     wider : (t : Bool) (C : Type 0) → pick t A C → pick t D C
     wider true C a = h a

@@ -42,11 +42,11 @@ abbrev pub Anywhere : (Fault → Type 0) → Fault → ℕ → Type 0
 Anywhere B f p = B f
 
 -- the fault is no cause; or it is the cause g, and X holds
-abbrev pub No_cause : Fault → Type 0
-No_cause f = is_cause (number_of f) ≡ false
+abbrev pub NoCause : Fault → Type 0
+NoCause f = is_cause (number_of f) ≡ false
 
 abbrev pub For : Fault → Type 0 → Fault → Type 0
-For g X f = pick (eqb (number_of f) (number_of g)) X (No_cause f)
+For g X f = pick (eqb (number_of f) (number_of g)) X (NoCause f)
 
 -- a number that is no decimal or no point of its type, and an empty geography
 abbrev pub of_value : ℕ → Value → Fault → Type 0
@@ -54,24 +54,24 @@ of_value t (fixed n) f = pick (eqb (number_of f) (number_of Decimal)) ((t ≡ t_
 of_value t (body b) f = For Geography ((t ≡ t_geography) × (b ≡ some [])) f
 
 -- a name that has a byte above 127
-abbrev pub High_byte : Option (List ℕ) → Type 0
-High_byte none = ⊥
-High_byte (some bs) = (i : ℕ) × (i < length bs) × (name_byte_fine (get_or bs i 0) ≡ false)
+abbrev pub HighByte : Option (List ℕ) → Type 0
+HighByte none = ⊥
+HighByte (some bs) = (i : ℕ) × (i < length bs) × (name_byte_fine (get_or bs i 0) ≡ false)
 
-abbrev pub Some_name : List Column → Type 0
-Some_name [] = ⊥
-Some_name (c ∷ cs) = High_byte c.name ⊎ Some_name cs
+abbrev pub SomeName : List Column → Type 0
+SomeName [] = ⊥
+SomeName (c ∷ cs) = HighByte c.name ⊎ SomeName cs
 
 abbrev pub Claims : Given → Fault → Type 0
 Claims (value t v) = of_value t v
 Claims (flags n) = For Flags (flags_fine n ≡ false)
-Claims (columns cs) = For Name (Some_name cs)
-Claims nothing = No_cause
+Claims (columns cs) = For Name (SomeName cs)
+Claims nothing = NoCause
 
 -- the same of the steps that write an area, which go by what was written so far
 abbrev pub of_outline : outline.Step → Outline → Fault → Type 0
-of_outline (outline.begin_area edition internal) st = No_cause
-of_outline (outline.open_ring mark) st = No_cause
-of_outline (outline.add_vertex x y z) st = No_cause
+of_outline (outline.begin_area edition internal) st = NoCause
+of_outline (outline.open_ring mark) st = NoCause
+of_outline (outline.add_vertex x y z) st = NoCause
 of_outline (outline.close_ring kept) st = For Geography (leb fewest_vertices st.vertices ≡ false)
 of_outline (outline.finish_area kept) st = For Geography (leb 1 st.rings ≡ false)

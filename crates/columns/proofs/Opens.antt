@@ -33,7 +33,7 @@ use Rattle.columns.specs.declared.Column.{Column as Entry}
 use Rattle.columns.specs.declared.Survey.{Survey}
 use Rattle.columns.specs.declared.Head.{Head}
 use Rattle.columns.specs.Entries.{columns_of, types_in, type_bytes, name_bytes, names_size, columns_fault}
-use Rattle.columns.specs.Walks.{none_at, add_all, head_answer, head_bytes, opened_at, head_of, head_out, Page, put_all, Fits_all}
+use Rattle.columns.specs.Walks.{none_at, add_all, head_answer, head_bytes, opened_at, head_of, head_out, Page, put_all, FitsAll}
 use Rattle.columns.proofs.Metadata.{columns_length, types_same, types_size, Standing, all_standing, names_length, metadata_is, table_length}
 use Rattle.columns.proofs.Apart.{apart}
 use Rattle.columns.proofs.Surveys.{found, fault_same}
@@ -98,7 +98,7 @@ module _ (st : Code) (status : ℕ) (names : List ℕ) (es : List Entry) (b type
   abbrev Opens : Res ℕ → Type 0
   Opens a =
       let q = put_all names (page a) es in
-      Fits_all names (length (head_out st status survey a b)) (head_of st survey a).walk es × Opened opens_by st types b (head_of st survey a).step q.types q.out
+      FitsAll names (length (head_out st status survey a b)) (head_of st survey a).walk es × Opened opens_by st types b (head_of st survey a).step q.types q.out
 
   same_answer : head_answer st survey (length b) ≡ answer_of asks (length b)
   same_answer =
@@ -177,12 +177,12 @@ module _ (st : Code) (status : ℕ) (names : List ℕ) (es : List Entry) (b type
   -- as the code makes it: from no column on, by what is found, by what stands around the columns and by what they leave
   pub opens_made : {z s : Survey} {h : Head} {b₁ : List ℕ} → z ≡ none_at st.position → s ≡ add_all names z es
       → (h ≡ head_of st s (head_answer st s (length b))) × (b₁ ≡ head_out st status s (head_answer st s (length b)) b)
-      → Fits_all names (length b₁) h.walk es × ((r : Outcome) (b' types' : List ℕ) → (let q = put_all names (record { out = b₁; types = types; walk = h.walk }) es in (r ≡ h.step) × (b' ≡ q.out) × (types' ≡ q.types)) → Opened opens_by st types b r types' b')
+      → FitsAll names (length b₁) h.walk es × ((r : Outcome) (b' types' : List ℕ) → (let q = put_all names (record { out = b₁; types = types; walk = h.walk }) es in (r ≡ h.step) × (b' ≡ q.out) × (types' ≡ q.types)) → Opened opens_by st types b r types' b')
   opens_made {z} {s} {h} {b₁} e f g =
       let same : s ≡ survey = f ∙ ap (λ (x : Survey). add_all names x es) e in
       let head : h ≡ head_of st survey (head_answer st survey (length b)) = g.0 ∙ ap (λ (x : Survey). head_of st x (head_answer st x (length b))) same in
       let out : b₁ ≡ head_out st status survey (head_answer st survey (length b)) b = g.1 ∙ ap (λ (x : Survey). head_out st status x (head_answer st x (length b)) b) same in
-      let fits : Fits_all names (length b₁) h.walk es = rw (head, out) opens.0 in (
+      let fits : FitsAll names (length b₁) h.walk es = rw (head, out) opens.0 in (
         fits,
         (λ r b' types' k.
             let is : r ≡ (head_of st survey (head_answer st survey (length b))).step = k.0 ∙ ap (λ (x : Head). x.step) head in

@@ -16,7 +16,7 @@ use Rattle.put.proofs.Laws.{put_length, put_nothing, twice}
 use Rattle.columns.specs.declared.Column.{Column as Entry}
 use Rattle.columns.specs.declared.Walk.{Walk}
 use Rattle.columns.specs.Entries.{types_in, type_bytes, name_bytes}
-use Rattle.columns.specs.Walks.{moved, Page, put_one, put_all, Fits_all}
+use Rattle.columns.specs.Walks.{moved, Page, put_one, put_all, FitsAll}
 use Rattle.columns.proofs.Metadata.{Standing, types_size}
 use Rattle.columns.proofs.Apart.{apart}
 
@@ -29,8 +29,8 @@ unfolding put_all
 none_put names p [] h = refl
 none_put names p (e ∷ es) h = let same : put_one names p e ≡ p = rw h in rw same (none_put names p es h)
 
-pub none_fit : (names : List ℕ) (size : ℕ) (w : Walk) (es : List Entry) → w.left ≡ 0 → Fits_all names size w es
-unfolding Fits_all
+pub none_fit : (names : List ℕ) (size : ℕ) (w : Walk) (es : List Entry) → w.left ≡ 0 → FitsAll names size w es
+unfolding FitsAll
 none_fit names size w [] h = tt
 none_fit names size w (e ∷ es) h = ((λ less. absurd (omega arith)), rw (none_moved names w e h) (none_fit names size w es h))
 
@@ -54,8 +54,8 @@ more_put names p e n h =
 
 -- as many columns as are left have room
 pub all_fit : (names : List ℕ) (size : ℕ) (w : Walk) (es : List Entry) → w.left ≡ length es → Standing names es → w.i + length es ≤ most_columns → w.kind_at + length es ≤ size
-    → w.name_at + length (flat_map (name_bytes names) es) ≤ size → Fits_all names size w es
-unfolding Fits_all Standing flat_map
+    → w.name_at + length (flat_map (name_bytes names) es) ≤ size → FitsAll names size w es
+unfolding FitsAll Standing flat_map
 all_fit names size w [] h s i k n = tt
 all_fit names size w (e ∷ es) h s i k n =
     let sum = length-append (name_bytes names e) (flat_map (name_bytes names) es) in

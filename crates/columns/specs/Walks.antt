@@ -132,6 +132,6 @@ unfoldable pub put_all : List ℕ → Page → List Entry → Page
 put_all names p [] = p
 put_all names p (e ∷ es) = put_all names (put_one names p e) es
 
-unfoldable pub Fits_all : List ℕ → ℕ → Walk → List Entry → Type 0
-Fits_all names size w [] = Unit
-Fits_all names size w (e ∷ es) = Fits names size w e × Fits_all names size (moved names w e) es
+unfoldable pub FitsAll : List ℕ → ℕ → Walk → List Entry → Type 0
+FitsAll names size w [] = Unit
+FitsAll names size w (e ∷ es) = Fits names size w e × FitsAll names size (moved names w e) es

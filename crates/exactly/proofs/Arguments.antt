@@ -249,10 +249,10 @@ module _ (m : List ℕ) (all : Bytes m) (r : Message) (accepted : read_message 3
       is
 
   module _ (e : ℕ) (v : Value) where
-    abbrev Element_is : ℕ → Items → Type 0
-    Element_is t l = Stands (both (column_type 25) items) m (at + 1) (t, l) → entry (params_of r) p ≡ ok (record { type = t_array; argument = array t l }) → entry (values_in l) e ≡ ok v → ElementReads m fs p e (cell_of t (element_at at t l e) v)
+    abbrev ElementIs : ℕ → Items → Type 0
+    ElementIs t l = Stands (both (column_type 25) items) m (at + 1) (t, l) → entry (params_of r) p ≡ ok (record { type = t_array; argument = array t l }) → entry (values_in l) e ≡ ok v → ElementReads m fs p e (cell_of t (element_at at t l e) v)
 
-    of_bytes : (bs : List ℕ) → take (length bs) (drop (at + 1 + 1 + 4) m) ≡ bs → Element_is t_tinyint (bytes (some bs))
+    of_bytes : (bs : List ℕ) → take (length bs) (drop (at + 1 + 1 + 4) m) ≡ bs → ElementIs t_tinyint (bytes (some bs))
     of_bytes bs part d is f =
         let l = bytes (some bs) in
         let listing = from_array t_tinyint l d is 27 28 ix refl (omega arith) (omega arith) (bytes_alone ix (at + 1 + 1) bs) in
@@ -265,7 +265,7 @@ module _ (m : List ℕ) (all : Bytes m) (r : Message) (accepted : read_message 3
           by_itself = λ not. absurd (not (kept m all 27 28 t_tinyint (element_at at t_tinyint l e) v refl here).1);
         }
 
-    of_values : (t : ℕ) (vs : List Value) → eqb t t_tinyint ≡ false → Element_is t (values vs)
+    of_values : (t : ℕ) (vs : List Value) → eqb t t_tinyint ≡ false → ElementIs t (values vs)
     of_values t vs n d is f =
         let l = values vs in
         let here = element_stands t l d is e v f in
@@ -283,7 +283,7 @@ module _ (m : List ℕ) (all : Bytes m) (r : Message) (accepted : read_message 3
       (λ is h f. absurd (no_ok f))
       (λ t l d is h f.
       let v = bound (entry (values_in l) e) f in
-      subst (λ (z : Here). ElementReads m fs p e (shown_here z)) (ok_same v.2) (by_items (Element_is e v.0) t l (held t l d is) (of_bytes e v.0) (of_values e v.0 t) d is v.1))
+      subst (λ (z : Here). ElementReads m fs p e (shown_here z)) (ok_same v.2) (by_items (ElementIs e v.0) t l (held t l d is) (of_bytes e v.0) (of_values e v.0 t) d is v.1))
       (λ t v n k fine d is h f. absurd (no_ok f))
       is
 

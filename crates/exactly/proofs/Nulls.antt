@@ -12,7 +12,7 @@ use Rattle.format.proofs.Results.{ok_same}
 use Rattle.show.specs.declared.Cell.{Cell}
 use Rattle.show.specs.Cells.{type_of, value_of}
 use Rattle.query.specs.Answers.{Given, ask_cell, ask_parameter, ask_element}
-use Rattle.exactly.specs.Listed.{bytes_for, field_bytes, null_point, Null_exactly, of_parameter, Says}
+use Rattle.exactly.specs.Listed.{bytes_for, field_bytes, null_point, NullExactly, of_parameter, Says}
 use Rattle.exactly.proofs.Exactly.{cell_reads_its_bytes}
 use Rattle.exactly.proofs.Arguments.{parameter_reads_its_bytes, element_reads_its_bytes}
 
@@ -31,7 +31,7 @@ module _ (l b : ℕ) (m : List ℕ) (at : ℕ) where
   unfolding value into ruled number num_at
   null_read = refl
 
-  pub null_exactly : (bs : List ℕ) (x : Cell) → type_of x ≡ t_point → Says l b m bs at x → Null_exactly bs x
+  pub null_exactly : (bs : List ℕ) (x : Cell) → type_of x ≡ t_point → Says l b m bs at x → NullExactly bs x
   null_exactly bs x type says = (
     λ e. says.encodes ∙ ap (λ (y : Cell). (value l b (type_of y)).bytes (value_of m y)) e ∙ null_bytes,
     λ e.
@@ -42,7 +42,7 @@ module _ (l b : ℕ) (m : List ℕ) (at : ℕ) where
 
 -- the cell at table t, row k and column c, whose column's type is point's
 pub null_cell_exactly : (m : List ℕ) → Bytes m → (r : Message) → read_message 4 m ≡ ok r → (t k c : ℕ) (x : Cell) → ask_cell m t k c ≡ ok x
-    → field_bytes 45 (record { i = t; j = 0; k = c }) m (message_fields 4 r) ≡ t_point ∷ [] → Null_exactly (bytes_for 50 51 (record { i = t; j = k; k = c }) m (message_fields 4 r)) x
+    → field_bytes 45 (record { i = t; j = 0; k = c }) m (message_fields 4 r) ≡ t_point ∷ [] → NullExactly (bytes_for 50 51 (record { i = t; j = k; k = c }) m (message_fields 4 r)) x
 null_cell_exactly m all r accepted t k c x e type =
     let w = cell_reads_its_bytes m all r accepted t k c x e in
     let same : type_of x ∷ [] ≡ t_point ∷ [] = sym w.type_byte ∙ type in
@@ -50,7 +50,7 @@ null_cell_exactly m all r accepted t k c x e type =
 
 -- parameter p
 pub null_parameter_exactly : (m : List ℕ) → Bytes m → (r : Message) → read_message 3 m ≡ ok r → (p : ℕ) (x : Cell) → ask_parameter m p ≡ ok (Given.value x)
-    → field_bytes 24 (of_parameter p) m (message_fields 3 r) ≡ t_point ∷ [] → Null_exactly (bytes_for 27 28 (of_parameter p) m (message_fields 3 r)) x
+    → field_bytes 24 (of_parameter p) m (message_fields 3 r) ≡ t_point ∷ [] → NullExactly (bytes_for 27 28 (of_parameter p) m (message_fields 3 r)) x
 null_parameter_exactly m all r accepted p x e type =
     let w = parameter_reads_its_bytes m all r accepted p (Given.value x) e in
     let same : type_of x ∷ [] ≡ t_point ∷ [] = sym w.type_byte ∙ type in
@@ -58,7 +58,7 @@ null_parameter_exactly m all r accepted p x e type =
 
 -- element e of the array that parameter p is
 pub null_element_exactly : (m : List ℕ) → Bytes m → (r : Message) → read_message 3 m ≡ ok r → (p e : ℕ) (x : Cell) → ask_element m p e ≡ ok x
-    → field_bytes 25 (of_parameter p) m (message_fields 3 r) ≡ t_point ∷ [] → Null_exactly (bytes_for 27 28 (record { i = p; j = e; k = 0 }) m (message_fields 3 r)) x
+    → field_bytes 25 (of_parameter p) m (message_fields 3 r) ≡ t_point ∷ [] → NullExactly (bytes_for 27 28 (record { i = p; j = e; k = 0 }) m (message_fields 3 r)) x
 null_element_exactly m all r accepted p e x asked type =
     let w = element_reads_its_bytes m all r accepted p e x asked in
     let both : type_of x ∷ [] ≡ t_point ∷ [] = sym w.type_byte ∙ type in

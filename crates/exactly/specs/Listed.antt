@@ -55,8 +55,8 @@ abbrev pub null_point : List ℕ
 null_point = 0x40 ∷ 0x76 ∷ 0x80 ∷ 0 ∷ 0 ∷ 0 ∷ 0 ∷ 0 ∷ 0x40 ∷ 0x76 ∷ 0x80 ∷ 0 ∷ 0 ∷ 0 ∷ 0 ∷ 0 ∷ []
 
 -- bytes that say x, a point, are these exactly if x is null
-abbrev pub Null_exactly : List ℕ → Cell → Type 0
-Null_exactly bs x = (x ≡ Cell.NullPoint → bs ≡ null_point) × (bs ≡ null_point → x ≡ Cell.NullPoint)
+abbrev pub NullExactly : List ℕ → Cell → Type 0
+NullExactly bs x = (x ≡ Cell.NullPoint → bs ≡ null_point) × (bs ≡ null_point → x ≡ Cell.NullPoint)
 
 -- the cell at table t, row k and column c; its type is its column's
 pub record CellReads (m : List ℕ) (fs : List Entry) (t k c : ℕ) (x : Cell) : Type 0 where
@@ -74,14 +74,14 @@ given_type (Given.value x) = type_of x
 given_type (Given.list t n) = t_array
 
 -- and what follows that: nothing for a null; a value; for an array the type of its elements and how many they are, in 4 bytes for bytes and in 2 for others
-abbrev pub Argument_reads : List ℕ → List Entry → Index → Given → Type 0
-Argument_reads m fs ix Given.nothing = (listed_for 25 26 ix fs ≡ []) × (listed_for 27 28 ix fs ≡ [])
-Argument_reads m fs ix (Given.value x) = Reads 27 28 ix m fs x
-Argument_reads m fs ix (Given.list t n) = (field_bytes 25 ix m fs ≡ t ∷ []) × (field_bytes 26 ix m fs ≡ num_bytes (pick (eqb t t_tinyint) 4 2) n)
+abbrev pub ArgumentReads : List ℕ → List Entry → Index → Given → Type 0
+ArgumentReads m fs ix Given.nothing = (listed_for 25 26 ix fs ≡ []) × (listed_for 27 28 ix fs ≡ [])
+ArgumentReads m fs ix (Given.value x) = Reads 27 28 ix m fs x
+ArgumentReads m fs ix (Given.list t n) = (field_bytes 25 ix m fs ≡ t ∷ []) × (field_bytes 26 ix m fs ≡ num_bytes (pick (eqb t t_tinyint) 4 2) n)
 
 pub record ParameterReads (m : List ℕ) (fs : List Entry) (p : ℕ) (g : Given) : Type 0 where
   pub type_byte : field_bytes 24 (of_parameter p) m fs ≡ given_type g ∷ []
-  pub argument : Argument_reads m fs (of_parameter p) g
+  pub argument : ArgumentReads m fs (of_parameter p) g
 
 -- a byte array is listed as one body, of which the element at e is a byte
 pub record InBody (m : List ℕ) (fs : List Entry) (ix : Index) (e : ℕ) (x : Cell) : Type 0 where

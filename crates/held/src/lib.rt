@@ -10,7 +10,7 @@ ghost use Rattle.query.specs.Answers.{told_table, ask_table, told_column, ask_co
 ghost use Rattle.steps.specs.Steps.{open_table};
 ghost use Rattle.write.specs.Shown.{Opened};
 ghost use Rattle.columns.specs.Entries.{columns_of};
-ghost use Rattle.columns.specs.Walks.{Bounded, add_all, put_all, Fits_all};
+ghost use Rattle.columns.specs.Walks.{Bounded, add_all, put_all, FitsAll};
 
 use cards::Fit;
 use columns::{Column, Head, Survey};
@@ -138,7 +138,7 @@ fn put_columns(
     cols: &[Column],
     names: &[u8],
 ) -> Outcome
-    requires { Fits_all names.now (length out.old) head.walk cols.now }
+    requires { FitsAll names.now (length out.old) head.walk cols.now }
     ensures { (result ≡ head.step) × (out.exit.now ≡ (put_all names.now (record { out = out.entry.now; types = types.old; walk = head.walk }) cols.now).out) × (types.new ≡ (put_all names.now (record { out = out.entry.now; types = types.old; walk = head.walk }) cols.now).types) }
 {
     let mut w = columns::walk_in(head);

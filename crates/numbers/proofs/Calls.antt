@@ -35,11 +35,11 @@ use Rattle.write.specs.declared.Outcome.{Outcome}
 use Rattle.write.specs.Shown.{zero, seen, shown, shown_answer, answered, came}
 use Rattle.write.specs.Calls as library
 use Rattle.write.specs.Calls.{Loan, nothing, look, whole, loan, Finished}
-use Rattle.write.proofs.Chain.{lent, came_ok, goes→accepted, Runs_to, first_ok, run→chain}
+use Rattle.write.proofs.Chain.{lent, came_ok, goes→accepted, RunsTo, first_ok, run→chain}
 use Rattle.write.proofs.Calls.{calls_wrote as library-wrote}
 use Rattle.numbers.specs.Packed.{above, packed, packed_no, itself}
-use Rattle.numbers.specs.Stored.{stage_of, state_of, numbers_of, listed, Wrote_from, Wrote_login}
-use Rattle.numbers.specs.Calls.{Left, Meets, Begun, Chain, Chain_to, Calls, Calls_to}
+use Rattle.numbers.specs.Stored.{stage_of, state_of, numbers_of, listed, WroteFrom, WroteLogin}
+use Rattle.numbers.specs.Calls.{Left, Meets, Begun, Chain, ChainTo, Calls, CallsTo}
 use Rattle.numbers.proofs.Kept.{answer_packed, told_shown_lem}
 
 -- an answer's low 8 bits
@@ -122,7 +122,7 @@ state_left st ns (ok n) x h e = state_again (shown x) (h n refl)
 state_left st ns (no f p) x h e = e f p refl
 
 same_from : (s : Step) (st : Code) (ns types b : List ℕ) (l : Left) → st.inner_type < 256 → ((f : Fault) (p : ℕ) → (step s (seen st types) b).answer ≡ no f p → state_of ns ≡ st)
-    → Wrote_from s st ns types b l.answer l.numbers l.buffer → Same (came st (step s (seen st types) b)) l
+    → WroteFrom s st ns types b l.answer l.numbers l.buffer → Same (came st (step s (seen st types) b)) l
 same_from s st ns types b l h e w =
     let o = step s (seen st types) b in
     record {
@@ -148,8 +148,8 @@ to_library (s ∷ ss) l o e c =
     let k = same (loan s) s l.numbers l.types l.buffer c.1 c.2 in
     (c.0, next, subst (λ (st : Code). library.Called s st l.types l.buffer next) e.state k.0, to_library ss c.1 (outcome s l) k.1 c.3)
 
-chain_there : (ss : List Step) (l : Left) (o : Outcome) (e : Same o l) (c : Chain ss l) (n : ℕ) (b' : List ℕ) → Chain_to ss l c n b'
-    → (m : ℕ) × (n * 2 ^ 8 ≡ above m) × library.Chain_to ss (in_library o l) (to_library ss l o e c) m b'
+chain_there : (ss : List Step) (l : Left) (o : Outcome) (e : Same o l) (c : Chain ss l) (n : ℕ) (b' : List ℕ) → ChainTo ss l c n b'
+    → (m : ℕ) × (n * 2 ^ 8 ≡ above m) × library.ChainTo ss (in_library o l) (to_library ss l o e c) m b'
 unfolding to_library
 chain_there [] l o e c n b' to =
     let a = packed_ok o.answer l.answer e.answer (ap (λ (x : ℕ). x % 2 ^ 8) to.0 ∙ omega arith) in
@@ -161,7 +161,7 @@ chain_there (s ∷ ss) l o e c n b' to =
     (r.0, r.1, ((a.0, a.1), r.2))
 
 chain_here : (ss : List Step) (l : Left) (o : Outcome) (e : Same o l) (c : Chain ss l) (n : ℕ) (b' : List ℕ) → n < 2 ^ 56
-    → library.Chain_to ss (in_library o l) (to_library ss l o e c) n b' → Chain_to ss l c n b'
+    → library.ChainTo ss (in_library o l) (to_library ss l o e c) n b' → ChainTo ss l c n b'
 unfolding to_library
 chain_here [] l o e c n b' few to = (ok_packed o.answer l.answer n e.answer to.0 ∙ above_whole n few, to.1)
 chain_here (s ∷ ss) l o e c n b' few to =
@@ -170,7 +170,7 @@ chain_here (s ∷ ss) l o e c n b' few to =
     (ap (λ (x : ℕ). x % 2 ^ 8) a ∙ above_accepted to.0.0, chain_here ss c.1 (outcome s l) k.1 c.3 n b' few to.1)
 
 -- the first of some calls that are all accepted
-first_accepted : (ss : List Step) (l : Left) (c : Chain ss l) (n : ℕ) (b' : List ℕ) → Chain_to ss l c n b' → l.answer % 2 ^ 8 ≡ 0
+first_accepted : (ss : List Step) (l : Left) (c : Chain ss l) (n : ℕ) (b' : List ℕ) → ChainTo ss l c n b' → l.answer % 2 ^ 8 ≡ 0
 first_accepted [] l c n b' to = ap (λ (x : ℕ). x % 2 ^ 8) to.0 ∙ omega arith
 first_accepted (s ∷ ss) l c n b' to = to.0
 
@@ -185,15 +185,15 @@ module _ (s : Step) (ss : List Step) (ns types b : List ℕ) (l : Left) (w : Beg
       let x = step s (seen zero []) b in
       same_from s zero ns [] b l (omega arith) (λ f p i. absurd (no_ok (sym i ∙ came_ok zero x n e))) w.0
 
-  steps_here : (c : Chain ss l) (n : ℕ) (b' : List ℕ) → n < 2 ^ 56 → Runs_to (run (s ∷ ss) (seen zero types) b) n b' → Chain_to ss l c n b'
+  steps_here : (c : Chain ss l) (n : ℕ) (b' : List ℕ) → n < 2 ^ 56 → RunsTo (run (s ∷ ss) (seen zero types) b) n b' → ChainTo ss l c n b'
   unfolding run
   steps_here c n b' few e =
       let m = first_ok (step s (seen zero types) b) (run ss) n e.0 in
       let k = begun_same m.0 (goes→accepted s zero types b long (in_library (begun s b) l) known m.0 m.1) in
       chain_here ss l (begun s b) k c n b' few (run→chain s ss zero types b n b' long e (in_library (begun s b) l) known (to_library ss l (begun s b) k c))
 
-  steps_there : (c : Chain ss l) (n : ℕ) (b' : List ℕ) → Chain_to ss l c n b'
-      → (m : ℕ) × (n * 2 ^ 8 ≡ above m) × (d : library.Chain ss (in_library (begun s b) l)) × library.Chain_to ss (in_library (begun s b) l) d m b'
+  steps_there : (c : Chain ss l) (n : ℕ) (b' : List ℕ) → ChainTo ss l c n b'
+      → (m : ℕ) × (n * 2 ^ 8 ≡ above m) × (d : library.Chain ss (in_library (begun s b) l)) × library.ChainTo ss (in_library (begun s b) l) d m b'
   steps_there c n b' to =
       let x = step s (seen zero []) b in
       let a = packed_ok (begun s b).answer l.answer (w.0.0 ∙ sym (answer_packed zero x.answer x.state)) (first_accepted ss l c n b' to) in
@@ -202,10 +202,10 @@ module _ (s : Step) (ss : List Step) (ns types b : List ℕ) (l : Left) (w : Beg
       (r.0, r.1, to_library ss l (begun s b) k c, r.2)
 
 -- a login
-login_here : (o : Out State) (r : ℕ) (b' : List ℕ) → Wrote_login o r b' → (n : ℕ) (m : List ℕ) → n < 2 ^ 56 → Runs_to o n m → (r ≡ n * 2 ^ 8) × (b' ≡ m)
+login_here : (o : Out State) (r : ℕ) (b' : List ℕ) → WroteLogin o r b' → (n : ℕ) (m : List ℕ) → n < 2 ^ 56 → RunsTo o n m → (r ≡ n * 2 ^ 8) × (b' ≡ m)
 login_here o r b' w n m few e = (w.0 ∙ ap (packed itself) e.0 ∙ above_whole n few, w.1 ∙ e.1)
 
-login_there : (o : Out State) (r : ℕ) (b' : List ℕ) → Wrote_login o r b' → (n : ℕ) (m : List ℕ) → (r ≡ n * 2 ^ 8) × (b' ≡ m)
+login_there : (o : Out State) (r : ℕ) (b' : List ℕ) → WroteLogin o r b' → (n : ℕ) (m : List ℕ) → (r ≡ n * 2 ^ 8) × (b' ≡ m)
     → (k : ℕ) × (n * 2 ^ 8 ≡ above k) × (shown_answer o.answer ≡ Is k) × (b' ≡ m)
 login_there o r b' w n m to =
     let a = packed_ok (shown_answer o.answer) r (w.0 ∙ ap (packed itself) (sym (told_shown_lem o.answer))) (ap (λ (x : ℕ). x % 2 ^ 8) to.0 ∙ omega arith) in
@@ -213,15 +213,15 @@ login_there o r b' w n m to =
 
 -- for every writing
 module _ (ns types b : List ℕ) (long : length types ≡ most_columns) where
-  written→calls : (w : Writing) (n : ℕ) (m : List ℕ) → n < 2 ^ 56 → Runs_to (written w (seen zero types) b) n m → (c : Calls w ns types b) → Calls_to w ns types b c n m
+  written→calls : (w : Writing) (n : ℕ) (m : List ℕ) → n < 2 ^ 56 → RunsTo (written w (seen zero types) b) n m → (c : Calls w ns types b) → CallsTo w ns types b c n m
   written→calls (request_call version h service user hash) n m few e c = login_here (login_request version h service user hash b) c.1 c.2 c.3 n m few e
   written→calls (response_call version result w) n m few e c = login_here (login_response version result w b) c.1 c.2 c.3 n m few e
   written→calls (call_steps version procedure client ss) n m few e c =
       steps_here (begin_call version procedure client) ss ns types b c.1 c.2 long ((refl, c.2.0.2), c.2.1) c.3 n m few e
   written→calls (reply_steps version o ss) n m few e c = steps_here (begin_reply version o) ss ns types b c.1 c.2 long ((refl, c.2.0.2), c.2.1) c.3 n m few e
 
-  calls→library : (w : Writing) (c : Calls w ns types b) (n : ℕ) (b' : List ℕ) → Calls_to w ns types b c n b'
-      → (m : ℕ) × (n * 2 ^ 8 ≡ above m) × (d : library.Calls w types b) × library.Calls_to w types b d m b'
+  calls→library : (w : Writing) (c : Calls w ns types b) (n : ℕ) (b' : List ℕ) → CallsTo w ns types b c n b'
+      → (m : ℕ) × (n * 2 ^ 8 ≡ above m) × (d : library.Calls w types b) × library.CallsTo w types b d m b'
   calls→library (request_call version h service user hash) c n b' to =
       let o = login_request version h service user hash b in
       let k = login_there o c.1 c.2 c.3 n b' to in
@@ -249,13 +249,13 @@ good_few kind r g =
 
 -- the calls that a good message spells are accepted and write it
 pub good_calls : (kind : ℕ) (r : Message) → is_kind kind ≡ true → GoodMessage kind r → (ns types b : List ℕ) → length types ≡ most_columns → let m = message_bytes kind r in
-    length m ≤ length b → (c : Calls (writing_of r) ns types b) → Calls_to (writing_of r) ns types b c (length m) (overlaid b m)
+    length m ≤ length b → (c : Calls (writing_of r) ns types b) → CallsTo (writing_of r) ns types b c (length m) (overlaid b m)
 good_calls kind r known g ns types b long room c =
     let e = good_writes kind r known g (seen zero types) b room in
     written→calls ns types b long (writing_of r) _ _ (good_few kind r g) (ap (λ (o : Out State). o.answer) e, ap (λ (o : Out State). o.buffer) e) c
 
 -- calls that are accepted to a finish have written a good message
-pub calls_wrote : (w : Writing) (ns types b : List ℕ) → length types ≡ most_columns → (c : Calls w ns types b) (n : ℕ) (b' : List ℕ) → Calls_to w ns types b c n b' → Finished w → library.Wrote w b n b'
+pub calls_wrote : (w : Writing) (ns types b : List ℕ) → length types ≡ most_columns → (c : Calls w ns types b) (n : ℕ) (b' : List ℕ) → CallsTo w ns types b c n b' → Finished w → library.Wrote w b n b'
 calls_wrote w ns types b long c n b' to f =
     let k = calls→library ns types b long w c n b' to in
     let r = library-wrote w types b long k.2 k.0 b' k.3 f in

@@ -8,7 +8,7 @@ use lib.Seq.{drop-cons}
 use Rattle.columns.specs.declared.Column.{Column}
 use Rattle.columns.specs.declared.Survey.{Survey}
 use Rattle.columns.specs.declared.Walk.{Walk}
-use Rattle.columns.specs.Walks.{added, add_all, Bounded, Fits, Fits_all, moved, column_out, column_types, Page, put_one, put_all}
+use Rattle.columns.specs.Walks.{added, add_all, Bounded, Fits, FitsAll, moved, column_out, column_types, Page, put_one, put_all}
 use Rattle.columns.proofs.Surveys.{bounded}
 use Rattle.numbers.specs.Entries.{entry_at, entries_of}
 
@@ -43,14 +43,14 @@ survey_turn names ns s r e i h b f g = (
 abbrev pub page : List ℕ → List ℕ → Walk → Page
 page out types walk = record { out = out; types = types; walk = walk }
 
-pub fits_next : (names ns : List ℕ) (size : ℕ) (w : Walk) (i : ℕ) → i + 3 ≤ length ns → Fits_all names size w (entries_of (drop i ns))
-    → Fits names size w (entry_at ns i) × Fits_all names size (moved names w (entry_at ns i)) (entries_of (drop (i + 3) ns))
-unfolding Fits_all
+pub fits_next : (names ns : List ℕ) (size : ℕ) (w : Walk) (i : ℕ) → i + 3 ≤ length ns → FitsAll names size w (entries_of (drop i ns))
+    → Fits names size w (entry_at ns i) × FitsAll names size (moved names w (entry_at ns i)) (entries_of (drop (i + 3) ns))
+unfolding FitsAll
 fits_next names ns size w i h f = rw (one_more ns i h) at f
 
-pub put_turn : (names ns o t : List ℕ) (w : Walk) (e : Column) (i : ℕ) {o' t' : List ℕ} {w' : Walk} → i + 3 ≤ length ns → Fits_all names (length o) w (entries_of (drop i ns)) → e ≡ entry_at ns i
+pub put_turn : (names ns o t : List ℕ) (w : Walk) (e : Column) (i : ℕ) {o' t' : List ℕ} {w' : Walk} → i + 3 ≤ length ns → FitsAll names (length o) w (entries_of (drop i ns)) → e ≡ entry_at ns i
     → (w' ≡ moved names w e) × (o' ≡ column_out names w e o) × (t' ≡ column_types w e t) → length o' ≡ length o
-    → Fits_all names (length o') w' (entries_of (drop (i + 3) ns)) × (put_all names (page o' t' w') (entries_of (drop (i + 3) ns)) ≡ put_all names (page o t w) (entries_of (drop i ns)))
+    → FitsAll names (length o') w' (entries_of (drop (i + 3) ns)) × (put_all names (page o' t' w') (entries_of (drop (i + 3) ns)) ≡ put_all names (page o t w) (entries_of (drop i ns)))
 unfolding put_all
 put_turn names ns o t w e i {o'} {t'} {w'} h f g k l =
     let rest = (fits_next names ns (length o) w i h f).1 in

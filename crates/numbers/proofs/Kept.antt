@@ -11,7 +11,7 @@ use Rattle.steps.specs.Plans.{Out}
 use Rattle.steps.specs.Steps.{Step, step}
 use Rattle.write.specs.Shown.{seen, shown_answer, answered, came, types_after, Stepped, Opened}
 use Rattle.numbers.specs.Packed.{packed, itself}
-use Rattle.numbers.specs.Stored.{state_of, kept, listed, Gave, Wrote_from, Wrote, Wrote_all, Wrote_login}
+use Rattle.numbers.specs.Stored.{state_of, kept, listed, Gave, WroteFrom, Wrote, WroteAll, WroteLogin}
 
 -- by the answer
 pub answer_packed : (old : State) (a : Res ℕ) (s : definition.State) → packed itself (told_answer (answered old a s).answer) ≡ packed itself a
@@ -36,7 +36,7 @@ pub gave_from : (f : State → Out definition.State) (ns : List ℕ) {st : State
 gave_from f ns {st} {s} {r} {ns'} {b'} is comes keeps = subst (λ (z : State). Gave (f z) ns r ns' b') is (gave (f st) st ns comes keeps)
 
 pub wrote_from : (S : Step) (st : State) (ns types b b' ns' : List ℕ) {s : Outcome} {r : ℕ} → Stepped S st types b s b' → (r ≡ packed itself (told_answer s.answer)) × (ns' ≡ kept ns s.answer s.state)
-    → Wrote_from S st ns types b r ns' b'
+    → WroteFrom S st ns types b r ns' b'
 wrote_from S st ns types b b' ns' steps keeps = gave (step S (seen st types) b) st ns steps keeps
 
 pub wrote : (S : Step) (ns types b b' ns' : List ℕ) {st : State} {s : Outcome} {r : ℕ} → st ≡ state_of ns → Stepped S st types b s b'
@@ -44,7 +44,7 @@ pub wrote : (S : Step) (ns types b b' ns' : List ℕ) {st : State} {s : Outcome}
 wrote S ns types b b' ns' is steps keeps = gave_from (λ (z : State). step S (seen z types) b) ns is steps keeps
 
 pub wrote_all : (S : Step) (ns types b b' ns' types' : List ℕ) {st : State} {s : Outcome} {r : ℕ} → st ≡ state_of ns → Opened S st types b s types' b'
-    → (r ≡ packed itself (told_answer s.answer)) × (ns' ≡ kept ns s.answer s.state) → Wrote_all S ns types b r ns' types' b'
+    → (r ≡ packed itself (told_answer s.answer)) × (ns' ≡ kept ns s.answer s.state) → WroteAll S ns types b r ns' types' b'
 wrote_all S ns types b b' ns' types' {st} {s} {r} is opens keeps =
     (wrote S ns [] b b' ns' is opens.0 keeps, subst (λ (z : State). types' ≡ types_after (step S (seen z []) b).answer (step S (seen z []) b).state.outer.types types) is opens.1)
 
@@ -53,5 +53,5 @@ pub told_shown_lem : (x : Res ℕ) → told_answer (shown_answer x) ≡ x
 told_shown_lem (ok n) = refl
 told_shown_lem (no f p) = refl
 
-pub wrote_login : (o : Out definition.State) {a : Answer} {r : ℕ} {b : List ℕ} → (a ≡ shown_answer o.answer) × (b ≡ o.buffer) → r ≡ packed itself (told_answer a) → Wrote_login o r b
+pub wrote_login : (o : Out definition.State) {a : Answer} {r : ℕ} {b : List ℕ} → (a ≡ shown_answer o.answer) × (b ≡ o.buffer) → r ≡ packed itself (told_answer a) → WroteLogin o r b
 wrote_login o told packs = (packs ∙ ap (λ (z : Answer). packed itself (told_answer z)) told.0 ∙ ap (packed itself) (told_shown_lem o.answer), told.1)

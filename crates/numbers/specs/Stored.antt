@@ -54,19 +54,19 @@ abbrev pub Gave : Out definition.State → List ℕ → ℕ → List ℕ → Lis
 Gave o ns r ns' b' = (r ≡ packed itself o.answer) × (ns' ≡ listed ns o.answer o.state) × (b' ≡ o.buffer)
 
 -- a step from a state st, with the types that are lent and on a buffer b
-abbrev pub Wrote_from : Step → State → List ℕ → List ℕ → List ℕ → ℕ → List ℕ → List ℕ → Type 0
-Wrote_from s st ns types b r ns' b' = Gave (step s (seen st types) b) ns r ns' b'
+abbrev pub WroteFrom : Step → State → List ℕ → List ℕ → List ℕ → ℕ → List ℕ → List ℕ → Type 0
+WroteFrom s st ns types b r ns' b' = Gave (step s (seen st types) b) ns r ns' b'
 
 -- from the state that the numbers say
 abbrev pub Wrote : Step → List ℕ → List ℕ → List ℕ → ℕ → List ℕ → List ℕ → Type 0
-Wrote s ns types b r ns' b' = Wrote_from s (state_of ns) ns types b r ns' b'
+Wrote s ns types b r ns' b' = WroteFrom s (state_of ns) ns types b r ns' b'
 
 -- the same for the step that sets the types of the columns
-abbrev pub Wrote_all : Step → List ℕ → List ℕ → List ℕ → ℕ → List ℕ → List ℕ → List ℕ → Type 0
-Wrote_all s ns types b r ns' types' b' =
+abbrev pub WroteAll : Step → List ℕ → List ℕ → List ℕ → ℕ → List ℕ → List ℕ → List ℕ → Type 0
+WroteAll s ns types b r ns' types' b' =
     let o = step s (seen (state_of ns) []) b in
     Wrote s ns [] b r ns' b' × (types' ≡ types_after o.answer o.state.outer.types types)
 
 -- and for a call that has no state
-abbrev pub Wrote_login : Out definition.State → ℕ → List ℕ → Type 0
-Wrote_login o r b = (r ≡ packed itself o.answer) × (b ≡ o.buffer)
+abbrev pub WroteLogin : Out definition.State → ℕ → List ℕ → Type 0
+WroteLogin o r b = (r ≡ packed itself o.answer) × (b ≡ o.buffer)

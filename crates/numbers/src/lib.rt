@@ -13,7 +13,7 @@ ghost use Rattle.steps.specs.State.{stage_number};
 ghost use Rattle.steps.specs.Steps.{open_table};
 ghost use Rattle.write.specs.Shown.{Opened};
 ghost use Rattle.columns.specs.Entries.{columns_of as entries_with};
-ghost use Rattle.columns.specs.Walks.{Bounded, add_all, put_all, Fits_all};
+ghost use Rattle.columns.specs.Walks.{Bounded, add_all, put_all, FitsAll};
 ghost use Rattle.numbers.specs.Entries.{entry_at, entries_of};
 ghost use Rattle.numbers.specs.Packed.{above, packed, packed_no, nothing, itself, number_in, rows_of, columns_of, type_of};
 ghost use Rattle.numbers.specs.Stored.{stage_of, byte_of, state_of, numbers_of, kept};
@@ -233,7 +233,7 @@ fn put_listed(
     list: &[u64],
     names: &[u8],
 ) -> Outcome
-    requires { Fits_all names.now (length out.old) head.walk (entries_of list.now) }
+    requires { FitsAll names.now (length out.old) head.walk (entries_of list.now) }
     ensures { (result ≡ head.step) × (out.exit.now ≡ (put_all names.now (record { out = out.entry.now; types = types.old; walk = head.walk }) (entries_of list.now)).out) × (types.new ≡ (put_all names.now (record { out = out.entry.now; types = types.old; walk = head.walk }) (entries_of list.now)).types) }
 {
     let mut walk = columns::walk_in(head);

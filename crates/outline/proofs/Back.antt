@@ -21,7 +21,7 @@ use Rattle.steps.proofs.Back.{test_fine, All, all_good, all_bytes}
 use Rattle.outline.specs.declared.State.{State}
 use Rattle.outline.specs.State.{area_head, ring_head, closed, area_state, ring_state, stage_number}
 use Rattle.outline.specs.Steps.{Step, begin_area, open_ring, add_vertex, close_ring, finish_area, plan, step, run}
-use Rattle.outline.specs.Spells.{vertex_steps, ring_steps, polygon_steps, Held_block, Held, All_held, in_front}
+use Rattle.outline.specs.Spells.{vertex_steps, ring_steps, polygon_steps, HeldBlock, Held, AllHeld, in_front}
 use Rattle.outline.proofs.Bytes.{ring_bytes_lem, polygon_bytes, begun_size, opened_size}
 use Rattle.outline.proofs.Frame.{step_ok, step_keeps}
 use Rattle.outline.proofs.Writes.{polygon_writes}
@@ -79,7 +79,7 @@ closed_stops (add_vertex x y z) h n ss b e = no_ok e.1
 closed_stops (close_ring k) h n ss b e = no_ok e.1
 closed_stops (finish_area k) h n ss b e = no_ok e.1
 
-closed_ends : (ss : List Step) → All_held ss → (n : ℕ) (b : List ℕ) → Ends (run ss (closed n) b) → ss ≡ []
+closed_ends : (ss : List Step) → AllHeld ss → (n : ℕ) (b : List ℕ) → Ends (run ss (closed n) b) → ss ≡ []
 closed_ends [] h n b e = refl
 closed_ends (s ∷ ss) h n b e = absurd (closed_stops s h.0 n ss b e)
 
@@ -88,7 +88,7 @@ vertex_is_good : (x y z : ℕ) → (x < 256 ^ 8) × (y < 256 ^ 8) × (z < 256 ^ 
 unfolding vertex number each nothing
 vertex_is_good x y z h = (h.0, (h.1, (h.2, refl)))
 
-ring_is_good : (m : ℕ) (vs : List Vertex) (k : List ℕ) → m < 256 → All vertex vs → fewest_vertices ≤ length vs → length vs ≤ unlimited → Held_block ring_kept k
+ring_is_good : (m : ℕ) (vs : List Vertex) (k : List ℕ) → m < 256 → All vertex vs → fewest_vertices ≤ length vs → length vs ≤ unlimited → HeldBlock ring_kept k
     → ring.Good (record { mark = m; vertices = vs; kept = k })
 unfolding ring into both ruled number block
 ring_is_good m vs k h g low high l =
@@ -105,7 +105,7 @@ holes_byte_lem n = go (leb 2 n)
 area_of : ℕ → ℕ → List Ring → List ℕ → Polygon
 area_of e i rs k = record { edition = e; internal = i; holes = holes_of (length rs); rings = rs; kept = k }
 
-area_is_good : (e i : ℕ) (rs : List Ring) (k : List ℕ) → e < 256 → i < 256 → All ring rs → 1 ≤ length rs → length rs ≤ unlimited → Held_block body_kept k → polygon.Good (area_of e i rs k)
+area_is_good : (e i : ℕ) (rs : List Ring) (k : List ℕ) → e < 256 → i < 256 → All ring rs → 1 ≤ length rs → length rs ≤ unlimited → HeldBlock body_kept k → polygon.Good (area_of e i rs k)
 unfolding polygon into both ruled number block area_of
 area_is_good e i rs k h j g low high l =
     let n = length rs in
@@ -117,7 +117,7 @@ record Rings (size c n : ℕ) (ss : List Step) : Type 0 where
   rs : List Ring
   kept : List ℕ
   good : All ring rs
-  held : Held_block body_kept kept
+  held : HeldBlock body_kept kept
   some : 1 ≤ c + length rs
   few : c + length rs ≤ unlimited
   spelled : ss ≡ flat_map ring_steps rs ++ (finish_area kept ∷ [])
@@ -128,20 +128,20 @@ record Vertices (size c k n : ℕ) (ss : List Step) : Type 0 where
   vs : List Vertex
   kept : List ℕ
   good : All vertex vs
-  held : Held_block ring_kept kept
+  held : HeldBlock ring_kept kept
   enough : fewest_vertices ≤ k + length vs
   few : k + length vs ≤ unlimited
   rest : List Step
   spelled : ss ≡ flat_map vertex_steps vs ++ (close_ring kept ∷ rest)
   rings : Rings size c (n + length (flat_map vertex.bytes vs) + ring_kept) rest
 
-abbrev Rings_for : ℕ → List Step → Type 0
-Rings_for size ss = (c n : ℕ) (b : List ℕ) → length b ≡ size → c ≤ unlimited → Ends (run ss (area_state n c) b) → Rings size c n ss
+abbrev RingsFor : ℕ → List Step → Type 0
+RingsFor size ss = (c n : ℕ) (b : List ℕ) → length b ≡ size → c ≤ unlimited → Ends (run ss (area_state n c) b) → Rings size c n ss
 
-abbrev Vertices_for : ℕ → List Step → Type 0
-Vertices_for size ss = (c at k n : ℕ) (b : List ℕ) → length b ≡ size → c ≤ unlimited → k ≤ unlimited → Ends (run ss (ring_state n c at k) b) → Vertices size c k n ss
+abbrev VerticesFor : ℕ → List Step → Type 0
+VerticesFor size ss = (c at k n : ℕ) (b : List ℕ) → length b ≡ size → c ≤ unlimited → k ≤ unlimited → Ends (run ss (ring_state n c at k) b) → Vertices size c k n ss
 
-module _ (size : ℕ) (ss : List Step) (held : All_held ss) (rings : Rings_for size ss) (vertices : Vertices_for size ss) where
+module _ (size : ℕ) (ss : List Step) (held : AllHeld ss) (rings : RingsFor size ss) (vertices : VerticesFor size ss) where
   opened : (m c n : ℕ) → m < 256 → First (plan (open_ring m) (area_state n c) size) ss size → Rings size c n (open_ring m ∷ ss)
   unfolding flat_map
   opened m c n h f =
@@ -170,7 +170,7 @@ module _ (size : ℕ) (ss : List Step) (held : All_held ss) (rings : Rings_for s
         fits = omega arith;
       }
 
-  finished : (k : List ℕ) (c n : ℕ) → Held_block body_kept k → c ≤ unlimited → First (plan (finish_area k) (area_state n c) size) ss size → Rings size c n (finish_area k ∷ ss)
+  finished : (k : List ℕ) (c n : ℕ) → HeldBlock body_kept k → c ≤ unlimited → First (plan (finish_area k) (area_state n c) size) ss size → Rings size c n (finish_area k ∷ ss)
   unfolding flat_map
   finished k c n h m f =
       let low = leb-true 1 c (test_fine (leb 1 c) Geography n f.fine.faultless) in
@@ -208,7 +208,7 @@ module _ (size : ℕ) (ss : List Step) (held : All_held ss) (rings : Rings_for s
         rings = subst (λ (l : ℕ). Rings size c l v.rest) far v.rings;
       }
 
-  ring_closed : (q : List ℕ) (c at k n : ℕ) → Held_block ring_kept q → c ≤ unlimited → k ≤ unlimited → First (plan (close_ring q) (ring_state n c at k) size) ss size → Vertices size c k n (close_ring q ∷ ss)
+  ring_closed : (q : List ℕ) (c at k n : ℕ) → HeldBlock ring_kept q → c ≤ unlimited → k ≤ unlimited → First (plan (close_ring q) (ring_state n c at k) size) ss size → Vertices size c k n (close_ring q ∷ ss)
   unfolding flat_map
   ring_closed q c at k n h m o f =
       let low = leb-true fewest_vertices k (test_fine (leb fewest_vertices k) Geography n f.fine.faultless) in
@@ -225,7 +225,7 @@ module _ (size : ℕ) (ss : List Step) (held : All_held ss) (rings : Rings_for s
         rings = subst (λ (l : ℕ). Rings size c l ss) far (rings c (n + length q) f.buffer f.same m f.ends);
       }
 
-  rings_step : (s : Step) → Held s → Rings_for size (s ∷ ss)
+  rings_step : (s : Step) → Held s → RingsFor size (s ∷ ss)
   unfolding run step carry
   rings_step (begin_area i j) h c n b k m e = absurd h
   rings_step (open_ring u) h c n b k m e = opened u c n h (first_step (open_ring u) (area_state n c) ss b size k e)
@@ -233,7 +233,7 @@ module _ (size : ℕ) (ss : List Step) (held : All_held ss) (rings : Rings_for s
   rings_step (close_ring q) h c n b k m e = absurd (no_ok e.1)
   rings_step (finish_area q) h c n b k m e = finished q c n h m (first_step (finish_area q) (area_state n c) ss b size k e)
 
-  vertices_step : (s : Step) → Held s → Vertices_for size (s ∷ ss)
+  vertices_step : (s : Step) → Held s → VerticesFor size (s ∷ ss)
   unfolding run step carry
   vertices_step (begin_area i j) h c at k n b l m o e = absurd h
   vertices_step (open_ring u) h c at k n b l m o e = absurd (no_ok e.1)
@@ -241,7 +241,7 @@ module _ (size : ℕ) (ss : List Step) (held : All_held ss) (rings : Rings_for s
   vertices_step (close_ring q) h c at k n b l m o e = ring_closed q c at k n h m o (first_step (close_ring q) (ring_state n c at k) ss b size l e)
   vertices_step (finish_area q) h c at k n b l m o e = absurd (no_ok e.1)
 
-rings_and_vertices : (size : ℕ) (ss : List Step) → All_held ss → Rings_for size ss × Vertices_for size ss
+rings_and_vertices : (size : ℕ) (ss : List Step) → AllHeld ss → RingsFor size ss × VerticesFor size ss
 unfolding run
 rings_and_vertices size [] h = ((λ c n b k m e. absurd (one≢zero e.2)), (λ c at k n b l m o e. absurd (two≢zero e.2)))
   where
@@ -262,7 +262,7 @@ pub record Said (ss : List Step) (size : ℕ) : Type 0 where
   pub room : length (polygon.bytes area) ≤ size
 
 -- steps from a begin on that are accepted, and leave nothing open, are those of a good polygon
-pub steps_spell : (e i : ℕ) → e < 256 → i < 256 → (ss : List Step) → All_held ss → (st : State) (b : List ℕ) → Ends (run (begin_area e i ∷ ss) st b) → Said (begin_area e i ∷ ss) (length b)
+pub steps_spell : (e i : ℕ) → e < 256 → i < 256 → (ss : List Step) → AllHeld ss → (st : State) (b : List ℕ) → Ends (run (begin_area e i ∷ ss) st b) → Said (begin_area e i ∷ ss) (length b)
 unfolding area_of
 steps_spell e i h j ss held st b ended =
     let f = first_step (begin_area e i) st ss b (length b) refl ended in
@@ -284,7 +284,7 @@ steps_spell e i h j ss held st b ended =
     }
 
 -- and so they wrote it, and left all behind it as it was
-pub steps_wrote : (e i : ℕ) → e < 256 → i < 256 → (ss : List Step) → All_held ss → (st : State) (b : List ℕ) → Ends (run (begin_area e i ∷ ss) st b)
+pub steps_wrote : (e i : ℕ) → e < 256 → i < 256 → (ss : List Step) → AllHeld ss → (st : State) (b : List ℕ) → Ends (run (begin_area e i ∷ ss) st b)
     → (said : Said (begin_area e i ∷ ss) (length b)) × (run (begin_area e i ∷ ss) st b ≡ in_front b (polygon.bytes said.area))
 steps_wrote e i h j ss held st b ended =
     let s = steps_spell e i h j ss held st b ended in

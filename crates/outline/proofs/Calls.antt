@@ -16,9 +16,9 @@ use Rattle.outline.specs.declared.State.{State}
 use Rattle.outline.specs.declared.Outcome.{Outcome}
 use Rattle.outline.specs.State.{closed, stage_number}
 use Rattle.outline.specs.Steps.{Step, begin_area, open_ring, add_vertex, close_ring, finish_area, plan, step, run}
-use Rattle.outline.specs.Spells.{All_held, polygon_rest}
+use Rattle.outline.specs.Spells.{AllHeld, polygon_rest}
 use Rattle.outline.specs.Shown.{came, Stepped}
-use Rattle.outline.specs.Calls.{Left, Chain, Chain_to, Calls, Calls_to, Finished, Wrote}
+use Rattle.outline.specs.Calls.{Left, Chain, ChainTo, Calls, CallsTo, Finished, Wrote}
 use Rattle.outline.proofs.Taken.{shown_ok}
 use Rattle.outline.proofs.Frame.{step_ok}
 use Rattle.outline.proofs.Writes.{polygon_writes}
@@ -27,8 +27,8 @@ use Rattle.outline.proofs.RoundTrip.{read_written}
 use Rattle.outline.proofs.Typed.{good_held}
 
 -- a run to a position and a buffer
-abbrev Runs_to : Out State → ℕ → List ℕ → Type 0
-Runs_to o n b = (o.answer ≡ ok n) × (o.buffer ≡ b)
+abbrev RunsTo : Out State → ℕ → List ℕ → Type 0
+RunsTo o n b = (o.answer ≡ ok n) × (o.buffer ≡ b)
 
 -- an accepted step is at the position that it answers
 next_position : (s : Step) (st : State) (size n : ℕ) → ((plan s st size).next n).position ≡ n
@@ -56,8 +56,8 @@ module _ (s : Step) (st : State) (b : List ℕ) (l : Left) (called : Stepped s s
   goes_on ss n e = ap (λ (o : Out State). after o (run ss)) (accepted→goes n e).0
 
 -- where a step and those behind it run to the end, so do their calls
-run→chain : (s : Step) (ss : List Step) (st : State) (b : List ℕ) (n : ℕ) (b' : List ℕ) → Runs_to (run (s ∷ ss) st b) n b'
-    → (l : Left) → Stepped s st b l.came l.buffer → (c : Chain ss l) → Chain_to ss l c n b'
+run→chain : (s : Step) (ss : List Step) (st : State) (b : List ℕ) (n : ℕ) (b' : List ℕ) → RunsTo (run (s ∷ ss) st b) n b'
+    → (l : Left) → Stepped s st b l.came l.buffer → (c : Chain ss l) → ChainTo ss l c n b'
 unfolding run
 run→chain s [] st b n b' e l called c =
     let m = first_ok (step s st b) (run []) n e.0 in
@@ -69,11 +69,11 @@ run→chain s (t ∷ ss) st b n b' e l called c =
     let m = first_ok (step s st b) (run (t ∷ ss)) n e.0 in
     let a = goes→accepted s st b l called m.0 m.1 in
     let on = goes_on s st b l called (t ∷ ss) m.0 a in
-    ((m.0, a), run→chain t ss l.came.state l.buffer n b' (subst (λ (o : Out State). Runs_to o n b') on e) c.1 c.2 c.3)
+    ((m.0, a), run→chain t ss l.came.state l.buffer n b' (subst (λ (o : Out State). RunsTo o n b') on e) c.1 c.2 c.3)
 
 -- and where the calls do, so do the steps
 chain→run : (s : Step) (ss : List Step) (st : State) (b : List ℕ) (n : ℕ) (b' : List ℕ)
-    → (l : Left) → Stepped s st b l.came l.buffer → (c : Chain ss l) → Chain_to ss l c n b' → Runs_to (run (s ∷ ss) st b) n b'
+    → (l : Left) → Stepped s st b l.came l.buffer → (c : Chain ss l) → ChainTo ss l c n b' → RunsTo (run (s ∷ ss) st b) n b'
 unfolding run
 chain→run s [] st b n b' l called c to =
     let on = goes_on s st b l called [] n to.0 in
@@ -81,13 +81,13 @@ chain→run s [] st b n b' l called c to =
     (ap (λ (o : Out State). o.answer) on ∙ ap ok here, ap (λ (o : Out State). o.buffer) on ∙ to.1)
 chain→run s (t ∷ ss) st b n b' l called c to =
     let on = goes_on s st b l called (t ∷ ss) to.0.0 to.0.1 in
-    subst (λ (o : Out State). Runs_to o n b') (sym on) (chain→run t ss l.came.state l.buffer n b' c.1 c.2 c.3 to.1)
+    subst (λ (o : Out State). RunsTo o n b') (sym on) (chain→run t ss l.came.state l.buffer n b' c.1 c.2 c.3 to.1)
 
 -- ---- there are such calls: a function answers every input, by its contract, and what a good polygon spells is of the functions' types
 called : (s : Step) (st : State) (b : List ℕ) → (l : Left) × Stepped s st b l.came l.buffer
 called s st b = let o = step s st b in (record { came = came o; buffer = o.buffer }, (refl, refl))
 
-chained : (ss : List Step) → All_held ss → (l : Left) → Chain ss l
+chained : (ss : List Step) → AllHeld ss → (l : Left) → Chain ss l
 chained [] h l = tt
 chained (s ∷ ss) h l = let n = called s l.came.state l.buffer in (h.0, n.0, n.1, chained ss h.1 n.0)
 
@@ -100,13 +100,13 @@ spelled_calls p g b =
 -- the calls that a good polygon spells, on a buffer with room for it: whatever they answer by their contracts, each is accepted, the last answers the body's length, and
 -- the body stands in front of the buffer, with all behind it as it was
 pub good_calls : (p : Polygon) → polygon.Good p → (b : List ℕ) → let m = polygon.bytes p in length m ≤ length b → (c : Calls p.edition p.internal (polygon_rest p) b)
-    → Calls_to p.edition p.internal (polygon_rest p) b c (length m) (overlaid b m)
+    → CallsTo p.edition p.internal (polygon_rest p) b c (length m) (overlaid b m)
 good_calls p g b room c =
     let e = polygon_writes p g (closed 0) b room in
     run→chain (begin_area p.edition p.internal) (polygon_rest p) (closed 0) b _ _ (ap (λ (o : Out State). o.answer) e, ap (λ (o : Out State). o.buffer) e) c.2 c.3 c.4
 
 -- what the arguments of all calls say, from what those of each say
-all_held : (ss : List Step) (l : Left) → Chain ss l → All_held ss
+all_held : (ss : List Step) (l : Left) → Chain ss l → AllHeld ss
 all_held [] l c = tt
 all_held (s ∷ ss) l c = (c.0, all_held ss c.1 c.3)
 
@@ -121,7 +121,7 @@ run_closes k (s ∷ ss) st b n e =
     rw m.1 (run_closes k ss (step s st b).state (step s st b).buffer n (rw m.1 at e))
 
 -- calls that are accepted from a begin on, the last of them a finish, have written a good polygon
-pub calls_wrote : (i j : ℕ) (ss : List Step) (b : List ℕ) (c : Calls i j ss b) (n : ℕ) (b' : List ℕ) → Calls_to i j ss b c n b' → Finished ss → Wrote (begin_area i j ∷ ss) b n b'
+pub calls_wrote : (i j : ℕ) (ss : List Step) (b : List ℕ) (c : Calls i j ss b) (n : ℕ) (b' : List ℕ) → CallsTo i j ss b c n b' → Finished ss → Wrote (begin_area i j ∷ ss) b n b'
 calls_wrote i j ss b c n b' to f =
     let e = chain→run (begin_area i j) ss (closed 0) b n b' c.2 c.3 c.4 to in
     let same : run (begin_area i j ∷ (f.0 ++ (finish_area f.1 ∷ []))) (closed 0) b ≡ run (begin_area i j ∷ ss) (closed 0) b = ap (λ (l : List Step). run (begin_area i j ∷ l) (closed 0) b) (sym f.2) in

@@ -9,7 +9,7 @@ use Rattle.format.specs.declared.Fault.{Fault}
 use Rattle.format.specs.Result.{ok, no}
 use Rattle.put.specs.Put.{put}
 use Rattle.steps.specs.Plans.{Out, fill_all}
-use Rattle.steps.proofs.Plans.{Accepted, carry_ok, carry_no, Kept, End_by, Outside, carry_keeps}
+use Rattle.steps.proofs.Plans.{Accepted, carry_ok, carry_no, Kept, EndBy, Outside, carry_keeps}
 use Rattle.outline.specs.declared.State.{State}
 use Rattle.outline.specs.declared.Outcome.{Outcome}
 use Rattle.outline.specs.Steps.{Step, begin_area, open_ring, add_vertex, close_ring, finish_area, plan, step}
@@ -28,7 +28,7 @@ step_no s st b f q e =
     let o = carry_no (plan s st (length b)) st b f q e in
     (ap (λ (x : Out State). x.state) o, ap (λ (x : Out State). x.buffer) o)
 
-fills_end : (s : Step) (st : State) (size : ℕ) → (plan s st size).permitted ≡ true → End_by (plan s st size).at (plan s st size).fills
+fills_end : (s : Step) (st : State) (size : ℕ) → (plan s st size).permitted ≡ true → EndBy (plan s st size).at (plan s st size).fills
 fills_end (begin_area i j) st size e = tt
 fills_end (open_ring m) st size e = tt
 fills_end (add_vertex x y z) st size e = tt

@@ -15,7 +15,7 @@ use Rattle.steps.specs.Writings.{overlaid}
 use Rattle.outline.specs.declared.State.{State}
 use Rattle.outline.specs.State.{closed}
 use Rattle.outline.specs.Steps.{Step, begin_area, run}
-use Rattle.outline.specs.Spells.{polygon_steps, All_held, in_front}
+use Rattle.outline.specs.Spells.{polygon_steps, AllHeld, in_front}
 use Rattle.outline.proofs.Writes.{polygon_writes}
 use Rattle.outline.proofs.Back.{Ends, steps_wrote}
 
@@ -43,7 +43,7 @@ read_back ss st b n p e g s w =
       kept = rw (buffer, same) (drop-append_seam m (drop (length m) b));
     }
 
-pub read_written : (e i : ℕ) → e < 256 → i < 256 → (ss : List Step) → All_held ss → (st : State) (b : List ℕ) → (ended : Ends (run (begin_area e i ∷ ss) st b)) → ReadBack (begin_area e i ∷ ss) st b ended.0
+pub read_written : (e i : ℕ) → e < 256 → i < 256 → (ss : List Step) → AllHeld ss → (st : State) (b : List ℕ) → (ended : Ends (run (begin_area e i ∷ ss) st b)) → ReadBack (begin_area e i ∷ ss) st b ended.0
 read_written e i h j ss held st b ended =
     let w = steps_wrote e i h j ss held st b ended in
     read_back (begin_area e i ∷ ss) st b ended.0 w.0.area ended.1 w.0.good w.0.spelled w.1

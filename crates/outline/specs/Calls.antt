@@ -22,9 +22,9 @@ Chain [] l = Unit
 Chain (s ∷ ss) l = Held s × (next : Left) × Stepped s l.came.state l.buffer next.came next.buffer × Chain ss next
 
 -- from a call that left l on each was accepted, and the last answered n and left the buffer b'
-abbrev pub Chain_to : (ss : List Step) (l : Left) → Chain ss l → ℕ → List ℕ → Type 0
-Chain_to [] l c n b' = (l.came.answer ≡ Is n) × (l.buffer ≡ b')
-Chain_to (s ∷ ss) l c n b' = ((m : ℕ) × (l.came.answer ≡ Is m)) × Chain_to ss c.1 c.3 n b'
+abbrev pub ChainTo : (ss : List Step) (l : Left) → Chain ss l → ℕ → List ℕ → Type 0
+ChainTo [] l c n b' = (l.came.answer ≡ Is n) × (l.buffer ≡ b')
+ChainTo (s ∷ ss) l c n b' = ((m : ℕ) × (l.came.answer ≡ Is m)) × ChainTo ss c.1 c.3 n b'
 
 -- the calls of a begin and of the steps behind it on a buffer b
 abbrev pub Calls : ℕ → ℕ → List Step → List ℕ → Type 0
@@ -32,8 +32,8 @@ Calls edition internal ss b =
     (edition < 256) × (internal < 256) × (l : Left) × Stepped (begin_area edition internal) (closed 0) b l.came l.buffer × Chain ss l
 
 -- each of them was accepted, and the last answered n and left the buffer b'
-abbrev pub Calls_to : (edition internal : ℕ) (ss : List Step) (b : List ℕ) → Calls edition internal ss b → ℕ → List ℕ → Type 0
-Calls_to edition internal ss b c n b' = Chain_to ss c.2 c.4 n b'
+abbrev pub CallsTo : (edition internal : ℕ) (ss : List Step) (b : List ℕ) → Calls edition internal ss b → ℕ → List ℕ → Type 0
+CallsTo edition internal ss b c n b' = ChainTo ss c.2 c.4 n b'
 
 -- the last of some steps finishes the area
 abbrev pub Finished : List Step → Type 0

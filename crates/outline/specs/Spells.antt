@@ -28,20 +28,20 @@ abbrev pub polygon_steps : Polygon → List Step
 polygon_steps p = begin_area p.edition p.internal ∷ polygon_rest p
 
 -- What the code's types hold of a step's arguments by themselves: a byte is one, the bits of a float are 64, and a kept block has its bytes, as many as there are.
-abbrev pub Held_block : ℕ → List ℕ → Type 0
-Held_block n bs = (length bs ≡ n) × Bytes bs
+abbrev pub HeldBlock : ℕ → List ℕ → Type 0
+HeldBlock n bs = (length bs ≡ n) × Bytes bs
 
 -- a step inside an area: a begin takes no state, so it is none
 abbrev pub Held : Step → Type 0
 Held (begin_area edition internal) = ⊥
 Held (open_ring mark) = mark < 256
 Held (add_vertex x y z) = (x < 256 ^ 8) × (y < 256 ^ 8) × (z < 256 ^ 8)
-Held (close_ring kept) = Held_block ring_kept kept
-Held (finish_area kept) = Held_block body_kept kept
+Held (close_ring kept) = HeldBlock ring_kept kept
+Held (finish_area kept) = HeldBlock body_kept kept
 
-abbrev pub All_held : List Step → Type 0
-All_held [] = Unit
-All_held (s ∷ ss) = Held s × All_held ss
+abbrev pub AllHeld : List Step → Type 0
+AllHeld [] = Unit
+AllHeld (s ∷ ss) = Held s × AllHeld ss
 
 -- accepted, with the body m in front of the buffer b, and every other byte as it was
 abbrev pub in_front : List ℕ → List ℕ → Out State

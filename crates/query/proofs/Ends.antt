@@ -10,16 +10,16 @@ use native.Mathlib.Nat.{eq-or-lt_of_le}
 use native.Mathlib.Omega.{arith}
 
 -- the bytes from one on have been seen, and are equal
-abbrev pub Equal_from : (ℕ → ℕ) → List ℕ → ℕ → Type 0
-Equal_from byte ys j = (k : ℕ) → j ≤ k → k < length ys → byte k ≡ get_or ys k 0
+abbrev pub EqualFrom : (ℕ → ℕ) → List ℕ → ℕ → Type 0
+EqualFrom byte ys j = (k : ℕ) → j ≤ k → k < length ys → byte k ≡ get_or ys k 0
 
 module _ (byte : ℕ → ℕ) (ys : List ℕ) where
-  pub none_seen : (j : ℕ) → length ys ≤ j → Equal_from byte ys j
+  pub none_seen : (j : ℕ) → length ys ≤ j → EqualFrom byte ys j
   none_seen j all k after below = absurd (omega arith)
 
-  pub one_more : (j : ℕ) → Equal_from byte ys j → byte (j - 1) ≡ get_or ys (j - 1) 0 → Equal_from byte ys (j - 1)
+  pub one_more : (j : ℕ) → EqualFrom byte ys j → byte (j - 1) ≡ get_or ys (j - 1) 0 → EqualFrom byte ys (j - 1)
   one_more j seen here k after below =
       ⊎_elim (λ e. subst (λ (i : ℕ). byte i ≡ get_or ys i 0) e here) (λ later. seen k (omega arith) below) (eq-or-lt_of_le after)
 
-pub equal_from_end : (xs ys : List ℕ) → length xs ≡ length ys → Equal_from (λ k. get_or xs k 0) ys 0 → xs ≡ ys
+pub equal_from_end : (xs ys : List ℕ) → length xs ≡ length ys → EqualFrom (λ k. get_or xs k 0) ys 0 → xs ≡ ys
 equal_from_end xs ys long all = ext_get_or 0 xs ys long (λ k below. all k (omega arith) (omega arith))

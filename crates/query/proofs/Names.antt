@@ -25,7 +25,7 @@ use Rattle.places.proofs.Stands.{stands_read, stands_head, stands_tail, stands_a
 use Rattle.places.proofs.Lists.{sized}
 use Rattle.places.proofs.Layouts.{name}
 use Rattle.query.specs.Answers.{same, first_named}
-use Rattle.query.proofs.Ends.{Equal_from, equal_from_end}
+use Rattle.query.proofs.Ends.{EqualFrom, equal_from_end}
 
 -- `same` is equality
 pub same_yes : (xs : List ℕ) → same xs xs ≡ true
@@ -126,7 +126,7 @@ module _ (m : List ℕ) (count : ℕ) (wanted : List ℕ) where
 
   -- what the tests of a turn say of its name
   module _ {i at start end : ℕ} {whole : Res ℕ} (t : Turn i at start end whole) where
-    pub found_it : end - start ≡ length wanted → Equal_from (λ k. get_or m (start + k) 0) wanted 0 → ok i ≡ whole
+    pub found_it : end - start ≡ length wanted → EqualFrom (λ k. get_or m (start + k) 0) wanted 0 → ok i ≡ whole
     found_it size all =
         let long : length t.bytes ≡ length wanted = t.size ∙ size in
         t.found (equal_from_end t.bytes wanted long (λ k after below. sym (t.stand k (omega arith)) ∙ all k after below))

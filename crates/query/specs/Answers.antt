@@ -104,8 +104,8 @@ span_in (ok none) = (0, 0)
 span_in (no f p) = (0, 0)
 
 -- a slice is that part of the message itself
-abbrev pub Is_told : Bor (List ℕ) → Res (Option (ℕ × ℕ)) → Bor (List ℕ) → Type 0
-Is_told m span part = IsPart m (span_in span).0 (span_in span).1 part
+abbrev pub IsTold : Bor (List ℕ) → Res (Option (ℕ × ℕ)) → Bor (List ℕ) → Type 0
+IsTold m span part = IsPart m (span_in span).0 (span_in span).1 part
 
 -- a parameter: null, a value, or an array, by its elements' type and how many they are
 pub data Given : Type 0 where
@@ -198,4 +198,4 @@ told_argument (Argued.No r) = no r.fault r.place
 -- a text or binary value handed back: its answer says its span, and the slice beside it is that part of the message itself
 pub record Handed (m : Bor (List ℕ)) (span : Res (Option (ℕ × ℕ))) (answer : Part) (part : Bor (List ℕ)) : Type 0 where
   pub says : told_part answer ≡ span
-  pub itself : Is_told m span part
+  pub itself : IsTold m span part

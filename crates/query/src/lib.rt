@@ -17,7 +17,7 @@ ghost use Rattle.places.specs.Stands.{Stands};
 ghost use Rattle.places.specs.Places.{tables_of, table_at, column_type_at, name_at, row_at, params_of, param_at};
 ghost use Rattle.places.specs.Entries.{entry, cell_here, value_here, element_of};
 ghost use Rattle.query.specs.Shown.{past_of, cell_in, spot_of, shown_of, told_spot, told_found};
-ghost use Rattle.query.specs.Answers.{perhaps, of_table, of_param, layout_of, column_of, first_named, named_of, part_of, Is_told, given_of, ask_tables, ask_table, ask_column, ask_placed, ask_position, ask_named, ask_column_name, ask_cell, ask_cell_span, ask_cell_place, ask_parameter, ask_parameter_span, ask_element, ask_element_span, told_table, told_column, told_placed, told_named, told_cell, told_part, told_argument};
+ghost use Rattle.query.specs.Answers.{perhaps, of_table, of_param, layout_of, column_of, first_named, named_of, part_of, IsTold, given_of, ask_tables, ask_table, ask_column, ask_placed, ask_position, ask_named, ask_column_name, ask_cell, ask_cell_span, ask_cell_place, ask_parameter, ask_parameter_span, ask_element, ask_element_span, told_table, told_column, told_placed, told_named, told_cell, told_part, told_argument};
 
 use format::{Answer, Fault, Refusal};
 use message::Verdict;
@@ -550,7 +550,7 @@ fn span_of(found: FoundCell) -> Part
 
 // The part of the message that a span tells, itself, or as much of it as there is; for null and a refusal the empty part at the message's start.
 pub fn part_at(m: &[u8], span: Part) -> &[u8]
-    ensures { Is_told m.entry (told_part span) result }
+    ensures { IsTold m.entry (told_part span) result }
 {
     let Part::Is(start, size) = span else {
         return show::body_at(m, 0, 0);

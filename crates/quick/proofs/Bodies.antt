@@ -27,7 +27,7 @@ use Rattle.scan.proofs.Steps.{ruled_go}
 use Rattle.scan.proofs.Sixteen.{num_at_split}
 use Rattle.scan.proofs.Values.{plain_ends}
 use Rattle.quick.specs.declared.Sure.{Sure}
-use Rattle.quick.specs.Past.{Past, Past_body, Sure_body, most_value, plain_of}
+use Rattle.quick.specs.Past.{Past, PastBody, SureBody, most_value, plain_of}
 
 module _ (s : List ℕ) (at : ℕ) where
   pub number_reads : (k : ℕ) → at + k ≤ length s → (number k 0).read s at ≡ ok (num_at k s at, at + k)
@@ -38,7 +38,7 @@ module _ (s : List ℕ) (at : ℕ) where
   number_past k small there = (omega arith, omega arith, λ h. ap shown_next (number_reads k h))
 
   -- a counted body or a null whose bytes its rule permits
-  pub body_past : (rule : List ℕ → Verdict) (r : ℕ) → Past_body s at r
+  pub body_past : (rule : List ℕ → Verdict) (r : ℕ) → PastBody s at r
       → (r ≤ length s → r ≡ at + 4 + num_at 4 s at → rule (take (num_at 4 s at) (drop (at + 4) s)) ≡ fine)
       → Past s at ((string true rule 0 0).read s at) r
   body_past rule r is fit there = by_test (eqb n null4) refl (is there)
@@ -65,17 +65,17 @@ module _ (s : List ℕ) (at : ℕ) where
                 ap shown_next read.0 ∙ ap (λ (v : Verdict). shown_next (judged v (take n (drop (at + 4) s), at + 4 + n) at)) (fit h place) ∙ ap Next.At (sym place),
           )
 
-  pub string_past : (r : ℕ) → Past_body s at r → Past s at ((string true anything 0 0).read s at) r
+  pub string_past : (r : ℕ) → PastBody s at r → Past s at ((string true anything 0 0).read s at) r
   string_past r is = body_past anything r is (λ h e. refl)
 
   -- a text whose bytes were looked at and none of which tears it
-  pub text_past : (r : ℕ) → Past_body s at r → at + 4 ≤ r → {found : Found} → found ≡ shown_at (utf8_from 0 0 (take (r - (at + 4)) (drop (at + 4) s))) → found ≡ Found.Nothing
+  pub text_past : (r : ℕ) → PastBody s at r → at + 4 ≤ r → {found : Found} → found ≡ shown_at (utf8_from 0 0 (take (r - (at + 4)) (drop (at + 4) s))) → found ≡ Found.Nothing
       → Past s at ((string true utf8 0 0).read s at) r
   text_past r is after {found} e none = body_past utf8 r is (λ h place.
       let size : r - (at + 4) ≡ num_at 4 s at = omega arith in
       finds_texts.passes (take (num_at 4 s at) (drop (at + 4) s)) (sym (ap (λ (n : ℕ). shown_at (utf8_from 0 0 (take n (drop (at + 4) s)))) size) ∙ sym e ∙ none))
 
-  pub geography_past : (r : ℕ) → 0 < num_at 4 s at → Past_body s at r → Past s at ((string true not_empty 0 0).read s at) r
+  pub geography_past : (r : ℕ) → 0 < num_at 4 s at → PastBody s at r → Past s at ((string true not_empty 0 0).read s at) r
   geography_past r filled is = body_past not_empty r is (λ h e.
       let room : num_at 4 s at ≤ length (drop (at + 4) s) = simp length-drop (omega arith) in
       let size = length-take-le (num_at 4 s at) (drop (at + 4) s) room in
@@ -115,10 +115,10 @@ module _ (s : List ℕ) (at end : ℕ) (place : end ≡ at + 4 + num_at 4 s at) 
       let read = whole false limit rule l b s at n (at + 4) (number_reads s at 4 (omega arith)) refl (omega arith) few room in
       read.0 ∙ ap (λ (v : Verdict). judged v (bs, at + 4 + n) at) permits ∙ ap (λ (p : ℕ). ok (some bs, p)) (sym place)
 
-module _ (s : List ℕ) (at most : ℕ) {b : Sure} {start end : ℕ} (is : Sure_body s at most b) (told : b ≡ Sure.Is start end) where
+module _ (s : List ℕ) (at most : ℕ) {b : Sure} {start end : ℕ} (is : SureBody s at most b) (told : b ≡ Sure.Is start end) where
   -- what is known of a body that surely is one
-  pub sure : Sure_body s at most (Sure.Is start end)
-  sure = subst (Sure_body s at most) told is
+  pub sure : SureBody s at most (Sure.Is start end)
+  sure = subst (SureBody s at most) told is
 
   pub room_reads : most ≤ unlimited → Body.Is start end ≡ shown_body at ((counted false unlimited anything 0 0).read s at)
   room_reads few =

@@ -19,7 +19,7 @@ use Rattle.scan.proofs.Answers.{next_go}
 use Rattle.scan.proofs.Counted.{here, room_full}
 use Rattle.scan.proofs.Loops.{Rest, replicate-formats, loop_done, loop_turn, loop_stop}
 use Rattle.quick.specs.declared.Run.{Run}
-use Rattle.quick.specs.Past.{Ends, Plain_row, Run_of, most_plain}
+use Rattle.quick.specs.Past.{Ends, PlainRow, RunOf, most_plain}
 use Rattle.quick.proofs.Bodies.{counted_reads}
 
 module _ {A : Type 0} (s : List ℕ) where
@@ -54,7 +54,7 @@ module _ {A : Type 0} (f : Format A) (s : List ℕ) (n i at : ℕ) (h : i < n) {
   ends_stop told out = sym (left f s n i at) ∙ loop_stop second (λ j. f) s n i at h e told out
 
 -- after a run of readings
-pub ends_run : {A : Type 0} (f : Format A) (s : List ℕ) (from n i at : ℕ) (r : Run) → Run_of f s at (n - i) r → Ends f s (n - i) at ≡ Ends f s n from → Ends f s (n - (i + r.passed)) r.at ≡ Ends f s n from
+pub ends_run : {A : Type 0} (f : Format A) (s : List ℕ) (from n i at : ℕ) (r : Run) → RunOf f s at (n - i) r → Ends f s (n - i) at ≡ Ends f s n from → Ends f s (n - (i + r.passed)) r.at ≡ Ends f s n from
 ends_run f s from n i at r run all =
     let same : n - (i + r.passed) ≡ n - i - r.passed = omega arith in
     ap (λ (k : ℕ). Ends f s k r.at) same ∙ run.1 ∙ all
@@ -69,7 +69,7 @@ module _ (types : List ℕ) (s : List ℕ) (at end : ℕ) (few : num_at 4 s at �
       let go = next_go ((each third 0 (map (value 50 51) types)).read (take end s) (at + 4)) refl told in
       ap shown_next (room_full most_row 49 (each third 0 (map (value 50 51) types)) s at h go.1 refl)
 
-pub plain_row_reads : (types : List ℕ) (plain : ℕ) (s : List ℕ) (at : ℕ) → Plain_row types plain → 0 < plain → plain ≤ most_plain → at + (4 + plain) ≤ length s → num_at 4 s at ≡ plain
+pub plain_row_reads : (types : List ℕ) (plain : ℕ) (s : List ℕ) (at : ℕ) → PlainRow types plain → 0 < plain → plain ≤ most_plain → at + (4 + plain) ≤ length s → num_at 4 s at ≡ plain
     → shown_next ((row types).read s at) ≡ Next.At (at + (4 + plain))
 plain_row_reads types plain s at is there small fit size =
     let end = at + (4 + plain) in

@@ -32,17 +32,17 @@ module _ {A : Type 0} where
   Surely x r = 0 < r → shown_next x ≡ Next.At r
 
 -- a counted body of at most so many bytes, which fits
-abbrev pub Sure_body : List ℕ → ℕ → ℕ → Sure → Type 0
-Sure_body s at most (Sure.Is start end) = (start ≡ at + 4) × (end ≡ at + 4 + num_at 4 s at) × (num_at 4 s at ≤ most) × (end ≤ length s)
-Sure_body s at most Sure.Not = Unit
+abbrev pub SureBody : List ℕ → ℕ → ℕ → Sure → Type 0
+SureBody s at most (Sure.Is start end) = (start ≡ at + 4) × (end ≡ at + 4 + num_at 4 s at) × (num_at 4 s at ≤ most) × (end ≤ length s)
+SureBody s at most Sure.Not = Unit
 
 -- how many bytes follow a length
 abbrev pub size_of : ℕ → ℕ
 size_of n = pick (eqb n null4) 0 n
 
 -- a counted body or a null
-abbrev pub Past_body : List ℕ → ℕ → ℕ → Type 0
-Past_body s at r = 0 < r → (at + 4 ≤ length s) × (size_of (num_at 4 s at) ≤ most_bytes) × (r ≡ at + 4 + size_of (num_at 4 s at))
+abbrev pub PastBody : List ℕ → ℕ → ℕ → Type 0
+PastBody s at r = 0 < r → (at + 4 ≤ length s) × (size_of (num_at 4 s at) ≤ most_bytes) × (r ≡ at + 4 + size_of (num_at 4 s at))
 
 -- how many bytes a value has whose type has one size and no rule; 0 for any other
 abbrev pub plain_of : ℕ → ℕ
@@ -53,12 +53,12 @@ abbrev pub most_plain : ℕ
 most_plain = 8 * most_columns
 
 -- a row of these types: any r bytes are its cells
-abbrev pub Plain_row : List ℕ → ℕ → Type 0
-Plain_row types r = 0 < r → (s : List ℕ) (at : ℕ) → at + r ≤ length s → shown_next ((each third 0 (map (value 50 51) types)).read s at) ≡ Next.At (at + r)
+abbrev pub PlainRow : List ℕ → ℕ → Type 0
+PlainRow types r = 0 < r → (s : List ℕ) (at : ℕ) → at + r ≤ length s → shown_next ((each third 0 (map (value 50 51) types)).read s at) ≡ Next.At (at + r)
 
 -- whether a row of so many bytes stands at a place
-abbrev pub Row_of : List ℕ → ℕ → ℕ → Bool → Type 0
-Row_of s at plain t = t ≡ true → (at + (4 + plain) ≤ length s) × (num_at 4 s at ≡ plain)
+abbrev pub RowOf : List ℕ → ℕ → ℕ → Bool → Type 0
+RowOf s at plain t = t ≡ true → (at + (4 + plain) ≤ length s) × (num_at 4 s at ≡ plain)
 
 module _ {A : Type 0} (f : Format A) (s : List ℕ) where
   -- where n readings by one format end
@@ -66,9 +66,9 @@ module _ {A : Type 0} (f : Format A) (s : List ℕ) where
   Ends n at = shown_next ((each second 0 (replicate n f)).read s at)
 
   -- after some of n readings, those that are left end where all do
-  abbrev pub Run_of : ℕ → ℕ → Run → Type 0
-  Run_of from n r = (r.passed ≤ n) × (Ends (n - r.passed) r.at ≡ Ends n from)
+  abbrev pub RunOf : ℕ → ℕ → Run → Type 0
+  RunOf from n r = (r.passed ≤ n) × (Ends (n - r.passed) r.at ≡ Ends n from)
 
 -- the same of rows of so many bytes, whatever their types, if any such bytes are their cells
-abbrev pub Plain_run : List ℕ → ℕ → ℕ → ℕ → Run → Type 0
-Plain_run s from n plain r = (r.passed ≤ n) × ((types : List ℕ) → Plain_row types plain → Ends (row types) s (n - r.passed) r.at ≡ Ends (row types) s n from)
+abbrev pub PlainRun : List ℕ → ℕ → ℕ → ℕ → Run → Type 0
+PlainRun s from n plain r = (r.passed ≤ n) × ((types : List ℕ) → PlainRow types plain → Ends (row types) s (n - r.passed) r.at ≡ Ends (row types) s n from)

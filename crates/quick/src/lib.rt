@@ -11,7 +11,7 @@ ghost use Rattle.format.specs.Text.{utf8};
 ghost use Rattle.format.specs.Value.{value, string, ascii, anything, not_empty, decimal_fine, point_fine};
 ghost use Rattle.format.specs.Message.{second, third, row, most_columns, unlimited};
 ghost use Rattle.scan.specs.Shown.{shown_next, shown_body};
-ghost use Rattle.quick.specs.Past.{Low, Past, Past_body, Plain_row, Plain_run, Row_of, Run_of, Sure_body, Surely, Within, most_plain, plain_of, size_of};
+ghost use Rattle.quick.specs.Past.{Low, Past, PastBody, PlainRow, PlainRun, RowOf, RunOf, SureBody, Surely, Within, most_plain, plain_of, size_of};
 
 use scan::{Body, Next};
 use text::Found;
@@ -45,7 +45,7 @@ enum Sure {
 // The counted body of at most so many bytes whose length stands at a place, if it fits. It is no null's. The limit is far below the least length that has a
 // sign: for a test of the sign by itself the compiler would read the length byte by byte.
 fn sure_body(s: &[u8], at: usize, most: u64) -> Sure
-    ensures { Sure_body s.now at most result }
+    ensures { SureBody s.now at most result }
 {
     if s.len() < at {
         return Sure::Not;
@@ -97,7 +97,7 @@ struct Run {
 
 // Past as many of n names as are surely fine.
 fn past_names(s: &[u8], from: usize, n: usize) -> Run
-    ensures { Run_of (string false ascii 46 47) s.now from n result }
+    ensures { RunOf (string false ascii 46 47) s.now from n result }
 {
     let mut at = from;
     let mut i = 0;
@@ -133,7 +133,7 @@ fn body_size(n: u64) -> u64
 // Past a counted body or a null.
 fn past_body(s: &[u8], at: usize) -> usize
     requires { Low at }
-    ensures { Past_body s.now at result }
+    ensures { PastBody s.now at result }
 {
     if s.len() < at + 4 {
         return 0;
@@ -290,7 +290,7 @@ fn past_row(s: &[u8], at: usize, types: &[u8]) -> usize
 // Past as many of n rows as are surely fine.
 fn past_rows(s: &[u8], from: usize, types: &[u8], n: usize) -> Run
     requires { length types.now ≤ most_columns }
-    ensures { Run_of (row types.now) s.now from n result }
+    ensures { RunOf (row types.now) s.now from n result }
 {
     let mut at = from;
     let mut i = 0;
@@ -345,7 +345,7 @@ fn plain_of(t: u8) -> usize
 // How many bytes the cells of a row have if every column's type has one size and no rule; else 0.
 fn plain_row(types: &[u8]) -> usize
     requires { length types.now ≤ most_columns }
-    ensures { Plain_row types.now result × (result ≤ most_plain) }
+    ensures { PlainRow types.now result × (result ≤ most_plain) }
 {
     let mut sum = 0;
     let mut i = 0;
@@ -363,7 +363,7 @@ fn plain_row(types: &[u8]) -> usize
 // Whether a row of so many bytes stands at a place.
 fn is_plain(s: &[u8], at: usize, plain: usize) -> bool
     requires { plain ≤ most_plain }
-    ensures { Row_of s.now at plain result }
+    ensures { RowOf s.now at plain result }
 {
     if s.len() < at {
         return false;
@@ -377,7 +377,7 @@ fn is_plain(s: &[u8], at: usize, plain: usize) -> bool
 // Past as many of n rows as have so many bytes. No row is asked more whose columns have no rule.
 fn plain_rows(s: &[u8], from: usize, n: usize, plain: usize) -> Run
     requires { (0 < plain) × (plain ≤ most_plain) }
-    ensures { Plain_run s.now from n plain result }
+    ensures { PlainRun s.now from n plain result }
 {
     let mut at = from;
     let mut i = 0;

@@ -21,9 +21,9 @@ Holds m Span.Null (some bs) = ⊥
 Holds m Span.Absent o = ⊥
 
 -- and a string that is not there as absent
-abbrev pub Holds_note : List ℕ → Span → Option (Option (List ℕ)) → Type 0
-Holds_note m x none = x ≡ Span.Absent
-Holds_note m x (some o) = Holds m x o
+abbrev pub HoldsNote : List ℕ → Span → Option (Option (List ℕ)) → Type 0
+HoldsNote m x none = x ≡ Span.Absent
+HoldsNote m x (some o) = Holds m x o
 
 module _ (s : List ℕ) (at : ℕ) where
   pub text_held : (nullable : Bool) (rule : List ℕ → Verdict) (l b : ℕ) (o : Option (List ℕ)) (next : ℕ) → (string nullable rule l b).read s at ≡ ok (o, next) → Holds s (span_of at o) o

@@ -35,7 +35,7 @@ use Rattle.record.specs.Spans.{span_of, note_of}
 use Rattle.record.specs.Records.{record_in, login_request_of, login_response_of, invocation_of, response_of}
 use Rattle.record.specs.Peeks.{number_at, text_at, noted_at, block_at, login_at, login_request_at, server_at, login_response_at, invocation_at}
 use Rattle.record.proofs.Fields.{spot}
-use Rattle.record.proofs.Holds.{Holds_note}
+use Rattle.record.proofs.Holds.{HoldsNote}
 use Rattle.record.proofs.Says.{number_says, text_says, list_says, trip_says, notice, number_both, ruled_both, block_both, text_both, noted_both, said}
 
 -- ---- an answer's record
@@ -96,7 +96,7 @@ module _ (m : List ℕ) (v : ℕ) (version : number_at m 4 1 ≡ record { n = v;
       let read : (Rest none).read m 5 ≡ ok (a, end) = ap₂ (λ (x : Option ℕ) (y : ℕ). (Rest x).read m y) gone at ∙ rest in
       rw (version, is) (login_rest 5 Edition.Absent none a end read ∙ ap (put a) gone)
 
-  login_says : (l : wire.Login_request) (end : ℕ) → (login_request v).read m 5 ≡ ok (l, end) → login_request_at m ≡ login_request_of v l
+  login_says : (l : wire.LoginRequest) (end : ℕ) → (login_request v).read m 5 ≡ ok (l, end) → login_request_at m ≡ login_request_of v l
   unfolding login_request
   login_says l end e =
       let p = into_parts m _ _ (both (present (eqb v 1) 0 (edition 3)) Rest) 5 l end e in
@@ -131,12 +131,12 @@ module _ (m : List ℕ) (v : ℕ) (version : number_at m 4 1 ≡ record { n = v;
       rw (version, first, is) (server_says r p.0 end p.1 ∙ ap (login_response_of v r) p.2)
   by_result false r first is o end e = rw (version, first, is) (ap (λ (w : Option Server × ℕ). login_response_of v r w.0) (ok_same e))
 
-  response_2 : (l : wire.Login_response) (end : ℕ) → login_response.read m 5 ≡ ok (l, end) → login_response_at m ≡ login_response_of v l.result l.server
+  response_2 : (l : wire.LoginResponse) (end : ℕ) → login_response.read m 5 ≡ ok (l, end) → login_response_at m ≡ login_response_of v l.result l.server
   unfolding login_response
   response_2 l end e =
       let p = into_parts m _ _ (both (number 1 10) (λ r. present (eqb r 0) no_server server)) 5 l end e in
       let q = number_both m 5 1 10 (λ r. present (eqb r 0) no_server server) p.0 end p.1 in
-      by_result (eqb p.0.0 0) p.0.0 q.0 refl p.0.1 end q.1 ∙ ap (λ (x : wire.Login_response). login_response_of v x.result x.server) p.2
+      by_result (eqb p.0.0 0) p.0.0 q.0 refl p.0.1 end q.1 ∙ ap (λ (x : wire.LoginResponse). login_response_of v x.result x.server) p.2
 
 pub login_response_says : (m : List ℕ) (r : Message) → read_message 2 m ≡ ok r
     → login_response_at m ≡ login_response_of r.version (wire.the_login_response r.content).result (wire.the_login_response r.content).server
@@ -185,9 +185,9 @@ module _ (timed : Bool) (m : List ℕ) where
   pub record Replied (l : wire.Response) : Type 0 where
     pub client : (block_at m 5 ≡ record { bytes = l.head.client; next = 13 }) × (take (length l.head.client) (drop 5 m) ≡ l.head.client)
     pub flags : number_at m 13 1 ≡ record { n = l.head.flags; next = 14 }
-    pub status : (noted_at m 14 1 (flagged 32 l.head.flags) true ≡ notice l.head.status 15 l.head.status_string) × Holds_note m (note_of 15 l.head.status_string) l.head.status_string
-    pub app : (noted_at m (app_at l) 1 (flagged 128 l.head.flags) true ≡ notice l.head.app_status (app_at l + 1) l.head.app_string) × Holds_note m (note_of (app_at l + 1) l.head.app_string) l.head.app_string
-    pub trip : (noted_at m (trip_at l) (trip_size timed) (flagged 64 l.head.flags) false ≡ notice (get_or l.head.round_trip 0) (exception_at l) l.head.exception) × Holds_note m (note_of (exception_at l) l.head.exception) l.head.exception
+    pub status : (noted_at m 14 1 (flagged 32 l.head.flags) true ≡ notice l.head.status 15 l.head.status_string) × HoldsNote m (note_of 15 l.head.status_string) l.head.status_string
+    pub app : (noted_at m (app_at l) 1 (flagged 128 l.head.flags) true ≡ notice l.head.app_status (app_at l + 1) l.head.app_string) × HoldsNote m (note_of (app_at l + 1) l.head.app_string) l.head.app_string
+    pub trip : (noted_at m (trip_at l) (trip_size timed) (flagged 64 l.head.flags) false ≡ notice (get_or l.head.round_trip 0) (exception_at l) l.head.exception) × HoldsNote m (note_of (exception_at l) l.head.exception) l.head.exception
     pub tables : number_at m (after_note (exception_at l) l.head.exception) 2 ≡ record { n = length l.tables; next = after_note (exception_at l) l.head.exception + 2 }
 
   pub replied : (l : wire.Response) (end : ℕ) → (response timed).read m 5 ≡ ok (l, end) → Replied l

@@ -24,7 +24,7 @@ use Rattle.record.specs.declared.Num.{Num}
 use Rattle.record.specs.declared.Noted.{Noted}
 use Rattle.record.specs.Spans.{span_of, note_of}
 use Rattle.record.specs.Peeks.{num_in, spot_in, block_in, number_at, text_at, note_at, block_at, noted_at}
-use Rattle.record.proofs.Holds.{Holds, Holds_note, text_held}
+use Rattle.record.proofs.Holds.{Holds, HoldsNote, text_held}
 use Rattle.record.proofs.Fields.{spot, note_absent, note_there}
 
 -- ---- what the code finds
@@ -61,13 +61,13 @@ module _ (s : List ℕ) (at : ℕ) where
       let gone : none ≡ o = ap (λ (w : Option (Option (List ℕ)) × ℕ). w.0) same in
       (sym (note_absent s at false nullable refl) ∙ ap (λ (x : Option (Option (List ℕ))). spot (note_of at x) (after_note at x)) gone, sym (ap (λ (w : Option (Option (List ℕ)) × ℕ). w.1) same) ∙ ap (after_note at) gone)
 
-  pub note_held : (there nullable : Bool) (rule : List ℕ → Verdict) (l b : ℕ) (o : Option (Option (List ℕ))) (next : ℕ) → (present there none (string nullable rule l b)).read s at ≡ ok (o, next) → Holds_note s (note_of at o) o
+  pub note_held : (there nullable : Bool) (rule : List ℕ → Verdict) (l b : ℕ) (o : Option (Option (List ℕ))) (next : ℕ) → (present there none (string nullable rule l b)).read s at ≡ ok (o, next) → HoldsNote s (note_of at o) o
   unfolding present nothing
   note_held true nullable rule l b o next e =
       let p = into_parts s some _ (string nullable rule l b) at o next e in
-      subst (λ (x : Option (Option (List ℕ))). Holds_note s (note_of at x) x) p.2 (text_held s at nullable rule l b p.0 next p.1)
+      subst (λ (x : Option (Option (List ℕ))). HoldsNote s (note_of at x) x) p.2 (text_held s at nullable rule l b p.0 next p.1)
   note_held false nullable rule l b o next e =
-      subst (λ (x : Option (Option (List ℕ))). Holds_note s (note_of at x) x) (ap (λ (w : Option (Option (List ℕ)) × ℕ). w.0) (ok_same e)) refl
+      subst (λ (x : Option (Option (List ℕ))). HoldsNote s (note_of at x) x) (ap (λ (w : Option (Option (List ℕ)) × ℕ). w.0) (ok_same e)) refl
 
   module _ {A : Type 0} (most field : ℕ) (ix : ℕ → Index → Index) (f : Format A) where
     -- a count, and so many values
@@ -86,7 +86,7 @@ notice n from o = record { number = n; span = note_of from o; next = after_note 
 
 module _ (s : List ℕ) (at : ℕ) where
   pub noted_says : (k field : ℕ) (there nullable : Bool) (rule : List ℕ → Verdict) (l b : ℕ) (v : ℕ × Option (Option (List ℕ))) (next : ℕ) → (noted (number k field) there none (string nullable rule l b)).read s at ≡ ok (v, next)
-      → (noted_at s at k there nullable ≡ notice v.0 (at + k) v.1) × (next ≡ after_note (at + k) v.1) × Holds_note s (note_of (at + k) v.1) v.1
+      → (noted_at s at k there nullable ≡ notice v.0 (at + k) v.1) × (next ≡ after_note (at + k) v.1) × HoldsNote s (note_of (at + k) v.1) v.1
   noted_says k field there nullable rule l b v next e =
       let q = both_parts s (number k field) (λ n. present there none (string nullable rule l b)) at v next e in
       let n = number_says s at k field v.0 q.0 q.1 in
@@ -120,7 +120,7 @@ module _ (s : List ℕ) (at : ℕ) where
   -- with the exception after it
   pub trip_says : (timed there : Bool) (v : Option ℕ × Option (Option (List ℕ))) (next : ℕ) → (noted (trip timed) there none (binary 38 39)).read s at ≡ ok (v, next)
       → (noted_at s at (trip_size timed) there false ≡ notice (get_or v.0 0) (after_number 4 at v.0) v.1) × (next ≡ after_note (after_number 4 at v.0) v.1)
-      × Holds_note s (note_of (after_number 4 at v.0) v.1) v.1
+      × HoldsNote s (note_of (after_number 4 at v.0) v.1) v.1
   trip_says timed there v next e =
       let q = both_parts s (trip timed) (λ n. present there none (binary 38 39)) at v next e in
       let n = maybe_says timed v.0 q.0 q.1 in
@@ -160,7 +160,7 @@ module _ {B : Type 0} (s : List ℕ) (at : ℕ) where
 
   pub noted_both : (k field : ℕ) (there nullable : Bool) (rule : List ℕ → Verdict) (l b : ℕ) (g : ℕ × Option (Option (List ℕ)) → Format B) (v : (ℕ × Option (Option (List ℕ))) × B) (next : ℕ)
       → (both (noted (number k field) there none (string nullable rule l b)) g).read s at ≡ ok (v, next)
-      → (noted_at s at k there nullable ≡ notice v.0.0 (at + k) v.0.1) × ((g v.0).read s (after_note (at + k) v.0.1) ≡ ok (v.1, next)) × Holds_note s (note_of (at + k) v.0.1) v.0.1
+      → (noted_at s at k there nullable ≡ notice v.0.0 (at + k) v.0.1) × ((g v.0).read s (after_note (at + k) v.0.1) ≡ ok (v.1, next)) × HoldsNote s (note_of (at + k) v.0.1) v.0.1
   noted_both k field there nullable rule l b g v next e =
       let q = both_parts s (noted (number k field) there none (string nullable rule l b)) g at v next e in
       let t = noted_says s at k field there nullable rule l b v.0 q.0 q.1 in

@@ -27,7 +27,7 @@ abbrev pub edition_of : Option ℕ → Edition
 edition_of none = Edition.Absent
 edition_of (some n) = Edition.Is (signed 1 n)
 
-abbrev pub login_request_of : ℕ → wire.Login_request → LoginRequestRecord
+abbrev pub login_request_of : ℕ → wire.LoginRequest → LoginRequestRecord
 login_request_of version l =
     let service = after_number 1 5 l.hash_version in
     let user = after_text service l.service in

@@ -114,15 +114,15 @@ module _ (b : List ℕ) (at : ℕ) (bs : List ℕ) (h : at + length bs ≤ lengt
   put_apart i (behind k) = put_after i k
 
 -- fields that end by n, and bytes that stand in none of them
-abbrev pub End_by : ℕ → List Fill → Type 0
-End_by n [] = Unit
-End_by n (f ∷ fs) = (f.at + f.width ≤ n) × End_by n fs
+abbrev pub EndBy : ℕ → List Fill → Type 0
+EndBy n [] = Unit
+EndBy n (f ∷ fs) = (f.at + f.width ≤ n) × EndBy n fs
 
 abbrev pub Outside : List Fill → ℕ → Type 0
 Outside [] i = Unit
 Outside (f ∷ fs) i = Apart i f.at f.width × Outside fs i
 
-fill_keeps : (fs : List Fill) (n : ℕ) (b : List ℕ) → n ≤ length b → End_by n fs → Kept b (fill_all fs b) n (Outside fs)
+fill_keeps : (fs : List Fill) (n : ℕ) (b : List ℕ) → n ≤ length b → EndBy n fs → Kept b (fill_all fs b) n (Outside fs)
 fill_keeps [] n b h e = record { size = refl; behind = refl; other = λ i o. refl }
 fill_keeps (f ∷ fs) n b h e =
     let bs = num_bytes f.width f.number in
@@ -138,7 +138,7 @@ fill_keeps (f ∷ fs) n b h e =
     }
 
 -- a step that is accepted keeps all bytes from its new position on, and all before its old one but those that it fills
-plan_keeps : {S : Type 0} (p : Plan S) (b : List ℕ) (n : ℕ) → n ≡ p.at + length p.bytes → n ≤ length b → End_by p.at p.fills
+plan_keeps : {S : Type 0} (p : Plan S) (b : List ℕ) (n : ℕ) → n ≡ p.at + length p.bytes → n ≤ length b → EndBy p.at p.fills
     → Kept b (fill_all p.fills (put b p.at p.bytes)) n (λ i. (i < p.at) × Outside p.fills i)
 plan_keeps p b n e h f =
     let fit : p.at + length p.bytes ≤ length b = omega arith in
@@ -156,7 +156,7 @@ plan_keeps p b n e h f =
     }
 
 -- the same of a plan that is carried out, where what it fills ends by its place if it is permitted
-pub carry_keeps : {S : Type 0} (p : Plan S) (st : S) (b : List ℕ) (n : ℕ) → (carry p st b).answer ≡ ok n → (p.permitted ≡ true → End_by p.at p.fills)
+pub carry_keeps : {S : Type 0} (p : Plan S) (st : S) (b : List ℕ) (n : ℕ) → (carry p st b).answer ≡ ok n → (p.permitted ≡ true → EndBy p.at p.fills)
     → Kept b (carry p st b).buffer n (λ i. (i < p.at) × Outside p.fills i)
 carry_keeps p st b n e f =
     let a = carry_ok p st b n e in

@@ -19,7 +19,7 @@ use Rattle.steps.specs.Plans.{Out}
 use Rattle.steps.specs.Arguments.{opened}
 use Rattle.steps.specs.Logins.{Welcome}
 use Rattle.steps.specs.Spells.{opening_of}
-use Rattle.steps.specs.Writings.{Writing, request_call, response_call, call_steps, reply_steps, kind_of, written, in_front, Held_writing, welcome_of, writing_of, no_welcome, trimmed, overlaid}
+use Rattle.steps.specs.Writings.{Writing, request_call, response_call, call_steps, reply_steps, kind_of, written, in_front, HeldWriting, welcome_of, writing_of, no_welcome, trimmed, overlaid}
 use Rattle.steps.proofs.Back.{Ends}
 use Rattle.steps.proofs.CallBack.{call_wrote}
 use Rattle.steps.proofs.ReplyBack.{reply_wrote}
@@ -60,7 +60,7 @@ welcome_kept true w = refl
 welcome_kept false w = refl
 
 -- reading what an accepted writing left gives the record that the writing spells
-pub read_written : (w : Writing) → Held_writing w → (st : State) (b : List ℕ) → (e : Ends (written w st b)) → ReadBack w st b e.0
+pub read_written : (w : Writing) → HeldWriting w → (st : State) (b : List ℕ) → (e : Ends (written w st b)) → ReadBack w st b e.0
 read_written (request_call version h service user hash) k st b e =
     read_back (request_call version h service user hash) st b e.0 _ e.1 (request_wrote version h service user hash k.0 k.1 k.2 k.3 k.4 b e.0 e.1)
     (ap (λ (x : ℕ). request_call version x service user hash) (hash_version_kept (eqb version 1) h))

@@ -5,7 +5,7 @@ use Rattle.format.specs.declared.Fault.TheVariants.{Short, Extra, Version}
 use Rattle.format.specs.Result.{pick}
 use Rattle.format.specs.Format.{Verdict, fine}
 use Rattle.format.specs.Text.{utf8}
-use Rattle.format.specs.Message.{a_login_request, a_login_response, Login_request, Login_response, message_bytes, hash_size}
+use Rattle.format.specs.Message.{a_login_request, a_login_response, LoginRequest, LoginResponse, message_bytes, hash_size}
 use Rattle.steps.specs.State.{State, closed}
 use Rattle.steps.specs.Plans.{Plan, Out, carry, also, test}
 use Rattle.steps.specs.Arguments.{text_fault}
@@ -15,7 +15,7 @@ abbrev pub login_plan : Verdict → List ℕ → Plan State
 login_plan faults bs = record { permitted = true; faults = faults; limits = true; most = message_end; at = 0; bytes = bs; fills = []; next = λ n. closed n }
 
 -- in version 0 the hash version is ignored
-abbrev pub written_request : ℕ → ℕ → List ℕ → List ℕ → List ℕ → Login_request
+abbrev pub written_request : ℕ → ℕ → List ℕ → List ℕ → List ℕ → LoginRequest
 written_request version hash_version service user hash =
     record { hash_version = pick (eqb version 1) (some hash_version) none; service = some service; user = some user; hash = hash }
 
@@ -42,7 +42,7 @@ pub record Welcome : Type 0 where
   pub leader : ℕ
   pub build : List ℕ
 
-abbrev pub written_response : ℕ → Welcome → Login_response
+abbrev pub written_response : ℕ → Welcome → LoginResponse
 written_response result w = record {
   result = result;
   server = pick (eqb result 0) (some (record { host = w.host; connection = w.connection; start = w.start; leader = w.leader; build = some w.build })) none;

@@ -9,7 +9,7 @@ use Rattle.steps.specs.Plans.{Out}
 use Rattle.steps.specs.Arguments.{Opening, opened}
 use Rattle.steps.specs.Steps.{Step, begin_call, begin_reply, run}
 use Rattle.steps.specs.Logins.{Welcome, login_request, login_response}
-use Rattle.steps.specs.Spells.{text_of, call_rest, reply_rest, opening_of, All_held, Held_client, HeldOpening, HeldWelcome}
+use Rattle.steps.specs.Spells.{text_of, call_rest, reply_rest, opening_of, AllHeld, HeldClient, HeldOpening, HeldWelcome}
 
 pub data Writing : Type 0 where
   request_call : ℕ → ℕ → List ℕ → List ℕ → List ℕ → Writing  -- version, hash version, service, user, hash
@@ -39,11 +39,11 @@ abbrev pub in_front : List ℕ → List ℕ → Out State
 in_front b m = record { answer = ok (length m); state = closed (length m); buffer = overlaid b m }
 
 -- the code's types hold its arguments
-abbrev pub Held_writing : Writing → Type 0
-Held_writing (request_call version hash_version service user hash) = (version < 256) × (hash_version < 256) × Bytes service × Bytes user × Bytes hash
-Held_writing (response_call version result w) = (version < 256) × (result < 256) × HeldWelcome w
-Held_writing (call_steps version procedure client ss) = (version < 256) × Bytes procedure × Held_client client × All_held ss
-Held_writing (reply_steps version o ss) = (version < 256) × HeldOpening o × All_held ss
+abbrev pub HeldWriting : Writing → Type 0
+HeldWriting (request_call version hash_version service user hash) = (version < 256) × (hash_version < 256) × Bytes service × Bytes user × Bytes hash
+HeldWriting (response_call version result w) = (version < 256) × (result < 256) × HeldWelcome w
+HeldWriting (call_steps version procedure client ss) = (version < 256) × Bytes procedure × HeldClient client × AllHeld ss
+HeldWriting (reply_steps version o ss) = (version < 256) × HeldOpening o × AllHeld ss
 
 -- what a login response says after a result of 0
 abbrev pub welcome_of : Option Server → Welcome

@@ -12,7 +12,7 @@ use Rattle.tally.specs.Task.{doing, wanted, acted, seen_to, Calm, visited}
 use Rattle.tally.specs.Walks.{state_of}
 use Rattle.tally.proofs.Tables.{Ended}
 use Rattle.tally.specs.declared.Tally.{Tally}
-use Rattle.tally.specs.Tallies.{counting, Tallied, Room_end}
+use Rattle.tally.specs.Tallies.{counting, Tallied, RoomEnd}
 
 -- how many fields are seen after n more
 unfoldable pub seen_after : ℕ → ℕ → ℕ
@@ -87,7 +87,7 @@ pub fields_tile : {A : Type 0} {f : Format A} → Lawful f → (s : List ℕ) �
 fields_tile {A} {f} l s by ix at a next e = let w = l.sound s by at a next e in rw w.1.far (l.tiles ix at a w.0)
 
 -- a count of a room's fields, at the room's end by its length
-pub tallied_ended : {A : Type 0} {f : Format A} {s : List ℕ} {from last after : Tally} {end : ℕ} → Tallied f s from last → Room_end s from.at end
+pub tallied_ended : {A : Type 0} {f : Format A} {s : List ℕ} {from last after : Tally} {end : ℕ} → Tallied f s from last → RoomEnd s from.at end
     → ((a : A) (next : ℕ) → f.read s from.at ≡ ok (a, next) → Ended s from.at next) → after ≡ record { at = end; seen = last.seen } → Tallied f s from after
 tallied_ended {A} {f} {s} {from} {last} {after} {end} counted far ends is = record {
   walks = λ ix. rw is (record {

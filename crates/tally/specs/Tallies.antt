@@ -17,8 +17,8 @@ pub record Tallied {A : Type 0} (f : Format A) (s : List ℕ) (from after : Tall
   pub walks : (ix : Index) → Walked f s ix (counting from) [] (counting after) []
 
 -- where the room ends whose length stands at a place
-abbrev pub Room_end : List ℕ → ℕ → ℕ → Type 0
-Room_end s at r = (n next : ℕ) → (number 4 0).read s at ≡ ok (n, next) → next + n ≤ length s → r ≡ next + n
+abbrev pub RoomEnd : List ℕ → ℕ → ℕ → Type 0
+RoomEnd s at r = (n next : ℕ) → (number 4 0).read s at ≡ ok (n, next) → next + n ≤ length s → r ≡ next + n
 
 -- the types all have fixed sizes, which add up to so many bytes
 abbrev pub Fixed : List ℕ → Type 0

@@ -7,7 +7,7 @@ ghost use Rattle.format.specs.Result.{ok, pick};
 ghost use Rattle.format.specs.Number.{null4};
 ghost use Rattle.format.specs.Value.{string, ascii, value, width_of};
 ghost use Rattle.format.specs.Message.{second, third, column_type, Metadata, metadata, row, table};
-ghost use Rattle.tally.specs.Tallies.{Room_end, counting, Tallied, most_fixed, FixedRow, Standing};
+ghost use Rattle.tally.specs.Tallies.{RoomEnd, counting, Tallied, most_fixed, FixedRow, Standing};
 ghost use Rattle.tally.specs.declared.Indices.{Indices};
 ghost use Rattle.tally.specs.Walks.{Stepped};
 
@@ -63,7 +63,7 @@ fn length_at(s: &[u8], at: usize) -> u64
 
 // Where the room ends whose length stands at a place.
 pub fn room_end(s: &[u8], at: usize) -> usize
-    ensures { Room_end s.now at result }
+    ensures { RoomEnd s.now at result }
 {
     let n = length_at(s, at);
     let start = bytes_on(s, at, 4);

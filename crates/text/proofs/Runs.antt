@@ -14,9 +14,9 @@ use Rattle.format.specs.Format.{Verdict, fine, bad}
 use Rattle.format.specs.Value.{ascii_from}
 use Rattle.format.specs.Text.{sequence, utf8_from}
 use Rattle.format.proofs.Texts.{utf8_low, utf8_next, utf8_stop}
-use Rattle.text.specs.Shown.{Low_run, sequence_at, up_to}
+use Rattle.text.specs.Shown.{LowRun, sequence_at, up_to}
 
-pub low_none : (b : List ℕ) (i : ℕ) → Low_run b i 0
+pub low_none : (b : List ℕ) (i : ℕ) → LowRun b i 0
 low_none b i k l = absurd (omega arith)
 
 -- what holds of each place from s on, and in a run that begins there or before its end
@@ -30,7 +30,7 @@ run_join P s i j n m h g all first more k l = by_test (ltb k i) refl
         let same : j + (s + k - j) ≡ s + k = omega arith in
         subst P same (more (s + k - j) (omega arith))
 
-pub low_join : (b : List ℕ) (i j n : ℕ) → j ≤ i → Low_run b 0 i → Low_run b j n → Low_run b 0 (j + n)
+pub low_join : (b : List ℕ) (i j n : ℕ) → j ≤ i → LowRun b 0 i → LowRun b j n → LowRun b 0 (j + n)
 low_join b i j n h = run_join (λ p. get_or b p 0 < 128) 0 i j n (j + n) (omega arith) (omega arith) (omega arith)
 
 -- k bytes from a place on, none of which is above a top, and one more
@@ -61,7 +61,7 @@ module _ (from : ℕ → List ℕ → Verdict) (low : (k a : ℕ) (bs : List ℕ
   pub turn : (i : ℕ) → i < length b → get_or b i 0 < 128 → from i (drop i b) ≡ from (i + 1) (drop (i + 1) b)
   turn i h l = let next : suc i ≡ i + 1 = omega arith in rw (drop-cons b i 0, next) (low i (get_or b i 0) (drop (i + 1) b) l)
 
-  pub run : (n : ℕ) → n ≤ length b → Low_run b 0 n → from n (drop n b) ≡ from 0 b
+  pub run : (n : ℕ) → n ≤ length b → LowRun b 0 n → from n (drop n b) ≡ from 0 b
   run zero h all = refl
   run (suc n) h all =
       let next : suc n ≡ n + 1 = omega arith in

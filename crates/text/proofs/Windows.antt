@@ -13,7 +13,7 @@ use Rattle.format.specs.Format.{fine}
 use Rattle.format.specs.Text.{from_to, tail, utf8_from}
 use Rattle.format.proofs.Texts.{utf8_low, utf8_next}
 use Rattle.text.specs.Shown.{second_of_three, second_of_four}
-use Rattle.text.specs.Windows.{unlike, goes_on, wrong_pair, wrong_after, Right_run, Between}
+use Rattle.text.specs.Windows.{unlike, goes_on, wrong_pair, wrong_after, RightRun, Between}
 use Rattle.text.proofs.Sequences.{inside, two_of, three_of, four_of}
 use Rattle.text.proofs.Runs.{run_join}
 
@@ -137,11 +137,11 @@ Rights a b c [] = goes_on a b c ≡ false
 Rights a b c (d ∷ ds) = (wrong_after a b c d ≡ false) × Rights b c d ds
 
 -- n such bytes at most, after three where no sequence goes on, are a text
-abbrev Are_text : ℕ → Type 0
-Are_text n = (k a b c : ℕ) (bs : List ℕ) → length bs ≤ n → Rights a b c bs → goes_on a b c ≡ false → utf8_from k 0 bs ≡ fine
+abbrev AreText : ℕ → Type 0
+AreText n = (k a b c : ℕ) (bs : List ℕ) → length bs ≤ n → Rights a b c bs → goes_on a b c ≡ false → utf8_from k 0 bs ≡ fine
 
 -- a sequence, and the bytes after it
-module _ (n : ℕ) (rest : Are_text n) (k b c d : ℕ) (low : c < 0xc0) where
+module _ (n : ℕ) (rest : AreText n) (k b c d : ℕ) (low : c < 0xc0) where
   goes_after : {e : ℕ} → 0xbf < d → wrong_after b c d e ≡ false → Tail e
   goes_after {e} h r = goes b c d e r (goes_last b c d h)
 
@@ -190,30 +190,30 @@ module _ (n : ℕ) (rest : Are_text n) (k b c d : ℕ) (low : c < 0xc0) where
       by_first false e false f true g = three_bytes ds h r (leb-false d 0xdf f) (leb-true d 0xef g)
       by_first false e false f false g = four_bytes ds h r (leb-false d 0xef g)
 
-none_left : Are_text 0
+none_left : AreText 0
 unfolding utf8_from
 none_left k a b c [] h r s = refl
 none_left k a b c (d ∷ ds) h r s = absurd (omega arith)
 
-some_left : (n : ℕ) → Are_text n → Are_text (suc n)
+some_left : (n : ℕ) → AreText n → AreText (suc n)
 unfolding utf8_from
 some_left n rest k a b c [] h r s = refl
 some_left n rest k a b c (d ∷ ds) h r s = one_more n rest k b c d (stopped a b c s).0 a ds (omega arith) r.0 r.1 s
 
-rights_text : (n : ℕ) → Are_text n
+rights_text : (n : ℕ) → AreText n
 rights_text zero = none_left
 rights_text (suc n) = some_left n (rights_text n)
 
 -- ---- and of places
 module _ (b : List ℕ) where
-  abbrev pub Right_at : ℕ → Type 0
-  Right_at p = wrong_after (get_or b p 0) (get_or b (p + 1) 0) (get_or b (p + 2) 0) (get_or b (p + 3) 0) ≡ false
+  abbrev pub RightAt : ℕ → Type 0
+  RightAt p = wrong_after (get_or b p 0) (get_or b (p + 1) 0) (get_or b (p + 2) 0) (get_or b (p + 3) 0) ≡ false
 
   -- one more such byte
-  pub right_more : (i k : ℕ) → Right_run b i k → Right_at (i + k) → Right_run b i (k + 1)
-  right_more i k run one = run_join Right_at i k (i + k) 1 (k + 1) (omega arith) (omega arith) (omega arith) run (λ j h. subst Right_at (omega arith) one)
+  pub right_more : (i k : ℕ) → RightRun b i k → RightAt (i + k) → RightRun b i (k + 1)
+  right_more i k run one = run_join RightAt i k (i + k) 1 (k + 1) (omega arith) (omega arith) (omega arith) run (λ j h. subst RightAt (omega arith) one)
 
-  rights_from : (i n : ℕ) → i + n + 3 ≡ length b → Right_run b i n → Between b (i + n) → Rights (get_or b i 0) (get_or b (i + 1) 0) (get_or b (i + 2) 0) (drop (i + 3) b)
+  rights_from : (i n : ℕ) → i + n + 3 ≡ length b → RightRun b i n → Between b (i + n) → Rights (get_or b i 0) (get_or b (i + 1) 0) (get_or b (i + 2) 0) (drop (i + 3) b)
   rights_from i zero all run stop =
       let far : length b ≤ i + 3 = omega arith in
       let none : drop (i + 3) b ≡ [] = drop_of_length-le b far in
@@ -221,12 +221,12 @@ module _ (b : List ℕ) where
       rw none (subst (Between b) here stop)
   rights_from i (suc n) all run stop =
       let here : i + 0 ≡ i = omega arith in
-      let more = rights_from (i + 1) n (omega arith) (λ k h. subst Right_at (omega arith) (run (suc k) (omega arith))) (subst (Between b) (omega arith) stop) in
+      let more = rights_from (i + 1) n (omega arith) (λ k h. subst RightAt (omega arith) (run (suc k) (omega arith))) (subst (Between b) (omega arith) stop) in
       let two : i + 1 + 1 ≡ i + 2 = omega arith in
       let three : i + 1 + 2 ≡ i + 3 = omega arith in
       let four : i + 1 + 3 ≡ suc (i + 3) = omega arith in
       let within : i + 3 < length b = omega arith in
-      rw (drop-cons b (i + 3) 0) (subst Right_at here (run 0 (omega arith)), rw (two, three, four) at more)
+      rw (drop-cons b (i + 3) 0) (subst RightAt here (run 0 (omega arith)), rw (two, three, four) at more)
 
-  pub windows_text : (i n : ℕ) → i + n + 3 ≡ length b → Right_run b i n → Between b i → Between b (i + n) → utf8_from (i + 3) 0 (drop (i + 3) b) ≡ fine
+  pub windows_text : (i n : ℕ) → i + n + 3 ≡ length b → RightRun b i n → Between b i → Between b (i + n) → utf8_from (i + 3) 0 (drop (i + 3) b) ≡ fine
   windows_text i n all run start stop = rights_text (length (drop (i + 3) b)) (i + 3) _ _ _ (drop (i + 3) b) (omega arith) (rights_from i n all run stop) start

@@ -12,8 +12,8 @@ shown_at fine = Found.Nothing
 shown_at (bad f k) = Found.At k
 
 -- the n bytes from a place on are ASCII
-abbrev pub Low_run : List ℕ → ℕ → ℕ → Type 0
-Low_run b i n = (k : ℕ) → k < n → get_or b (i + k) 0 < 128
+abbrev pub LowRun : List ℕ → ℕ → ℕ → Type 0
+LowRun b i n = (k : ℕ) → k < n → get_or b (i + k) 0 < 128
 
 -- how many bytes the sequence has that begins at a place
 abbrev pub sequence_at : List ℕ → ℕ → ℕ

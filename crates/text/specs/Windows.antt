@@ -22,8 +22,8 @@ abbrev pub wrong_after : ℕ → ℕ → ℕ → ℕ → Bool
 wrong_after a b c d = unlike (goes_on a b c) (tail d) || wrong_pair c d
 
 -- the n bytes that follow the three at a place may stand where they do
-abbrev pub Right_run : List ℕ → ℕ → ℕ → Type 0
-Right_run b i n = (k : ℕ) → k < n → wrong_after (get_or b (i + k) 0) (get_or b (i + k + 1) 0) (get_or b (i + k + 2) 0) (get_or b (i + k + 3) 0) ≡ false
+abbrev pub RightRun : List ℕ → ℕ → ℕ → Type 0
+RightRun b i n = (k : ℕ) → k < n → wrong_after (get_or b (i + k) 0) (get_or b (i + k + 1) 0) (get_or b (i + k + 2) 0) (get_or b (i + k + 3) 0) ≡ false
 
 -- no sequence goes on after the three bytes at a place
 abbrev pub Between : List ℕ → ℕ → Type 0

@@ -6,8 +6,8 @@ ghost use Rattle.std.specs.Prelude.{◌≡◌, ℕ, ◌+◌, ◌-◌, ◌<◌, �
 ghost use Rattle.format.specs.Value.{ascii, ascii_from};
 ghost use Rattle.format.specs.Format.{fine};
 ghost use Rattle.format.specs.Text.{from_to, tail, sequence, utf8_from};
-ghost use Rattle.text.specs.Shown.{Low_run, shown_at, sequence_at, up_to, second_of_three, second_of_four};
-ghost use Rattle.text.specs.Windows.{unlike, goes_on, wrong_pair, wrong_after, Right_run, Between};
+ghost use Rattle.text.specs.Shown.{LowRun, shown_at, sequence_at, up_to, second_of_three, second_of_four};
+ghost use Rattle.text.specs.Windows.{unlike, goes_on, wrong_pair, wrong_after, RightRun, Between};
 
 // Where something was found.
 #[derive(Drop)]
@@ -28,7 +28,7 @@ fn joined(a: u8, b: u8) -> u8
 // Whether none of the n bytes at a place is above 127.
 fn are_low(b: &[u8], i: usize, n: usize) -> bool
     requires { i + n ≤ length b.now }
-    ensures { result ≡ true → Low_run b.now i n }
+    ensures { result ≡ true → LowRun b.now i n }
 {
     let mut top = 0;
     let mut k = 0;
@@ -43,7 +43,7 @@ fn are_low(b: &[u8], i: usize, n: usize) -> bool
 // itself. No answer is that of the last test: the compiler would join it with those of other ways, and then makes no single test of several bytes.
 fn is_ascii_by(b: &[u8], step: usize) -> bool
     requires { (0 < step) × (step ≤ length b.now) }
-    ensures { result ≡ true → Low_run b.now 0 (length b.now) }
+    ensures { result ≡ true → LowRun b.now 0 (length b.now) }
 {
     let last = b.len() - step;
     if !are_low(b, last, step) {
@@ -246,7 +246,7 @@ fn is_wrong(a: u8, b: u8, c: u8, d: u8) -> bool
 // Whether each of 16 bytes may stand after the three before it, the first of which is at a place.
 fn are_right(b: &[u8], i: usize) -> bool
     requires { i + 19 ≤ length b.now }
-    ensures { result ≡ true → Right_run b.now i 16 }
+    ensures { result ≡ true → RightRun b.now i 16 }
 {
     let mut wrong = false;
     let mut k = 0;
@@ -269,7 +269,7 @@ fn is_between(b: &[u8], i: usize) -> bool
 // Whether each of the bytes that follow the three at a place, up to those at another place, may stand where it does.
 fn all_right(b: &[u8], start: usize, end: usize) -> bool
     requires { (start + 16 ≤ end) × (end + 3 ≤ length b.now) }
-    ensures { result ≡ true → Right_run b.now start (end - start) }
+    ensures { result ≡ true → RightRun b.now start (end - start) }
 {
     let mut i = start;
     while i + 16 <= end {
@@ -323,7 +323,7 @@ fn well_formed(b: &[u8]) -> usize
 
 // Of fewer than 8 bytes.
 fn is_short_ascii(b: &[u8]) -> bool
-    ensures { result ≡ true → Low_run b.now 0 (length b.now) }
+    ensures { result ≡ true → LowRun b.now 0 (length b.now) }
 {
     let mut i = 0;
     while i < b.len() {
@@ -336,7 +336,7 @@ fn is_short_ascii(b: &[u8]) -> bool
 }
 
 fn is_ascii(b: &[u8]) -> bool
-    ensures { result ≡ true → Low_run b.now 0 (length b.now) }
+    ensures { result ≡ true → LowRun b.now 0 (length b.now) }
 {
     if b.len() < 8 {
         return is_short_ascii(b);

@@ -11,7 +11,7 @@ use Rattle.tally.specs.Walks.{Walked}
 use Rattle.tally.specs.Tallies.{counting, Tallied}
 use Rattle.tally.proofs.Tables.{Ended}
 use Rattle.tally.proofs.Counts.{seen_after, tiles_few, calm_fewer, visited_calm, fields_tile}
-use Rattle.tour.specs.Calms.{tally_of, resumed, Calm_room}
+use Rattle.tour.specs.Calms.{tally_of, resumed, CalmRoom}
 
 module _ {A : Type 0} {f : Format A} (l : Lawful f) (s : List ℕ) (by : Bytes s) {ix : Index} (tour : Tour) (out : List ℕ) where
   -- a walk whose fields aren't wanted, by a count of them
@@ -31,7 +31,7 @@ module _ {A : Type 0} {f : Format A} (l : Lawful f) (s : List ℕ) (by : Bytes s
   }
 
   -- the same of a room that is quiet by its length
-  pub walked_quiet : {r : Bool} {after : Tally} → Calm_room s (length out) tour r → r ≡ true → ((a : A) (next : ℕ) → f.read s tour.at ≡ ok (a, next) → Ended s tour.at next)
+  pub walked_quiet : {r : Bool} {after : Tally} → CalmRoom s (length out) tour r → r ≡ true → ((a : A) (next : ℕ) → f.read s tour.at ≡ ok (a, next) → Ended s tour.at next)
       → Tallied f s (tally_of tour) after → Walked f s ix tour out (resumed tour after) out
   walked_quiet quiet is ends counted = walked_calm counted (λ a next e.
       let d = ends a next e in

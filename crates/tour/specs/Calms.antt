@@ -16,12 +16,12 @@ abbrev pub resumed : Tour → Tally → Tour
 resumed t c = record { at = c.at; task = seen_to t.task c.seen }
 
 -- the room whose length stands at a tour's place is calm
-abbrev pub Calm_room : List ℕ → ℕ → Tour → Bool → Type 0
-Calm_room s room t r = r ≡ true → (n next : ℕ) → (number 4 0).read s t.at ≡ ok (n, next) → next + n ≤ length s → Calm t.task room (next + n) (next + n - t.at)
+abbrev pub CalmRoom : List ℕ → ℕ → Tour → Bool → Type 0
+CalmRoom s room t r = r ≡ true → (n next : ℕ) → (number 4 0).read s t.at ≡ ok (n, next) → next + n ≤ length s → Calm t.task room (next + n) (next + n - t.at)
 
 -- so many of n rows, each of so many bytes and so many fields, aren't wanted from a place on
-abbrev pub Calm_rows : Task → ℕ → ℕ → ℕ → ℕ → ℕ → ℕ → Type 0
-Calm_rows t room at size fields n r = (r ≤ n) × (0 < r → Calm t room (at + r * size) (r * fields))
+abbrev pub CalmRows : Task → ℕ → ℕ → ℕ → ℕ → ℕ → ℕ → Type 0
+CalmRows t room at size fields n r = (r ≤ n) × (0 < r → Calm t room (at + r * size) (r * fields))
 
 -- and they stand there
 pub record CalmRun (s : List ℕ) (room : ℕ) (t : Tour) (size fields n : ℕ) (r : ℕ) : Type 0 where

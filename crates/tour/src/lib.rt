@@ -9,7 +9,7 @@ ghost use Rattle.format.specs.Value.{string, ascii, value};
 ghost use Rattle.format.specs.Message.{first, second, third, items, argument, param, invocation, login_request, server, login_response, column_type, metadata, row, table, trip, after_flags, head, response, content_of, most_columns, unlimited};
 ghost use Rattle.message.specs.Login.{login};
 ghost use Rattle.tally.specs.Task.{list_task, doing, acted, wanted, six, Calm};
-ghost use Rattle.tour.specs.Calms.{tally_of, resumed, Calm_room, Calm_rows, CalmRun};
+ghost use Rattle.tour.specs.Calms.{tally_of, resumed, CalmRoom, CalmRows, CalmRun};
 ghost use Rattle.tally.specs.Tallies.{most_fixed};
 ghost use Rattle.tour.specs.Tour.{fields_of, task_after, out_after};
 ghost use Rattle.tally.specs.Walks.{index_of, Stepped, Walked};
@@ -604,7 +604,7 @@ fn is_calm(task: Task, room: usize, end: usize, n: usize) -> bool
 // Whether nothing is wanted of the room whose length stands at a tour's place: a field has a byte at least. Where even what ends here would be wanted,
 // as in a list of all fields, no more is asked.
 fn is_quiet(s: &[u8], room: usize, tour: Tour) -> bool
-    ensures { Calm_room s.now room tour result }
+    ensures { CalmRoom s.now room tour result }
 {
     let at = tour.at;
     let task = tour.task;
@@ -638,7 +638,7 @@ fn lesser(a: usize, b: usize) -> usize
 // How many of n rows, each of so many bytes and so many fields, surely aren't wanted from a place on.
 fn calm_rows(task: Task, room: usize, at: usize, size: usize, fields: usize, n: usize) -> usize
     requires { (0 < size) × (0 < fields) }
-    ensures { Calm_rows task room at size fields n result }
+    ensures { CalmRows task room at size fields n result }
 {
     if room / 6 <= task.taken {
         return n;

@@ -24,7 +24,7 @@ use Rattle.areas.specs.declared.Seen.{Seen}
 use Rattle.areas.specs.Passes.{survey_of}
 use Rattle.areas.proofs.Surveys.{ring_place}
 use Rattle.areas.proofs.Stands.{number_is, count_stands, vertices_good, vertex_size, ring_kept_stands}
-use Rattle.turn.specs.Turning.{Each, Changing, Block, itself, Some_ring, Turned_ring, Rings, Reversed}
+use Rattle.turn.specs.Turning.{Each, Changing, Block, itself, SomeRing, TurnedRing, Rings, Reversed}
 use Rattle.turn.proofs.Changes.{First, first_left}
 use Rattle.turn.proofs.Reversals.{flat_size}
 
@@ -120,10 +120,10 @@ unfolding block
 ring_size {s} {at} {r} d = size_is r.mark r.vertices r.kept (vertices_good d) (ring_kept_stands d).good.0
 
 -- the first of some rings that are left stands, and when it is turned the others are left
-pub ring_left : {s target : List ℕ} {at left : ℕ} → Rings s target at (suc left) → Some_ring s at
+pub ring_left : {s target : List ℕ} {at left : ℕ} → Rings s target at (suc left) → SomeRing s at
 ring_left h = let f = first_left ring.bytes (λ r. ring.bytes (turned_ring r)) ring.Good h in (f.one, record { good = f.fine; before = f.front; after = f.rest; whole = f.stands; start = f.place })
 
-pub ring_done : {s target : List ℕ} {at left next : ℕ} {s' : List ℕ} → Rings s target at (suc left) → Turned_ring s at next s' → Rings s' target next left
+pub ring_done : {s target : List ℕ} {at left next : ℕ} {s' : List ℕ} → Rings s target at (suc left) → TurnedRing s at next s' → Rings s' target next left
 ring_done {s} {target} {at} {left} {next} {s'} h turn =
     let f = first_left ring.bytes (λ r. ring.bytes (turned_ring r)) ring.Good h in
     let w = turn f.one (record { good = f.fine; before = f.front; after = f.rest; whole = f.stands; start = f.place }) in

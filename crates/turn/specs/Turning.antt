@@ -38,18 +38,18 @@ Reversed s at n s' =
     → s' ≡ front ++ (flat_map itself (reverse blocks) ++ back)
 
 -- a ring is turned, and ends where it did
-abbrev pub Some_ring : List ℕ → ℕ → Type 0
-Some_ring s at = (r : Ring) × Stands ring s at r
+abbrev pub SomeRing : List ℕ → ℕ → Type 0
+SomeRing s at = (r : Ring) × Stands ring s at r
 
-abbrev pub Turned_ring : List ℕ → ℕ → ℕ → List ℕ → Type 0
-Turned_ring s at next s' = (r : Ring) (d : Stands ring s at r) → (next ≡ at + length (ring.bytes r)) × (s' ≡ d.before ++ (ring.bytes (turned_ring r) ++ d.after))
+abbrev pub TurnedRing : List ℕ → ℕ → ℕ → List ℕ → Type 0
+TurnedRing s at next s' = (r : Ring) (d : Stands ring s at r) → (next ≡ at + length (ring.bytes r)) × (s' ≡ d.before ++ (ring.bytes (turned_ring r) ++ d.after))
 
 -- so many rings
 abbrev pub Rings : List ℕ → List ℕ → ℕ → ℕ → Type 0
 Rings = Changing ring.bytes (λ r. ring.bytes (turned_ring r)) ring.Good
 
-abbrev pub Some_rings : List ℕ → ℕ → ℕ → Type 0
-Some_rings s at n = (target : List ℕ) × Rings s target at n
+abbrev pub SomeRings : List ℕ → ℕ → ℕ → Type 0
+SomeRings s at n = (target : List ℕ) × Rings s target at n
 
-abbrev pub Turned_rings : List ℕ → ℕ → ℕ → List ℕ → Type 0
-Turned_rings s at n s' = (target : List ℕ) → Rings s target at n → s' ≡ target
+abbrev pub TurnedRings : List ℕ → ℕ → ℕ → List ℕ → Type 0
+TurnedRings s at n s' = (target : List ℕ) → Rings s target at n → s' ≡ target

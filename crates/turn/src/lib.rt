@@ -7,7 +7,7 @@ ghost use Rattle.format.specs.Result.{told_answer};
 ghost use Rattle.format.specs.Geography.{Ring, ring, turned_ring, turned_body};
 ghost use Rattle.places.specs.Stands.{Stands};
 ghost use Rattle.areas.specs.Answers.{ask_rings};
-ghost use Rattle.turn.specs.Turning.{Reversed, Mended, Turned_ring, Turned_rings, Some_ring, Some_rings};
+ghost use Rattle.turn.specs.Turning.{Reversed, Mended, TurnedRing, TurnedRings, SomeRing, SomeRings};
 
 use areas::Surveyed;
 use format::Answer;
@@ -27,8 +27,8 @@ pub fn turn_holes(b: &mut [u8]) -> Answer
 
 // Turns n rings from a place on.
 fn turn_rings(b: &mut [u8], from: usize, n: usize)
-    requires { Some_rings b.old from n }
-    ensures { Turned_rings b.old from n b.new }
+    requires { SomeRings b.old from n }
+    ensures { TurnedRings b.old from n b.new }
 {
     let mut at = from;
     let mut i = 0;
@@ -43,8 +43,8 @@ const SECOND_VERTEX: usize = 5 + format::VERTEX;
 
 // Turns the ring at a place, and says where it ends.
 fn turn_ring(b: &mut [u8], at: usize) -> usize
-    requires { Some_ring b.old at }
-    ensures { Turned_ring b.old at result b.new }
+    requires { SomeRing b.old at }
+    ensures { TurnedRing b.old at result b.new }
 {
     let others = quick::four(b, at + 1) as usize - 1;
     let second = at + SECOND_VERTEX;

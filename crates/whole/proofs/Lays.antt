@@ -35,9 +35,9 @@ use Rattle.write.specs.Shared.{tabled}
 use Rattle.write.proofs.Taken.{shown_ok, shown_no}
 use Rattle.write.proofs.Seen.{tabled_shown}
 use Rattle.rows.proofs.Cells.{cell_fine}
-use Rattle.whole.specs.Rows.{value_in, cell_step, steps_from, cell_steps, run_each, whole_row, Wrote_row}
+use Rattle.whole.specs.Rows.{value_in, cell_step, steps_from, cell_steps, run_each, whole_row, WroteRow}
 use Rattle.whole.specs.Asked.{answers, in_row, row_answer, Opened}
-use Rattle.whole.specs.Laid.{upper_of, lower_of, Fits, cell_bytes, cell_at, laid, Fit_all}
+use Rattle.whole.specs.Laid.{upper_of, lower_of, Fits, cell_bytes, cell_at, laid, FitAll}
 use Rattle.whole.proofs.Values.{cell_stands, cell_bytes_lem}
 use Rattle.whole.proofs.Answers.{ground, columns_few, types_are}
 
@@ -75,12 +75,12 @@ none_put b at n v e = (sym (ap (λ (k : ℕ). at + k) e ∙ add-zero at), sym (a
 
 -- the next cell, of those that are left, and no cell left
 module _ (bytes types ns : List ℕ) (pairs : ℕ) where
-  pub fit_next : (k at size : ℕ) → k < pairs → Fit_all bytes types ns k (pairs - k) at size
-      → Fits bytes (get_or types k 0) (get_or ns (2 * k) 0) (get_or ns (2 * k + 1) 0) at size × Fit_all bytes types ns (k + 1) (pairs - (k + 1)) (at + length (cell_at bytes types ns k)) size
-  unfolding Fit_all
+  pub fit_next : (k at size : ℕ) → k < pairs → FitAll bytes types ns k (pairs - k) at size
+      → Fits bytes (get_or types k 0) (get_or ns (2 * k) 0) (get_or ns (2 * k + 1) 0) at size × FitAll bytes types ns (k + 1) (pairs - (k + 1)) (at + length (cell_at bytes types ns k)) size
+  unfolding FitAll
   fit_next k at size h f =
       let left : pairs - k ≡ suc (pairs - (k + 1)) = omega arith in
-      subst (λ (m : ℕ). Fit_all bytes types ns k m at size) left f
+      subst (λ (m : ℕ). FitAll bytes types ns k m at size) left f
 
   pub lay_next : (k at : ℕ) (b : List ℕ) → k < pairs
       → laid bytes types ns (k + 1) (pairs - (k + 1)) (at + length (cell_at bytes types ns k)) (put b at (cell_at bytes types ns k)) ≡ laid bytes types ns k (pairs - k) at b
@@ -90,9 +90,9 @@ module _ (bytes types ns : List ℕ) (pairs : ℕ) where
       sym (ap (λ (m : ℕ). laid bytes types ns k m at b) left)
 
   -- a cell that was written
-  pub lay_turn : (k at : ℕ) (b : List ℕ) {r : ℕ} {c whole : List ℕ} → k < pairs → Fit_all bytes types ns k (pairs - k) at (length b) → laid bytes types ns k (pairs - k) at b ≡ whole
+  pub lay_turn : (k at : ℕ) (b : List ℕ) {r : ℕ} {c whole : List ℕ} → k < pairs → FitAll bytes types ns k (pairs - k) at (length b) → laid bytes types ns k (pairs - k) at b ≡ whole
       → (r ≡ at + length (cell_at bytes types ns k)) × (c ≡ put b at (cell_at bytes types ns k)) → length c ≡ length b
-      → Fit_all bytes types ns (k + 1) (pairs - (k + 1)) r (length c) × (laid bytes types ns (k + 1) (pairs - (k + 1)) r c ≡ whole)
+      → FitAll bytes types ns (k + 1) (pairs - (k + 1)) r (length c) × (laid bytes types ns (k + 1) (pairs - (k + 1)) r c ≡ whole)
   lay_turn k at b h f e w l = rw (l, w.0, w.1) ((fit_next k at (length b) h f).1, lay_next k at b h ∙ e)
 
   pub lay_end : (k at : ℕ) (b : List ℕ) → pairs ≤ k → b ≡ laid bytes types ns k (pairs - k) at b
@@ -126,7 +126,7 @@ run_answer (some s ∷ ss) st b = go (λ st c. run_answer ss st c) (answer_of (p
 module _ (bytes ns raw : List ℕ) (st : State) (agree : (k : ℕ) → k < length st.outer.types → get_or raw k 0 ≡ get_or st.outer.types k 0) where
   -- cells that are taken, and the closing behind them
   pub record Gone (k left at : ℕ) (b : List ℕ) (n : ℕ) : Type 0 where
-    pub fits : Fit_all bytes raw ns k left at (length b)
+    pub fits : FitAll bytes raw ns k left at (length b)
     pub low : at ≤ n
     pub all : k + left ≡ length st.outer.types
     pub ran : run_each (steps_from bytes st.outer.types ns k left) (in_row st at k) b ≡ record {
@@ -136,7 +136,7 @@ module _ (bytes ns raw : List ℕ) (st : State) (agree : (k : ℕ) → k < lengt
     }
 
   closes : (k at : ℕ) (b : List ℕ) (n : ℕ) → answers (steps_from bytes st.outer.types ns k 0) (in_row st at k) (length b) ≡ ok n → Gone k 0 at b n
-  unfolding answers steps_from run_each laid Fit_all
+  unfolding answers steps_from run_each laid FitAll
   closes k at b n e =
       let s = in_row st at k in
       let size = length b in
@@ -154,7 +154,7 @@ module _ (bytes ns raw : List ℕ) (st : State) (agree : (k : ℕ) → k < lengt
       → ((n' : ℕ) (c : List ℕ) → answers (steps_from bytes st.outer.types ns (k + 1) left) (in_row st n' (k + 1)) (length c) ≡ ok n → Gone (k + 1) left n' c n)
       → let t = get_or st.outer.types k 0 in (v : Option Value) → value_in bytes t (get_or ns (2 * k) 0) (get_or ns (2 * k + 1) 0) ≡ v
       → answers (cell_step t v ∷ steps_from bytes st.outer.types ns (k + 1) left) (in_row st at k) (length b) ≡ ok n → Gone k (suc left) at b n
-  unfolding answers steps_from run_each laid Fit_all
+  unfolding answers steps_from run_each laid FitAll
   cell_first left k at b n more none q e = absurd (no_ok e)
   cell_first left k at b n more (some v) q e =
       let t = get_or st.outer.types k 0 in
@@ -180,7 +180,7 @@ module _ (bytes ns raw : List ℕ) (st : State) (agree : (k : ℕ) → k < lengt
       record {
         fits = (
           record { stands = λ counted. cell_stands bytes t _ _ v q (ap is_counted (sym (agree k less)) ∙ counted); room = omega arith },
-          subst (λ (m : ℕ). Fit_all bytes raw ns (k + 1) left m size) reached (subst (λ (m : ℕ). Fit_all bytes raw ns (k + 1) left n' m) long rest.fits),
+          subst (λ (m : ℕ). FitAll bytes raw ns (k + 1) left m size) reached (subst (λ (m : ℕ). FitAll bytes raw ns (k + 1) left n' m) long rest.fits),
         );
         low = omega arith;
         all = omega arith;
@@ -198,7 +198,7 @@ pub record Taken (bytes ns raw : List ℕ) (st : State) (b : List ℕ) (n : ℕ)
   pub few : st.position + 4 ≤ length b
   pub pairs : length ns / 2 ≡ length st.outer.types
   pub low : st.position + 4 ≤ n
-  pub fits : Fit_all bytes raw ns 0 (length ns / 2) (st.position + 4) (length b)
+  pub fits : FitAll bytes raw ns 0 (length ns / 2) (st.position + 4) (length b)
   pub whole : whole_row bytes ns st b ≡ record {
     answer = ok n;
     state = table_at Table n st 0 0 (st.outer.rows + 1);
@@ -226,7 +226,7 @@ row_taken bytes ns raw st b n agree e =
       few = omega arith;
       pairs = omega arith;
       low = omega arith;
-      fits = subst (λ (m : ℕ). Fit_all bytes raw ns 0 (length ns / 2) m size) is (subst (λ (m : ℕ). Fit_all bytes raw ns 0 (length ns / 2) first m) long g.fits);
+      fits = subst (λ (m : ℕ). FitAll bytes raw ns 0 (length ns / 2) m size) is (subst (λ (m : ℕ). FitAll bytes raw ns 0 (length ns / 2) first m) long g.fits);
       whole = rw (took, g.ran)
           (ap {B = Out State} (λ (m : ℕ). record {
             answer = ok n;
@@ -242,7 +242,7 @@ row_no bytes ns st b f p e = rw (run_answer (some open_row ∷ cell_steps bytes 
 
 -- the same in the code's terms
 module _ (bytes ns : List ℕ) (st : Code) (types b : List ℕ) where
-  pub refused : {a : Answer} {x : Refusal} → a ≡ shown_answer (row_answer bytes ns (seen st types) (length b)) → a ≡ No x → Wrote_row bytes ns st types b (record { answer = a; state = st }) b
+  pub refused : {a : Answer} {x : Refusal} → a ≡ shown_answer (row_answer bytes ns (seen st types) (length b)) → a ≡ No x → WroteRow bytes ns st types b (record { answer = a; state = st }) b
   refused {a} {x} e f =
       let w = row_no bytes ns (seen st types) b x.fault x.place (shown_no _ e f) in
       (ap {B = Outcome} (λ (y : Answer). record { answer = y; state = st }) f ∙ sym (ap (came st) w), sym (ap (λ (o : Out State). o.buffer) w))
@@ -267,7 +267,7 @@ module _ (bytes ns : List ℕ) (st : Code) (types b : List ℕ) where
 
   pub wrote : {n first : ℕ} {next : Code} {c₁ c₂ c₃ : List ℕ} → Accepts n → length types ≡ most_columns → next ≡ tabled st Table n 0 0 (st.rows + 1)
       → (first ≡ st.position + 4) × (c₁ ≡ put b st.position (num_bytes 4 0)) → c₂ ≡ laid bytes types ns 0 (length ns / 2) first c₁ → c₃ ≡ put c₂ st.position (num_bytes 4 (n - first))
-      → Wrote_row bytes ns st types b (record { answer = Is n; state = next }) c₃
+      → WroteRow bytes ns st types b (record { answer = Is n; state = next }) c₃
   wrote {n} a long e w₁ w₂ w₃ =
       let o = a.taken.whole in (
         ap {B = Outcome} (λ (y : Code). record { answer = Is n; state = y }) (e ∙ tabled_shown st types Table n 0 0 (st.rows + 1) long) ∙ sym (ap (came st) o),

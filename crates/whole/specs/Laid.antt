@@ -40,7 +40,7 @@ laid bytes types ns k (suc left) at b =
     let bs = cell_at bytes types ns k in
     laid bytes types ns (k + 1) left (at + length bs) (put b at bs)
 
-unfoldable pub Fit_all : List ℕ → List ℕ → List ℕ → ℕ → ℕ → ℕ → ℕ → Type 0
-Fit_all bytes types ns k zero at size = Unit
-Fit_all bytes types ns k (suc left) at size =
-    Fits bytes (get_or types k 0) (get_or ns (2 * k) 0) (get_or ns (2 * k + 1) 0) at size × Fit_all bytes types ns (k + 1) left (at + length (cell_at bytes types ns k)) size
+unfoldable pub FitAll : List ℕ → List ℕ → List ℕ → ℕ → ℕ → ℕ → ℕ → Type 0
+FitAll bytes types ns k zero at size = Unit
+FitAll bytes types ns k (suc left) at size =
+    Fits bytes (get_or types k 0) (get_or ns (2 * k) 0) (get_or ns (2 * k + 1) 0) at size × FitAll bytes types ns (k + 1) left (at + length (cell_at bytes types ns k)) size

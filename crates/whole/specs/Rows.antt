@@ -53,7 +53,7 @@ unfoldable pub whole_row : List ℕ → List ℕ → State → List ℕ → Out 
 whole_row bytes ns st b = at_once (run_each (some open_row ∷ cell_steps bytes st.outer.types ns) st b) st b
 
 -- the row that the numbers ns say, in a state with the types that are lent and on a buffer b, comes to r and leaves the buffer b'
-abbrev pub Wrote_row : List ℕ → List ℕ → Code → List ℕ → List ℕ → Outcome → List ℕ → Type 0
-Wrote_row bytes ns st types b r b' =
+abbrev pub WroteRow : List ℕ → List ℕ → Code → List ℕ → List ℕ → Outcome → List ℕ → Type 0
+WroteRow bytes ns st types b r b' =
     let o = whole_row bytes ns (seen st types) b in
     (r ≡ came st o) × (b' ≡ o.buffer)

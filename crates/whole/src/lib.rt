@@ -13,9 +13,9 @@ ghost use Rattle.steps.specs.Arguments.{is_number_of};
 ghost use Rattle.steps.specs.Plans.{answer_of};
 ghost use Rattle.steps.specs.Steps.{open_row, close_row, plan, message_end};
 ghost use Rattle.write.specs.Shown.{seen, shown_answer};
-ghost use Rattle.whole.specs.Rows.{value_in, body_in, cell_step, Wrote_row};
+ghost use Rattle.whole.specs.Rows.{value_in, body_in, cell_step, WroteRow};
 ghost use Rattle.whole.specs.Asked.{asked, type_now, row_answer, answers_from, opens, Opened, EndOf, PastAll, Sure};
-ghost use Rattle.whole.specs.Laid.{upper_of, lower_of, cell_bytes, body_bytes, Fits, Stands, laid, Fit_all};
+ghost use Rattle.whole.specs.Laid.{upper_of, lower_of, cell_bytes, body_bytes, Fits, Stands, laid, FitAll};
 
 use format::{Answer, Fault, Refusal};
 use steps::Stage;
@@ -32,7 +32,7 @@ pub fn whole_row(
     cells: &[u64],
     bytes: &[u8],
 ) -> Outcome
-    ensures { Wrote_row bytes.now cells.now st types.now out.old result out.new }
+    ensures { WroteRow bytes.now cells.now st types.now out.old result out.new }
 {
     // as a slice, so that its length is known from here on
     let lent: &[u8] = types;
@@ -305,7 +305,7 @@ fn ask_body(
 
 // Writes the cells of a row from a place on.
 fn put_cells(out: &mut [u8], from: usize, types: &[u8; COLUMNS], cells: &[u64], bytes: &[u8])
-    requires { (length cells.now / 2 ≤ most_columns) × Fit_all bytes.now types.now cells.now 0 (length cells.now / 2) from (length out.old) }
+    requires { (length cells.now / 2 ≤ most_columns) × FitAll bytes.now types.now cells.now 0 (length cells.now / 2) from (length out.old) }
     ensures { out.new ≡ laid bytes.now types.now cells.now 0 (length cells.now / 2) from out.old }
 {
     // as a slice, so that its length is known from here on

@@ -24,7 +24,7 @@ use Rattle.steps.specs.Plans.{Plan, Out, also, test, answer_of, out_of, carry, a
 use Rattle.steps.specs.Arguments.{name_faults, types_of}
 use Rattle.steps.specs.Steps.{Step, begin_call, null_param, one_param, bytes_param, open_array, element, close_array, finish_call, begin_reply, open_table, open_row, cell, close_row, close_table, finish_reply, plan, step, run}
 use Rattle.write.specs.Shown.{types_in, seen, shown, answered, came, Stepped, types_after}
-use Rattle.write.specs.Calls.{Left, Loan, nothing, look, whole, loan, Meets, Called, Chain, Chain_to}
+use Rattle.write.specs.Calls.{Left, Loan, nothing, look, whole, loan, Meets, Called, Chain, ChainTo}
 use Rattle.steps.proofs.Plans.{Accepted}
 use Rattle.steps.proofs.Accepted.{step_ok}
 use Rattle.steps.proofs.Back.{also_fine, test_fine}
@@ -214,12 +214,12 @@ first_ok o k n = go o.answer refl
     go (no f p) i e = absurd (no_ok (sym i ∙ e))
 
 -- a run to a position and a buffer
-abbrev pub Runs_to : Out State → ℕ → List ℕ → Type 0
-Runs_to o n b = (o.answer ≡ ok n) × (o.buffer ≡ b)
+abbrev pub RunsTo : Out State → ℕ → List ℕ → Type 0
+RunsTo o n b = (o.answer ≡ ok n) × (o.buffer ≡ b)
 
 -- where a step and those behind it run to the end, so do their calls
-pub run→chain : (s : Step) (ss : List Step) (st : Code) (types b : List ℕ) (n : ℕ) (b' : List ℕ) → length types ≡ most_columns → Runs_to (run (s ∷ ss) (seen st types) b) n b'
-    → (l : Left) → Called s st types b l → (c : Chain ss l) → Chain_to ss l c n b'
+pub run→chain : (s : Step) (ss : List Step) (st : Code) (types b : List ℕ) (n : ℕ) (b' : List ℕ) → length types ≡ most_columns → RunsTo (run (s ∷ ss) (seen st types) b) n b'
+    → (l : Left) → Called s st types b l → (c : Chain ss l) → ChainTo ss l c n b'
 unfolding run
 run→chain s [] st types b n b' long e l called c =
     let m = first_ok (step s (seen st types) b) (run []) n e.0 in
@@ -232,11 +232,11 @@ run→chain s (t ∷ ss) st types b n b' long e l called c =
     let a = goes→accepted s st types b long l called m.0 m.1 in
     let on = goes_on s st types b long l called (t ∷ ss) m.0 a in
     let kept = (accepted→goes s st types b long l called m.0 a).2 in
-    ((m.0, a), run→chain t ss l.came.state l.types l.buffer n b' kept (subst (λ (o : Out State). Runs_to o n b') on e) c.1 c.2 c.3)
+    ((m.0, a), run→chain t ss l.came.state l.types l.buffer n b' kept (subst (λ (o : Out State). RunsTo o n b') on e) c.1 c.2 c.3)
 
 -- and where the calls do, so do the steps
 pub chain→run : (s : Step) (ss : List Step) (st : Code) (types b : List ℕ) (n : ℕ) (b' : List ℕ) → length types ≡ most_columns
-    → (l : Left) → Called s st types b l → (c : Chain ss l) → Chain_to ss l c n b' → Runs_to (run (s ∷ ss) (seen st types) b) n b'
+    → (l : Left) → Called s st types b l → (c : Chain ss l) → ChainTo ss l c n b' → RunsTo (run (s ∷ ss) (seen st types) b) n b'
 unfolding run
 chain→run s [] st types b n b' long l called c to =
     let on = goes_on s st types b long l called [] n to.0 in
@@ -246,4 +246,4 @@ chain→run s (t ∷ ss) st types b n b' long l called c to =
     let m = to.0 in
     let on = goes_on s st types b long l called (t ∷ ss) m.0 m.1 in
     let kept = (accepted→goes s st types b long l called m.0 m.1).2 in
-    subst (λ (o : Out State). Runs_to o n b') (sym on) (chain→run t ss l.came.state l.types l.buffer n b' kept c.1 c.2 c.3 to.1)
+    subst (λ (o : Out State). RunsTo o n b') (sym on) (chain→run t ss l.came.state l.types l.buffer n b' kept c.1 c.2 c.3 to.1)

@@ -8,7 +8,7 @@ use Rattle.format.specs.declared.Answer.TheVariants.{Is}
 use Rattle.steps.specs.Steps.{Step, begin_call, null_param, one_param, bytes_param, open_array, element, close_array, finish_call, begin_reply, open_table, open_row, cell, close_row, close_table, finish_reply}
 use Rattle.steps.specs.Logins.{login_request, login_response}
 use Rattle.steps.specs.Spells.{Held}
-use Rattle.steps.specs.Writings.{Writing, request_call, response_call, call_steps, reply_steps, kind_of, Held_writing, writing_of, trimmed, overlaid}
+use Rattle.steps.specs.Writings.{Writing, request_call, response_call, call_steps, reply_steps, kind_of, HeldWriting, writing_of, trimmed, overlaid}
 use Rattle.write.specs.declared.State.{State as Code}
 use Rattle.write.specs.declared.Outcome.{Outcome}
 use Rattle.write.specs.Shown.{zero, Stepped, Opened, Told}
@@ -60,26 +60,26 @@ abbrev pub Accepted : Answer → Type 0
 Accepted a = (n : ℕ) × (a ≡ Is n)
 
 -- from a call that left l on each was accepted, and the last answered n and left the buffer b'
-abbrev pub Chain_to : (ss : List Step) (l : Left) → Chain ss l → ℕ → List ℕ → Type 0
-Chain_to [] l c n b' = (l.came.answer ≡ Is n) × (l.buffer ≡ b')
-Chain_to (s ∷ ss) l c n b' = Accepted l.came.answer × Chain_to ss c.1 c.3 n b'
+abbrev pub ChainTo : (ss : List Step) (l : Left) → Chain ss l → ℕ → List ℕ → Type 0
+ChainTo [] l c n b' = (l.came.answer ≡ Is n) × (l.buffer ≡ b')
+ChainTo (s ∷ ss) l c n b' = Accepted l.came.answer × ChainTo ss c.1 c.3 n b'
 
 -- the calls of a writing on a buffer b, with memory for a table's types; a login takes none. What is held of a begin's arguments is what is held of a writing without
 -- steps behind it
 abbrev pub Calls : Writing → List ℕ → List ℕ → Type 0
 Calls (request_call version hash_version service user hash) types b =
-    Held_writing (request_call version hash_version service user hash) × (a : Answer) × (b' : List ℕ) × Told (login_request version hash_version service user hash b) a b'
-Calls (response_call version result w) types b = Held_writing (response_call version result w) × (a : Answer) × (b' : List ℕ) × Told (login_response version result w b) a b'
+    HeldWriting (request_call version hash_version service user hash) × (a : Answer) × (b' : List ℕ) × Told (login_request version hash_version service user hash b) a b'
+Calls (response_call version result w) types b = HeldWriting (response_call version result w) × (a : Answer) × (b' : List ℕ) × Told (login_response version result w b) a b'
 Calls (call_steps version procedure client ss) types b =
-    Held_writing (call_steps version procedure client []) × (l : Left) × Called (begin_call version procedure client) zero types b l × Chain ss l
-Calls (reply_steps version o ss) types b = Held_writing (reply_steps version o []) × (l : Left) × Called (begin_reply version o) zero types b l × Chain ss l
+    HeldWriting (call_steps version procedure client []) × (l : Left) × Called (begin_call version procedure client) zero types b l × Chain ss l
+Calls (reply_steps version o ss) types b = HeldWriting (reply_steps version o []) × (l : Left) × Called (begin_reply version o) zero types b l × Chain ss l
 
 -- each of them was accepted, and the last answered n and left the buffer b'
-abbrev pub Calls_to : (w : Writing) (types b : List ℕ) → Calls w types b → ℕ → List ℕ → Type 0
-Calls_to (request_call version hash_version service user hash) types b c n b' = (c.1 ≡ Is n) × (c.2 ≡ b')
-Calls_to (response_call version result w) types b c n b' = (c.1 ≡ Is n) × (c.2 ≡ b')
-Calls_to (call_steps version procedure client ss) types b c n b' = Chain_to ss c.1 c.3 n b'
-Calls_to (reply_steps version o ss) types b c n b' = Chain_to ss c.1 c.3 n b'
+abbrev pub CallsTo : (w : Writing) (types b : List ℕ) → Calls w types b → ℕ → List ℕ → Type 0
+CallsTo (request_call version hash_version service user hash) types b c n b' = (c.1 ≡ Is n) × (c.2 ≡ b')
+CallsTo (response_call version result w) types b c n b' = (c.1 ≡ Is n) × (c.2 ≡ b')
+CallsTo (call_steps version procedure client ss) types b c n b' = ChainTo ss c.1 c.3 n b'
+CallsTo (reply_steps version o ss) types b c n b' = ChainTo ss c.1 c.3 n b'
 
 -- the last of a writing's steps finishes it; a login is whole
 abbrev pub Finished : Writing → Type 0

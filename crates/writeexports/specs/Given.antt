@@ -20,5 +20,5 @@ opening client flags status status_null status_string app_status app_null app_st
 }
 
 -- a whole row, from the state that the numbers say
-abbrev pub Row_gave : List ℕ → List ℕ → List ℕ → List ℕ → List ℕ → ℕ → List ℕ → List ℕ → Type 0
-Row_gave bytes cells ns types b r ns' b' = Gave (whole_row bytes cells (seen (state_of ns) types) b) ns r ns' b'
+abbrev pub RowGave : List ℕ → List ℕ → List ℕ → List ℕ → List ℕ → ℕ → List ℕ → List ℕ → Type 0
+RowGave bytes cells ns types b r ns' b' = Gave (whole_row bytes cells (seen (state_of ns) types) b) ns r ns' b'

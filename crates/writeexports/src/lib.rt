@@ -11,9 +11,9 @@ ghost use Rattle.steps.specs.Logins.{login_request, login_response};
 ghost use Rattle.write.specs.Shown.{zero};
 ghost use Rattle.columns.specs.Entries.{columns_of as entries_with};
 ghost use Rattle.numbers.specs.Entries.{entries_of};
-ghost use Rattle.writeexports.specs.Given.{opening, Row_gave};
+ghost use Rattle.writeexports.specs.Given.{opening, RowGave};
 ghost use Rattle.login.specs.Parts.{welcome};
-ghost use Rattle.numbers.specs.Stored.{Wrote_from, Wrote, Wrote_all, Wrote_login};
+ghost use Rattle.numbers.specs.Stored.{WroteFrom, Wrote, WroteAll, WroteLogin};
 
 use reply::Head;
 use write::COLUMNS;
@@ -29,7 +29,7 @@ pub extern "C" fn chaloenpik_begin_call(
     procedure: &[u8],
     client: &[u8; 8],
 ) -> u64
-    ensures { Wrote_from (begin_call version procedure.now client.now) zero state.old [] out.old result state.new out.new }
+    ensures { WroteFrom (begin_call version procedure.now client.now) zero state.old [] out.old result state.new out.new }
 {
     let step = call::begin_call(out, version, procedure, client);
     numbers::keep(state, step)
@@ -166,7 +166,7 @@ pub extern "C" fn chaloenpik_begin_reply(
     roundtrip: u32,
     exception: &[u8],
 ) -> u64
-    ensures { Wrote_from (begin_reply version (opening client.now flags status statusnull statustext.now appstatus appnull apptext.now roundtrip exception.now)) zero state.old [] out.old result state.new out.new }
+    ensures { WroteFrom (begin_reply version (opening client.now flags status statusnull statustext.now appstatus appnull apptext.now roundtrip exception.now)) zero state.old [] out.old result state.new out.new }
 {
     let h = Head {
         version,
@@ -191,7 +191,7 @@ pub extern "C" fn chaloenpik_open_table(
     list: &[u64],
     names: &[u8],
 ) -> u64
-    ensures { Wrote_all (open_table status (entries_with (entries_of list.now) names.now)) state.old types.old out.old result state.new types.new out.new }
+    ensures { WroteAll (open_table status (entries_with (entries_of list.now) names.now)) state.old types.old out.old result state.new types.new out.new }
 {
     let st = numbers::load(state);
     let step = numbers::open_listed(out, st, types, status, list, names);
@@ -270,7 +270,7 @@ pub extern "C" fn chaloenpik_whole_row(
     cells: &[u64],
     bytes: &[u8],
 ) -> u64
-    ensures { Row_gave bytes.now cells.now state.old types.now out.old result state.new out.new }
+    ensures { RowGave bytes.now cells.now state.old types.now out.old result state.new out.new }
 {
     let st = numbers::load(state);
     let step = whole::whole_row(out, st, types, cells, bytes);
@@ -313,7 +313,7 @@ pub extern "C" fn chaloenpik_write_login_request(
     user: &[u8],
     hash: &[u8],
 ) -> u64
-    ensures { Wrote_login (login_request version hashing service.now user.now hash.now out.old) result out.new }
+    ensures { WroteLogin (login_request version hashing service.now user.now hash.now out.old) result out.new }
 {
     numbers::pack_answer(login::login_request(out, version, hashing, service, user, hash))
 }
@@ -330,7 +330,7 @@ pub extern "C" fn chaloenpik_write_login_response(
     leader: u32,
     build: &[u8],
 ) -> u64
-    ensures { Wrote_login (login_response version res (welcome host connection start leader build.now) out.old) result out.new }
+    ensures { WroteLogin (login_response version res (welcome host connection start leader build.now) out.old) result out.new }
 {
     numbers::pack_answer(login::login_response(
         out, version, res, host, connection, start, leader, build,

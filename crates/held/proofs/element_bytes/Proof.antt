@@ -38,7 +38,7 @@ use denote.Triple.Clauses.{ensured, lasts}
 use denote.Exit.{yes}
 use denote.Enum.Laws as EL
 use Rattle.query.specs.declared.Part.{Part}
-use Rattle.query.specs.Answers.{told_part, Is_told, ask_element_span}
+use Rattle.query.specs.Answers.{told_part, IsTold, ask_element_span}
 use Rattle.query.specs.contracts.Part as S
 use Rattle.query.proofs.Part.TheLaws as S'
 use Rattle.held.specs.declared.Bytes.{Bytes}
@@ -116,16 +116,16 @@ module _ {M : Type 1} {𝓤 : Ura M} (𝓛 : Logic 𝓤) (mem : Memory → SProp
   goes-two : (res : Part) (u : Val) → ent 𝓤 (⋆ 𝓛 ((‵ (flft κ q) ⊛ ‵ ftrue) ∷ ‵ Msg ∷ ‵ (Told res u) ∷ [])) ((Two 𝓛 mem run).pre (to-two res u))
   goes-two res u = qed 𝓛 ((‵ (flft κ q) ⊛ ‵ ftrue) ∷ ‵ Msg ∷ ‵ (Told res u) ∷ []) ∵ nothing ! $ move ! (3 ∷ 0 ∷ []) $ fjoin ! $ move ! (2 ∷ 0 ∷ []) $ fjoin ! $ move ! (1 ∷ 0 ∷ []) $ join ! $ frame ! $ done !
 
-  two_said : (res : Part) (part : Bor (List ℕ)) → ent 𝓤 (ensured 𝓛 two.ended (two.clauses 𝓛 mem run) (κ, tt) (s, (res, tt)) tt part) (fact 𝓤 (Is_told s (told_part res) part))
-  two_said res part = ex_e 𝓤 _ (λ ws. snd∗ 𝓤 (sem 𝓛 (lasts two.ended (κ, tt) (s, (res, tt)) ws)) (fact 𝓤 (Is_told s (told_part res) part)))
+  two_said : (res : Part) (part : Bor (List ℕ)) → ent 𝓤 (ensured 𝓛 two.ended (two.clauses 𝓛 mem run) (κ, tt) (s, (res, tt)) tt part) (fact 𝓤 (IsTold s (told_part res) part))
+  two_said res part = ex_e 𝓤 _ (λ ws. snd∗ 𝓤 (sem 𝓛 (lasts two.ended (κ, tt) (s, (res, tt)) ws)) (fact 𝓤 (IsTold s (told_part res) part)))
 
   abbrev made : Part → Bor (List ℕ) → Bytes
   made res part = record { answer = res; part = part }
 
-  exits : (res : Part) (u : Val) (part : Bor (List ℕ)) (w : Val) → Said res → Is_told s (told_part res) part → ent 𝓤 (⋆ 𝓛 (‵ (Shared part w) ∷ (‵ (flft κ q) ⊛ ‵ ftrue) ∷ ‵ Msg ∷ ‵ (Told res u) ∷ [])) (Post (vstruct (vcons u (vcons w vnil))))
+  exits : (res : Part) (u : Val) (part : Bor (List ℕ)) (w : Val) → Said res → IsTold s (told_part res) part → ent 𝓤 (⋆ 𝓛 (‵ (Shared part w) ∷ (‵ (flft κ q) ⊛ ‵ ftrue) ∷ ‵ Msg ∷ ‵ (Told res u) ∷ [])) (Post (vstruct (vcons u (vcons w vnil))))
   exits res u part w e₁ e₂ =
       qed 𝓛 (‵ (Shared part w) ∷ (‵ (flft κ q) ⊛ ‵ ftrue) ∷ ‵ Msg ∷ ‵ (Told res u) ∷ []) ∵
-      suffices ! _ (ends_at 𝓛 fn.ended stayed (fn.clauses 𝓛 mem run) (((κ, tt), (q, tt), tt, (s, (x0, (x1, tt))), at), tt) (vstruct (vcons u (vcons w vnil))) (made res part) (tt, (tt, (tt, tt))) (tt, (tt, (tt, tt)))) $ says ! (record { says = e₁; itself = subst (λ z. Is_told s z part) e₁ e₂ }) $
+      suffices ! _ (ends_at 𝓛 fn.ended stayed (fn.clauses 𝓛 mem run) (((κ, tt), (q, tt), tt, (s, (x0, (x1, tt))), at), tt) (vstruct (vcons u (vcons w vnil))) (made res part) (tt, (tt, (tt, tt))) (tt, (tt, (tt, tt)))) $ says ! (record { says = e₁; itself = subst (λ z. IsTold s z part) e₁ e₂ }) $
       move ! (1 ∷ []) $ frame ! $ nothing ! $ owned ! usize (Is usize) (uint_Makes 𝓛 w64) x1 _ (refl, x1-fits) $ fjoin ! $ owned ! usize (Is usize) (uint_Makes 𝓛 w64) x0 _ (refl, x0-fits) $ fjoin ! $ move ! (2 ∷ 0 ∷ []) $ fjoin ! $ frame ! $ move ! (1 ∷ 0 ∷ []) $ by ! (made_owns 𝓛 κ res u part w)
 
   module _ (C : Calls 𝓤 H) (Λ : Loops 𝓤 H) (fm : FmC 𝓤 H 𝓛.laws C) (known-one : Triple 𝓤 (C #query·element-span) (One 𝓛 mem run)) (known_two : Triple 𝓤 (C #query·part-at) (Two 𝓛 mem run)) where
@@ -149,7 +149,7 @@ module _ {M : Type 1} {𝓤 : Ura M} (𝓛 : Logic 𝓤) (mem : Memory → SProp
         -- [what the second callee asks; what is kept; the locals]
         calls_at ! fm (Two 𝓛 mem run) known_two (to-two res u) (and_then ! (load ! (from ! (stop !)) (look ! 11 refl)) (and_then ! (load ! (from ! (stop !)) (look ! 5 refl)) (no_more !))) (λ w.
         use1 𝓛 (later (some (λ (part : Bor (List ℕ)). ((‵ (flft κ q) ⊛ ‵ ftrue) ⊛ ‵ (Shared part w)) ⊛ raw (ensured 𝓛 two.ended (two.clauses 𝓛 mem run) (κ, tt) (s, (res, tt)) tt part)))) (id⊢ 𝓤 _) $ await ! tt $ pick ! (λ part.
-        split ! $ move ! (1 ∷ []) $ use1 𝓛 (raw (fact 𝓤 (Is_told s (told_part res) part))) (two_said res part) $ heard ! (Is_told s (told_part res) part) (λ e₂. split ! $ move ! (1 ∷ []) $
+        split ! $ move ! (1 ∷ []) $ use1 𝓛 (raw (fact 𝓤 (IsTold s (told_part res) part))) (two_said res part) $ heard ! (IsTold s (told_part res) part) (λ e₂. split ! $ move ! (1 ∷ []) $
         -- [the part; the tokens; what is kept; the locals]
         peeks ! (ShrSlice (named 0) κ u8) (Is (ShrSlice (named 0) κ u8)) (shows 𝓛 (ShrSlice (named 0) κ u8)) part (w ∷ []) (λ is₂.
         land ! (from ! (stop !)) (init ! 4 refl ((shr_slice_Lawful 𝓛 (named 0) κ u8).typed part _ is₂).0) $

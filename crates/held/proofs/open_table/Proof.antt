@@ -44,7 +44,7 @@ use denote.Triple.Clauses.{ensured, lasts}
 use denote.Exit.{yes}
 use Rattle.format.specs.Message.{most_columns}
 use Rattle.columns.specs.Entries.{columns_of}
-use Rattle.columns.specs.Walks.{none_at, add_all, Bounded, head_answer, head_of, head_out, Fits_all, Page, put_all}
+use Rattle.columns.specs.Walks.{none_at, add_all, Bounded, head_answer, head_of, head_out, FitsAll, Page, put_all}
 use Rattle.columns.proofs.Surveys.{all_bounded}
 use Rattle.columns.proofs.Opens.{opens_made}
 use Rattle.columns.specs.declared.Column.{Column}
@@ -79,7 +79,7 @@ use Rattle.columns.specs.contracts.no_columns as one
 use Rattle.columns.proofs.no_columns.Symbol as one_def
 use Rattle.columns.proofs.no_columns.Symbol.{name as #columns·no-columns}
 use Rattle.columns.proofs.no_columns.Met as one-thm
-use Rattle.held.proofs.Again.{Lent_again, lends_again, comes_back}
+use Rattle.held.proofs.Again.{LentAgain, lends_again, comes_back}
 use Rattle.held.specs.contracts.open_table.Key.{name as #held·open-table}
 use Rattle.held.specs.contracts.open_table as fn
 use Rattle.held.proofs.open_table.Statement as stated
@@ -186,7 +186,7 @@ module _ {M : Type 1} {𝓤 : Ura M} (𝓛 : Logic 𝓤) (mem : Memory → SProp
   Out' κ' δ = (MutSlice (named 0) κ' u8).own_val (xo δ ys) (vo ∷ [])
 
   abbrev KeptOut : Lft → GName → Fml
-  KeptOut κ' δ = Lent_again u8 κ0 κ' q0 γ0 b0 o0 δ ys
+  KeptOut κ' δ = LentAgain u8 κ0 κ' q0 γ0 b0 o0 δ ys
 
   exits : (r : Outcome) (u : Val) (zs ts : List ℕ) → Opened (open_table status (columns_of es names)) st types ys r ts zs → length zs ≡ length ys
       → ent 𝓤 (⋆ 𝓛 (‵ ((R.the_row).own_val r (u ∷ [])) ∷ (‵ (flft κ0 q0) ⊛ ‵ (flft κ1 q1) ⊛ ‵ (flft κ2 q2) ⊛ ‵ (flft κ3 q3) ⊛ ‵ ftrue) ∷ ‵ (finally u8 γ0 zs) ∷ ‵ OwnSt ∷ ‵ (fres γ1 ((Array u8 most_columns).coded.code ts)) ∷ ‵ Own ∷ ‵ OwnN ∷ [])) (Post u)
@@ -231,7 +231,7 @@ module _ {M : Type 1} {𝓤 : Ura M} (𝓛 : Logic 𝓤) (mem : Memory → SProp
   abbrev to-four : List ℕ → Head → Val → (Four 𝓛 mem run).Ghost
   to-four zs h u = ((κs, qs, tt, four-args zs h, four-vals u), tt)
 
-  goes-four : (zs : List ℕ) (h : Head) (u : Val) → Fits_all names (length zs) h.walk es → ent 𝓤 (on_entry 𝓛 four.signature κs qs (four-args zs h) (four-vals u)) ((Four 𝓛 mem run).pre (to-four zs h u))
+  goes-four : (zs : List ℕ) (h : Head) (u : Val) → FitsAll names (length zs) h.walk es → ent 𝓤 (on_entry 𝓛 four.signature κs qs (four-args zs h) (four-vals u)) ((Four 𝓛 mem run).pre (to-four zs h u))
   goes-four zs h u fits = qed 𝓛 ((‵ (flft κ0 q0) ⊛ ‵ (flft κ1 q1) ⊛ ‵ (flft κ2 q2) ⊛ ‵ (flft κ3 q3) ⊛ ‵ ftrue) ∷ ‵ (owns (MutSlice (named 0) κ0 u8 ∷ MutRef (named 1) κ1 (Array u8 most_columns) ∷ Q.the_row ∷ ShrSlice (named 2) κ2 T.the_row ∷ ShrSlice (named 3) κ3 u8 ∷ []) (four-args zs h) (four-vals u)) ∷ []) ∵ says ! fits $ frame ! $ done !
 
   module _ (𝓣 : Tables 𝓤 H) (known-one : Triple 𝓤 (𝓣.C #columns·no-columns) (One 𝓛 mem run)) (known_two : Triple 𝓤 (𝓣.C #held·survey) (Two 𝓛 mem run)) (known-three : Triple 𝓤 (𝓣.C #columns·open-head) (Three 𝓛 mem run)) (known-four : Triple 𝓤 (𝓣.C #held·put-columns) (Four 𝓛 mem run)) where

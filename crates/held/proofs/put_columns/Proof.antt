@@ -54,7 +54,7 @@ use denote.Triple.Clauses.{ensured, lasts}
 use denote.Exit.{yes}
 use Rattle.format.specs.Message.{most_columns}
 use Rattle.columns.specs.Entries.{no_entry}
-use Rattle.columns.specs.Walks.{Fits, Fits_all, moved, column_out, column_types, Page, put_one, put_all}
+use Rattle.columns.specs.Walks.{Fits, FitsAll, moved, column_out, column_types, Page, put_one, put_all}
 use Rattle.columns.specs.declared.Column.{Column}
 use Rattle.columns.specs.declared.Walk.{Walk as Place}
 use Rattle.columns.specs.declared.Head.{Head}
@@ -79,7 +79,7 @@ use Rattle.columns.specs.contracts.step_in as last
 use Rattle.columns.proofs.step_in.Symbol as last-def
 use Rattle.columns.proofs.step_in.Symbol.{name as #columns·step-in}
 use Rattle.columns.proofs.step_in.Met as last-thm
-use Rattle.held.proofs.Again.{Lent_again, lends_again, comes_back}
+use Rattle.held.proofs.Again.{LentAgain, lends_again, comes_back}
 use Rattle.held.specs.contracts.put_columns.Key.{name as #held·put-columns}
 use Rattle.held.specs.contracts.put_columns as fn
 use Rattle.held.proofs.put_columns.Statement as stated
@@ -134,8 +134,8 @@ page out types walk = record { out = out; types = types; walk = walk }
 abbrev Left : List ℕ → Place → Column → List ℕ → List ℕ → Place → List ℕ → List ℕ → Type 0
 Left names w c zs ts r zs' ts' = (r ≡ moved names w c) × (zs' ≡ column_out names w c zs) × (ts' ≡ column_types w c ts)
 
-fits-now : (names : List ℕ) (size : ℕ) (w : Place) (es : List Column) (i : ℕ) → i < length es → Fits_all names size w (drop_l i es) → Fits names size w (get_or es i no_entry) × Fits_all names size (moved names w (get_or es i no_entry)) (drop_l (i + 1) es)
-unfolding Fits_all
+fits-now : (names : List ℕ) (size : ℕ) (w : Place) (es : List Column) (i : ℕ) → i < length es → FitsAll names size w (drop_l i es) → Fits names size w (get_or es i no_entry) × FitsAll names size (moved names w (get_or es i no_entry)) (drop_l (i + 1) es)
+unfolding FitsAll
 fits-now names size w es i l f = rw (add-one i) (rw (drop-cons es i no_entry l) at f)
 
 -- one column more on the left is one fewer on the right
@@ -159,7 +159,7 @@ record Turn (names ys types : List ℕ) (h : Head) (es : List Column) : Type 0 w
   ts : List ℕ
   upto : i ≤ length es
   same : length zs ≡ length ys
-  fits : Fits_all names (length zs) w (drop_l i es)
+  fits : FitsAll names (length zs) w (drop_l i es)
   so_far : put_all names (page zs ts w) (drop_l i es) ≡ put_all names (page ys types h.walk) es
 
 module _ {M : Type 1} {𝓤 : Ura M} (𝓛 : Logic 𝓤) (mem : Memory → SProp 𝓤) (run : Routine → Fun 𝓤) where
@@ -173,7 +173,7 @@ module _ {M : Type 1} {𝓤 : Ura M} (𝓛 : Logic 𝓤) (mem : Memory → SProp
   abbrev Last : Contract 𝓤
   Last = triple_of 𝓛 last.signature (last.spec 𝓛 mem run)
 
-module _ {M : Type 1} {𝓤 : Ura M} (𝓛 : Logic 𝓤) (mem : Memory → SProp 𝓤) (run : Routine → Fun 𝓤) (κ0 κ1 κ2 κ3 : Lft) (q0 q1 q2 q3 : Share) (b0 o0 : ℕ) (γ0 : GName) (ys : List ℕ) (room0 : Room u8 (length ys)) (b1 o1 : ℕ) (γ1 : GName) (types : List ℕ) (h : Head) (b o : ℕ) (γ : GName) (es : List Column) (room : Room T.the_row (length es)) (x4 : MutBor (List ℕ)) (fits0 : Fits_all x4.now (length ys) h.walk es) where
+module _ {M : Type 1} {𝓤 : Ura M} (𝓛 : Logic 𝓤) (mem : Memory → SProp 𝓤) (run : Routine → Fun 𝓤) (κ0 κ1 κ2 κ3 : Lft) (q0 q1 q2 q3 : Share) (b0 o0 : ℕ) (γ0 : GName) (ys : List ℕ) (room0 : Room u8 (length ys)) (b1 o1 : ℕ) (γ1 : GName) (types : List ℕ) (h : Head) (b o : ℕ) (γ : GName) (es : List Column) (room : Room T.the_row (length es)) (x4 : MutBor (List ℕ)) (fits0 : FitsAll x4.now (length ys) h.walk es) where
   open 𝓛 use {H, A}
 
   abbrev names : List ℕ
@@ -235,7 +235,7 @@ module _ {M : Type 1} {𝓤 : Ura M} (𝓛 : Logic 𝓤) (mem : Memory → SProp
   Out' κ' δ zs = (MutSlice (named 0) κ' u8).own_val (xo δ zs) (vo ∷ [])
 
   abbrev KeptOut : Lft → GName → List ℕ → Fml
-  KeptOut κ' δ zs = Lent_again u8 κ0 κ' q0 γ0 b0 o0 δ zs
+  KeptOut κ' δ zs = LentAgain u8 κ0 κ' q0 γ0 b0 o0 δ zs
 
   lends_out : (κ' : Lft) (zs : List ℕ) → length zs ≡ length ys → ent 𝓤 (sep 𝓤 (sem 𝓛 (OwnOut zs)) (A.lft κ0 q0)) (H.⇛ (ex 𝓤 (λ (δ : GName). sep 𝓤 (sem 𝓛 (Out' κ' δ zs)) (sem 𝓛 (KeptOut κ' δ zs)))))
   lends_out κ' zs e =
@@ -253,7 +253,7 @@ module _ {M : Type 1} {𝓤 : Ura M} (𝓛 : Logic 𝓤) (mem : Memory → SProp
   Types' κ' ε ts = (MutRef (named 0) κ' (Array u8 most_columns)).own_val (xt ε ts) (vt ∷ [])
 
   abbrev KeptTypes : Lft → GName → List ℕ → Fml
-  KeptTypes κ' ε ts = thin.Lent_again (Array u8 most_columns) κ1 κ' q1 γ1 b1 o1 ε ts
+  KeptTypes κ' ε ts = thin.LentAgain (Array u8 most_columns) κ1 κ' q1 γ1 b1 o1 ε ts
 
   exits : (r : Outcome) (u : Val) (zs ts : List ℕ) → r ≡ h.step → page zs ts (put_all names (page ys types h.walk) es).walk ≡ put_all names (page ys types h.walk) es → length zs ≡ length ys
       → ent 𝓤 (⋆ 𝓛 (‵ ((R.the_row).own_val r (u ∷ [])) ∷ ‵ OwnH ∷ ‵ Own ∷ ‵ (flft κ2 q2) ∷ ‵ OwnN ∷ ‵ (flft κ3 q3) ∷ ‵ (OwnOut zs) ∷ ‵ (flft κ0 q0) ∷ ‵ (OwnTypes ts) ∷ ‵ (flft κ1 q1) ∷ [])) (Post u)
@@ -401,7 +401,7 @@ module _ {M : Type 1} {𝓤 : Ura M} (𝓛 : Logic 𝓤) (mem : Memory → SProp
           next_fits : Holds (ltb t.i (length es)) → t.i + 1 < 2 ^ 64
           next_fits less = let l : t.i < length es = ltb→lt t.i (length es) less in omega (arith, room.0, l)
 
-          now-fits : Holds (ltb t.i (length es)) → Fits names (length t.zs) t.w elem × Fits_all names (length t.zs) (moved names t.w elem) (drop_l (t.i + 1) es)
+          now-fits : Holds (ltb t.i (length es)) → Fits names (length t.zs) t.w elem × FitsAll names (length t.zs) (moved names t.w elem) (drop_l (t.i + 1) es)
           now-fits less = fits-now names (length t.zs) t.w es t.i (ltb→lt t.i (length es) less) t.fits
 
           next : Holds (ltb t.i (length es)) → (r : Place) → Val → (zs' ts' : List ℕ) → Left names t.w elem t.zs t.ts r zs' ts' → length zs' ≡ length t.zs → Turn names ys types h es
@@ -424,7 +424,7 @@ module _ {M : Type 1} {𝓤 : Ura M} (𝓛 : Logic 𝓤) (mem : Memory → SProp
 
       -- the loop, and what follows it, from where it begins
       abbrev first-turn : (r : Place) → Val → r ≡ h.walk → Turn names ys types h es
-      first-turn r u e = record { i = 0; w = r; u = u; zs = ys; ts = types; upto = zero-le; same = refl; fits = subst (λ (w : Place). Fits_all names (length ys) w es) (sym e) fits0; so_far = ap (λ (w : Place). put_all names (page ys types w) es) e }
+      first-turn r u e = record { i = 0; w = r; u = u; zs = ys; ts = types; upto = zero-le; same = refl; fits = subst (λ (w : Place). FitsAll names (length ys) w es) (sym e) fits0; so_far = ap (λ (w : Place). put_all names (page ys types w) es) e }
 
       begins : (r : Place) (u : Val) (e : r ≡ h.walk) → Sq 𝓛 (At (first-turn r u e)) (runs 𝓣.C 𝓣.Λ En mir'.t-3 (at_ret En Post))
       begins r u e = first ! $ blocks ! $ loops ! 𝓣 Nearer Nearer-wf At turns (first-turn r u e)
@@ -457,7 +457,7 @@ module _ {M : Type 1} {𝓤 : Ura M} (𝓛 : Logic 𝓤) (mem : Memory → SProp
       → Walks 𝓛 fn.ended stayed (WpFn 𝓤 H 𝓣.C 𝓣.Λ code.function) (fn.clauses 𝓛 mem run)
   fn-walks 𝓣 Known-start Known-step known-last = walked 𝓛 fn.ended stayed (fn.clauses 𝓛 mem run) (WpFn 𝓤 H 𝓣.C 𝓣.Λ code.function)
       (λ κs. (mut_slice_vals, (mut_vals, (LL.vals Q.the_type Q'.the_laws, (shr_slice_vals, (shr_slice_vals, tt)))))) (λ κs. (mut_slice_Tells (named 0) κs.0 u8, (mut_Tells (named 1) κs.1.0 (Array u8 most_columns), (LL.tells Q.the_type Q'.the_laws, (shr_slice_Tells (named 2) κs.1.1.0 T.the_row, (shr_slice_Tells (named 3) κs.1.1.1.0 u8, tt))))))
-      (λ κs qs bounds a g are. needs 𝓤 (Fits_all a.1.1.1.1.0.now (length a.0.now) a.1.1.0.walk a.1.1.1.0.now) _ (λ fits.
+      (λ κs qs bounds a g are. needs 𝓤 (FitsAll a.1.1.1.1.0.now (length a.0.now) a.1.1.0.walk a.1.1.1.0.now) _ (λ fits.
       walk 𝓛 mem run κs.0 κs.1.0 κs.1.1.0 κs.1.1.1.0 qs.0 qs.1.0 qs.1.1.0 qs.1.1.1.0 a.0.ref_ptr.0 a.0.ref_ptr.1 a.0.ghost_name a.0.now are.0.0.1 a.1.0.ref_ptr.0 a.1.0.ref_ptr.1 a.1.0.ghost_name a.1.0.now a.1.1.0 a.1.1.1.0.ref_ptr.0 a.1.1.1.0.ref_ptr.1 a.1.1.1.0.ghost_name a.1.1.1.0.now are.1.1.1.0.0.1 a.1.1.1.1.0 fits
       𝓣 Known-start Known-step known-last are.1.1.0 are.1.1.1.0 are.1.1.1.1.0))
 

@@ -6,7 +6,7 @@ use mathlib.Core.List.{List, []}
 use lib.ListN.{length, drop, length-drop}
 use Rattle.columns.specs.declared.Column.{Column}
 use Rattle.columns.specs.declared.Walk.{Walk}
-use Rattle.columns.specs.Walks.{Fits, Fits_all, Page, put_all}
+use Rattle.columns.specs.Walks.{Fits, FitsAll, Page, put_all}
 use Rattle.numbers.specs.Entries.{entries_of}
 use Rattle.numbers.proofs.Entries.{no_more, page, fits_next, put_turn}
 use borrow.Author.Rules.{rules}
@@ -18,7 +18,7 @@ ended names p es e = sym (ap (put_all names p) e)
 
 pub loop-i-init : goal.loop-i-init
 loop-i-init c =
-    (search rules, refl, subst (λ (w : Walk). Fits_all c.args.names.now (length c.args.out.now) w (entries_of c.args.list.now)) (sym c.walk_in-walk.ensures) c.requires, refl)
+    (search rules, refl, subst (λ (w : Walk). FitsAll c.args.names.now (length c.args.out.now) w (entries_of c.args.list.now)) (sym c.walk_in-walk.ensures) c.requires, refl)
 
 pub put_column-walk-requires : goal.put_column-walk-requires
 put_column-walk-requires c =

@@ -2,7 +2,7 @@
 use mathlib.Core.Path.{sym, subst}
 use Rattle.show.specs.Parts.{IsPart}
 use Rattle.query.specs.declared.Part.{Part}
-use Rattle.query.specs.Answers.{Is_told, told_part}
+use Rattle.query.specs.Answers.{IsTold, told_part}
 use Rattle.query.proofs.Parts.{no_span}
 use Rattle.query.proofs.part_at.Goals as goal
 
@@ -14,4 +14,4 @@ returns-in_default c =
 pub returns : goal.returns
 returns c =
     let m = c.args.m in
-    subst (λ (z : Part). Is_told m (told_part z) c.body_at-2.result) (sym c.in-Is.is) c.body_at-2.ensures
+    subst (λ (z : Part). IsTold m (told_part z) c.body_at-2.result) (sym c.in-Is.is) c.body_at-2.ensures

@@ -7,12 +7,12 @@ use Rattle.format.specs.Message.{third}
 use Rattle.places.specs.Stands.{Stands}
 use Rattle.places.proofs.Layouts.{name}
 use Rattle.query.specs.Answers.{first_named}
-use Rattle.query.proofs.Ends.{Equal_from}
+use Rattle.query.proofs.Ends.{EqualFrom}
 use Rattle.query.proofs.Names.{Left}
 use Rattle.query.proofs.search.Given as goal
 
 abbrev pub invariant-bytes : goal.invariant-bytes
-invariant-bytes l = (l.rest ≤ length l.name) × Equal_from (λ k. get_or l.m (l.start + k) 0) l.name l.rest
+invariant-bytes l = (l.rest ≤ length l.name) × EqualFrom (λ k. get_or l.m (l.start + k) 0) l.name l.rest
 
 abbrev pub decreases-bytes : goal.decreases-bytes
 decreases-bytes l = l.rest

@@ -2,11 +2,11 @@ use mathlib.Core.Path.{◌≡◌}
 use mathlib.Core.List.{List}
 use Prim.Native.Nat.{ℕ, ◌-◌, ◌≤◌}
 use Rattle.format.specs.Message.{row}
-use Rattle.quick.specs.Past.{Ends, Plain_row}
+use Rattle.quick.specs.Past.{Ends, PlainRow}
 use Rattle.quick.proofs.plain_rows.Given as goal
 
 abbrev pub invariant-loop-i : goal.invariant-loop-i
-invariant-loop-i l = (l.i ≤ l.n) × ((types : List ℕ) → Plain_row types l.plain → Ends (row types) l.s (l.n - l.i) l.at ≡ Ends (row types) l.s l.n l.from)
+invariant-loop-i l = (l.i ≤ l.n) × ((types : List ℕ) → PlainRow types l.plain → Ends (row types) l.s (l.n - l.i) l.at ≡ Ends (row types) l.s l.n l.from)
 
 abbrev pub decreases-loop-i : goal.decreases-loop-i
 decreases-loop-i l = l.n - l.i

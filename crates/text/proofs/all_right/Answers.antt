@@ -5,7 +5,7 @@ use Prim.Native.Nat.{◌+◌, ◌-◌}
 use native.Mathlib.Omega.{arith}
 use borrow.Author.Tests.{not-false}
 use Rattle.text.proofs.Runs.{run_join}
-use Rattle.text.proofs.Windows.{Right_at}
+use Rattle.text.proofs.Windows.{RightAt}
 use Rattle.text.proofs.all_right.Goals as goal
 
 pub loop-i-init : goal.loop-i-init
@@ -21,7 +21,7 @@ loop-i-preserved c =
     let more = c.loop-i-test.true in (
       omega (arith, l.invariant.0),
       omega (arith, more),
-      run_join (Right_at a.b.now) a.start (l.i - a.start) l.i 16 (l.i + 16 - a.start) l.invariant.0 (omega (arith, l.invariant.0)) (omega (arith, l.invariant.0)) l.invariant.2
+      run_join (RightAt a.b.now) a.start (l.i - a.start) l.i 16 (l.i + 16 - a.start) l.invariant.0 (omega (arith, l.invariant.0)) (omega (arith, l.invariant.0)) l.invariant.2
           (c.are_right.ensures (not-false _ c.if-not-are_right.false-raw)),
     )
 
@@ -31,4 +31,4 @@ returns c =
     let a = c.args in
     let few = c.requires.0 in
     let near = c.loop-i-test.false in
-    λ e. run_join (Right_at a.b.now) a.start (l.i - a.start) (a.end - 16) 16 (a.end - a.start) (omega (arith, few)) (omega (arith, near, l.invariant.0)) (omega (arith, few)) l.invariant.2 (c.are_right-2.ensures e)
+    λ e. run_join (RightAt a.b.now) a.start (l.i - a.start) (a.end - 16) 16 (a.end - a.start) (omega (arith, few)) (omega (arith, near, l.invariant.0)) (omega (arith, few)) l.invariant.2 (c.are_right-2.ensures e)

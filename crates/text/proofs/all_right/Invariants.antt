@@ -1,9 +1,9 @@
 use Prim.Native.Nat.{◌-◌, ◌≤◌}
-use Rattle.text.specs.Windows.{Right_run}
+use Rattle.text.specs.Windows.{RightRun}
 use Rattle.text.proofs.all_right.Given as goal
 
 abbrev pub invariant-loop-i : goal.invariant-loop-i
-invariant-loop-i l = (l.start ≤ l.i) × (l.i ≤ l.end) × Right_run l.b l.start (l.i - l.start)
+invariant-loop-i l = (l.start ≤ l.i) × (l.i ≤ l.end) × RightRun l.b l.start (l.i - l.start)
 
 abbrev pub decreases-loop-i : goal.decreases-loop-i
 decreases-loop-i l = l.end - l.i

@@ -2,7 +2,7 @@
 use mathlib.Core.Path.{◌≡◌, sym, subst, ◌∙◌}
 use native.Mathlib.Omega.{arith}
 use borrow.Author.Tests.{not-true}
-use Rattle.text.specs.Windows.{Right_run}
+use Rattle.text.specs.Windows.{RightRun}
 use Rattle.text.proofs.Windows.{or_false, right_more}
 use Rattle.text.proofs.are_right.Goals as goal
 
@@ -24,4 +24,4 @@ returns c =
     let l = c.loop-k in
     let a = c.args in
     let all : l.k ≡ 16 = omega (arith, l.invariant.0, c.loop-k-test.false) in
-    λ e. subst (Right_run a.b.now a.i) all (l.invariant.1 (not-true l.wrong e))
+    λ e. subst (RightRun a.b.now a.i) all (l.invariant.1 (not-true l.wrong e))

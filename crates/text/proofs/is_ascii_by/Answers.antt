@@ -5,7 +5,7 @@ use Prim.Native.Nat.{◌+◌, ◌-◌}
 use lib.ListN.{length}
 use native.Mathlib.Omega.{arith}
 use borrow.Author.Tests.{not-false}
-use Rattle.text.specs.Shown.{Low_run}
+use Rattle.text.specs.Shown.{LowRun}
 use Rattle.text.proofs.Runs.{low_none, low_join}
 use Rattle.text.proofs.is_ascii_by.Goals as goal
 
@@ -34,4 +34,4 @@ returns c =
     let step = c.args.step in
     let end : length b - step + step ≡ length b = omega (arith, c.requires.1) in
     let last = c.are_low.ensures (not-false _ c.if-not-are_low.false-raw) in
-    λ e. subst (Low_run b 0) end (low_join b l.i (length b - step) step (omega (arith, c.loop-i-test.false)) l.invariant.1 last)
+    λ e. subst (LowRun b 0) end (low_join b l.i (length b - step) step (omega (arith, c.loop-i-test.false)) l.invariant.1 last)

@@ -4,7 +4,7 @@ use mathlib.Core.Bool.{true≢false}
 use Prim.Native.Nat.{ℕ, ◌<◌}
 use lib.ListN.{length, get_or}
 use native.Mathlib.Omega.{arith}
-use Rattle.text.specs.Shown.{Low_run}
+use Rattle.text.specs.Shown.{LowRun}
 use Rattle.text.proofs.Runs.{low_none, low_join}
 use Rattle.text.proofs.is_short_ascii.Goals as goal
 
@@ -25,4 +25,4 @@ pub returns : goal.returns
 returns c =
     let l = c.loop-i in
     let all : l.i ≡ length c.args.b.now = omega (arith, c.loop-i-test.false, l.invariant.0) in
-    λ e. subst (Low_run c.args.b.now 0) all l.invariant.1
+    λ e. subst (LowRun c.args.b.now 0) all l.invariant.1

@@ -6,12 +6,12 @@ use lib.ListN.{length}
 use native.Mathlib.Omega.{arith}
 use Rattle.format.specs.Format.{fine}
 use Rattle.format.specs.Value.{ascii, ascii_from}
-use Rattle.text.specs.Shown.{Low_run, shown_at}
+use Rattle.text.specs.Shown.{LowRun, shown_at}
 use Rattle.text.proofs.Finds.{finds_names}
 use Rattle.text.proofs.Runs.{ascii_low, ascii_done, run}
 use Rattle.text.proofs.is_surely_name.Goals as goal
 
-low-name : (b : List ℕ) → Low_run b 0 (length b) → ascii b ≡ fine
+low-name : (b : List ℕ) → LowRun b 0 (length b) → ascii b ≡ fine
 low-name b low = finds_names.passes b (ap shown_at (sym (run ascii_from ascii_low b (length b) (omega arith) low) ∙ ascii_done b (length b) (omega arith)))
 
 pub returns-then-b-ge8 : goal.returns-then-b-ge8

@@ -5,7 +5,7 @@ use mathlib.Core.List.{List}
 use lib.ListN.{length}
 use native.Mathlib.Omega.{arith}
 use Rattle.format.specs.Geography.{ring, turned_ring}
-use Rattle.turn.specs.Turning.{Rings, Some_rings}
+use Rattle.turn.specs.Turning.{Rings, SomeRings}
 use Rattle.turn.proofs.Changes.{all_changed}
 use Rattle.turn.proofs.Turns.{ring_left, ring_done}
 use borrow.Author.Rules.{rules}
@@ -13,7 +13,7 @@ use Rattle.turn.proofs.turn_rings.Statement.{statement}
 use Rattle.turn.proofs.turn_rings.Tie as tie
 
 abbrev invariant-loop : tie.invariant-loop
-invariant-loop b₀ from n at₀ i₀ b at i = (i ≤ n) × (length b ≡ length b₀) × Some_rings b at (n - i) × ((target : List ℕ) → Rings b₀ target from n → Rings b target at (n - i))
+invariant-loop b₀ from n at₀ i₀ b at i = (i ≤ n) × (length b ≡ length b₀) × SomeRings b at (n - i) × ((target : List ℕ) → Rings b₀ target from n → Rings b target at (n - i))
 
 abbrev decreases-loop : tie.decreases-loop
 decreases-loop b₀ from n at₀ i₀ b at i = n - i

@@ -1,12 +1,12 @@
 use Prim.Native.Nat.{◌-◌, ◌/◌, ◌≤◌}
 use mathlib.Core.Path.{◌≡◌}
 use lib.ListN.{length}
-use Rattle.whole.specs.Laid.{laid, Fit_all}
+use Rattle.whole.specs.Laid.{laid, FitAll}
 use Rattle.whole.proofs.put_cells.Given as goal
 
 abbrev pub invariant-loop-k : goal.invariant-loop-k
 invariant-loop-k l =
-    (l.k ≤ length l.cells / 2) × (length l.out ≡ length l.initial.out) × Fit_all l.bytes l.types l.cells l.k (length l.cells / 2 - l.k) l.at (length l.out)
+    (l.k ≤ length l.cells / 2) × (length l.out ≡ length l.initial.out) × FitAll l.bytes l.types l.cells l.k (length l.cells / 2 - l.k) l.at (length l.out)
     × (laid l.bytes l.types l.cells l.k (length l.cells / 2 - l.k) l.at l.out ≡ laid l.bytes l.types l.cells 0 (length l.cells / 2) l.from l.initial.out)
 
 abbrev pub decreases-loop-k : goal.decreases-loop-k

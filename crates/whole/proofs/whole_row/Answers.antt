@@ -4,7 +4,7 @@ use native.Mathlib.Omega.{arith}
 use mathlib.Core.Path.{◌≡◌, sym, subst}
 use lib.ListN.{length}
 use Rattle.format.specs.Message.{most_columns}
-use Rattle.whole.specs.Laid.{Fit_all}
+use Rattle.whole.specs.Laid.{FitAll}
 use Rattle.whole.proofs.Lays.{refused, accepts, wrote}
 use borrow.Author.Rules.{rules}
 use Rattle.whole.proofs.whole_row.Goals as goal
@@ -26,7 +26,7 @@ put_cells-requires c =
     let x = accepts a.bytes.now a.cells.now a.st a.types.now a.out.now c.ask_row-a.ensures c.in-Is.is in
     let w = c.number_at-first.ensures in
     let same : length c.number_at-first.new.out ≡ length a.out.now = search rules in
-    (x.wide, subst (λ (m : ℕ). Fit_all a.bytes.now a.types.now a.cells.now 0 (length a.cells.now / 2) m (length c.number_at-first.new.out)) (sym w.0) (subst (λ (m : ℕ). Fit_all a.bytes.now a.types.now a.cells.now 0 (length a.cells.now / 2) (a.st.position + 4) m) (sym same) x.taken.fits))
+    (x.wide, subst (λ (m : ℕ). FitAll a.bytes.now a.types.now a.cells.now 0 (length a.cells.now / 2) m (length c.number_at-first.new.out)) (sym w.0) (subst (λ (m : ℕ). FitAll a.bytes.now a.types.now a.cells.now 0 (length a.cells.now / 2) (a.st.position + 4) m) (sym same) x.taken.fits))
 
 pub overflow_sub-n : goal.overflow_sub-n
 overflow_sub-n c =
