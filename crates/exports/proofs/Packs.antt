@@ -1,10 +1,9 @@
 -- An answer of `accept`, packed, is the packed reading.
 use Prim.Native.Nat.{ℕ}
-use mathlib.Core.Path.{◌≡◌, refl, sym, ◌∙◌, ap}
+use mathlib.Core.Path.{◌≡◌, sym, ap}
 use mathlib.Core.List.{List}
 use Rattle.format.specs.declared.Refusal.{Refusal}
-use Rattle.format.specs.Result.{Res, ok, no}
-use Rattle.format.specs.Message.{Message, read_message}
+use Rattle.format.specs.Message.{read_message}
 use Rattle.message.specs.declared.Verdict.{Verdict}
 use Rattle.message.specs.Verdict.{told_verdict, verdict_of, verdict_no}
 use Rattle.message.proofs.Accepted.{verdict_go, verdict_stop}

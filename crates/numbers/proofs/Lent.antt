@@ -2,22 +2,19 @@
 use Prim.Native.Nat.{ℕ, ◌+◌, ◌*◌, ◌^◌, ◌<◌}
 use native.Mathlib.Omega.{arith}
 use mathlib.Core.Path.{◌≡◌, refl, ◌∙◌, ap}
-use mathlib.Core.List.{List, [], ◌∷◌}
+use mathlib.Core.List.{List}
 use lib.ListN.{get_or}
 use lib.IntN.{ℤ}
 use lib.Signed.{mag}
 use mir.Syntax.{Width, w64}
 use mir.Val.{SFits, of_z, to_z}
 use mir.ValLaws.{to_z-of_z}
-use types.Run.{OneOf, miss}
-use denote.Enum.Declared.{tag_of}
 use Rattle.format.specs.Result.{Res, ok, no}
 use Rattle.format.specs.Number.{num_at}
 use Rattle.format.specs.Message.{Message}
 use Rattle.scan.specs.Signed.{unsigned}
 use Rattle.message.specs.Verdict.{verdict_of}
 use Rattle.record.specs.declared.Span.{Span}
-use Rattle.record.specs.contracts.Span.{the_type as span-type}
 use Rattle.scan.proofs.Unsigned.{wider}
 use Rattle.numbers.specs.Packed.{packed, nothing}
 use Rattle.numbers.specs.Listed.{lent}
@@ -52,7 +49,7 @@ unfolding num_at
 eight_bytes l e f = omega (arith, e, f)
 
 -- a string that is null or absent
-pub not_there : (s : Span) → OneOf (1 ∷ 2 ∷ []) (tag_of span-type s) → 0 ≡ there s
-not_there (Span.At start size) tag = absurd (miss (1 ∷ 2 ∷ []) 0 tt tag)
-not_there Span.Null tag = refl
-not_there Span.Absent tag = refl
+pub not_there : (s : Span) → ((start size : ℕ) → s ≡ Span.At start size → ⊥) → 0 ≡ there s
+not_there (Span.At start size) other = absurd (other start size refl)
+not_there Span.Null other = refl
+not_there Span.Absent other = refl

@@ -15,7 +15,7 @@ use message::Verdict;
 use scan::{Body, Number};
 
 // A string: where its bytes start and how many they are; or null; or not there.
-#[derive(Drop)]
+#[derive(Clone, Copy)]
 pub enum Span {
     At(usize, usize),
     Null,
@@ -23,7 +23,7 @@ pub enum Span {
 }
 
 // A hash version, which version 0 lacks.
-#[derive(Drop)]
+#[derive(Clone, Copy)]
 pub enum Edition {
     Is(i8),
     Absent,

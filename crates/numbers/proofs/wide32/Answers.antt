@@ -1,0 +1,16 @@
+-- `numbers::wide32` meets its contract: what the cast makes wider is the same number. Assumes nothing.
+use Prim.Native.Nat.{◌^◌, ◌<◌}
+use native.Mathlib.Omega.{arith}
+use lib.Signed.{mag}
+use mir.Syntax.{w32}
+use Rattle.scan.proofs.Unsigned.{wider}
+use Rattle.numbers.proofs.Lent.{wide}
+use Rattle.numbers.proofs.wide32.Goals as goal
+
+pub overflow_cast-z : goal.overflow_cast-z
+overflow_cast-z c = let l : mag c.args.z < 2 ^ 31 = c.ranges.z.sfits in wider w32 c.args.z c.ranges.z (omega arith)
+
+pub returns : goal.returns
+returns c =
+    let l : mag c.args.z < 2 ^ 31 = c.ranges.z.sfits in
+    wide w32 c.args.z c.ranges.z (omega arith) c.unsigned64.ensures
