@@ -108,9 +108,7 @@ fn print_fact(rt: &impl Print, reason: Reason) -> io::Result<()> {
 
 fn print_now(rt: &impl Print, place: Found) -> io::Result<()> {
     match place {
-        Found::At(column) => {
-            println!(rt; "; its name and type now stand at column {column}")
-        }
+        Found::At(column) => { println!(rt; "; its name and type now stand at column {column}") }
         Found::Nothing => rt.println("; no column has its name and type"),
     }
 }
@@ -216,7 +214,9 @@ fn print_owner(rt: &impl Print, reply: &[u8], offset: usize) -> io::Result<()> {
     if let Owned::By(entry, _) = answer {
         let field = entry.field;
         let (table, row, column) = (entry.i, entry.j, entry.k);
-        print!(rt; "; byte {offset} is of field {field}, table {table}, row {row}, column {column}")?;
+        print!(rt;
+            "; byte {offset} is of field {field}, table {table}, row {row}, column {column}"
+        )?;
     }
     rt.println("")
 }
