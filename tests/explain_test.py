@@ -1195,7 +1195,7 @@ class Listing(unittest.TestCase):
 
 class Building(unittest.TestCase):
     def test_the_crates_of_a_program(self):
-        self.assertEqual(set(building.closure("list")), {"list", "listing", "fields", "tour", "tally", "message", "quick", "scan", "text", "format"})
+        self.assertEqual(set(building.closure("list")), {"list", "listing", "frames", "fields", "tour", "tally", "message", "quick", "scan", "text", "format"})
 
     def test_a_line_for_each_crate(self):
         said = io.StringIO()

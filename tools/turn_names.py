@@ -55,10 +55,11 @@ def snake(part):
 
 
 def turned(name):
-    parts = [snake(part) for part in name.split("-")]
+    # A type keeps its capitals, also where it begins a lemma's name.
+    parts = [part if part[:1].isupper() else snake(part) for part in name.split("-")]
     out = parts[0]
     for before, part in zip(parts, parts[1:]):
-        out += ("-" if before in OF_LISTS or before[0].isupper() else "_") + part
+        out += ("-" if before in OF_LISTS or before[:1].isupper() else "_") + part
     return out
 
 

@@ -15,7 +15,7 @@ LOGS = PROGRAMS = ROOT / "target" / "explain"
 SOURCES = pathlib.Path(__file__).parent
 ARCHIVE = ROOT / "target" / "staticlib" / "libexports.a"
 INTERFACE = ("writeexports", "areaexports", "exports")  # the crates that it is made of
-SILENT = 2  # seconds before a run that proves something says so
+SILENT = 5  # seconds before a run that proves something says so
 CHECKED = re.compile(r"crate (\S+): modules loaded=")
 
 

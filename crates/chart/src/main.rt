@@ -1,5 +1,6 @@
 // The chart program's work, on a reply with areas that stands on standard input: what each row's area is, the field list inside the first one, its holes
 // turned for the chart, the turned area passed on in a reply of its own and read back, turned again, and the first area written anew by steps.
+// A read or a write that fails ends it with an error.
 #![tactic(auto)]
 
 ghost use Rattle.std.specs.Prelude.{◌+◌, ◌≤◌, length};
@@ -7,10 +8,10 @@ ghost use Rattle.std.specs.Prelude.{◌+◌, ◌≤◌, length};
 use areas::{Bits, RingAnswer};
 use fields::Owned;
 use format::{Answer, Refusal};
-use libc::{STDIN_FILENO, STDOUT_FILENO};
 use message::Verdict;
 use query::{Part, TableAnswer};
 use reply::Head;
+use std::io;
 use write::Outcome;
 
 // Room for a reply, and for an area.
@@ -27,37 +28,37 @@ const BYTE: usize = 200;
 // The one column of the reply that is written, as three numbers: its type, and where its name stands.
 const COLUMN: [u64; 3] = [format::GEOGRAPHY as u64, 0, 4];
 
-fn main() {
+fn main(rt: HostRuntime) -> io::Result<()> {
     let mut input = [0u8; ROOM];
-    let n = io::read_full(STDIN_FILENO, &mut input);
-    chart(&input[..n]);
+    let n = frames::read_full(&mut rt.stdin(), &mut input)?;
+    chart(&rt, &input[..n])
 }
 
-fn chart(reply: &[u8]) {
+fn chart(rt: &impl Print, reply: &[u8]) -> io::Result<()> {
     let found = query::find_column(reply, 0, b"AREA");
     match found {
-        Answer::Is(column) => chart_column(reply, column),
-        Answer::No(refusal) => refuse(refusal),
+        Answer::Is(column) => chart_column(rt, reply, column),
+        Answer::No(refusal) => refuse(rt, refusal),
     }
 }
 
-fn chart_column(reply: &[u8], column: usize) {
-    word(b"column ", column as u64);
-    end_line();
-    print_rows(reply, column, row_count(reply));
+fn chart_column(rt: &impl Print, reply: &[u8], column: usize) -> io::Result<()> {
+    println!(rt; "column {column}")?;
+    print_rows(rt, reply, column, row_count(reply))?;
     let span = query::cell_span(reply, 0, 0, column);
     if let Part::Is(start, _) = span {
-        chart_area(query::part_at(reply, span), start);
+        chart_area(rt, query::part_at(reply, span), start)?;
     }
+    Ok(())
 }
 
 // An area that starts at a place of its message.
-fn chart_area(body: &[u8], start: usize) {
-    print_fields(body, start as u64);
-    print_owner(body, start);
-    print_holes(body);
-    turn_and_pass_on(body);
-    write_anew(body);
+fn chart_area(rt: &impl Print, body: &[u8], start: usize) -> io::Result<()> {
+    print_fields(rt, body, start as u64)?;
+    print_owner(rt, body, start)?;
+    print_holes(rt, body)?;
+    turn_and_pass_on(rt, body)?;
+    write_anew(rt, body)
 }
 
 // ---- What each row's area is.
@@ -70,42 +71,39 @@ fn row_count(reply: &[u8]) -> usize {
     }
 }
 
-fn print_rows(reply: &[u8], column: usize, rows: usize) {
+fn print_rows(rt: &impl Print, reply: &[u8], column: usize, rows: usize) -> io::Result<()> {
     let mut row = 0;
     while row < rows {
-        print_row(reply, row, column);
+        print_row(rt, reply, row, column)?;
         row += 1;
     }
+    Ok(())
 }
 
-fn print_row(reply: &[u8], row: usize, column: usize) {
-    word(b"row ", row as u64);
-    print_cell(reply, row, column);
+fn print_row(rt: &impl Print, reply: &[u8], row: usize, column: usize) -> io::Result<()> {
+    print!(rt; "row {row}")?;
+    print_cell(rt, reply, row, column)
 }
 
-fn print_cell(reply: &[u8], row: usize, column: usize) {
+fn print_cell(rt: &impl Print, reply: &[u8], row: usize, column: usize) -> io::Result<()> {
     let span = query::cell_span(reply, 0, row, column);
     match span {
-        Part::Is(start, _) => print_area(query::part_at(reply, span), start),
-        Part::Null => say(b": null\n"),
+        Part::Is(start, _) => print_area(rt, query::part_at(reply, span), start),
+        Part::Null => rt.println(": null"),
         Part::No(refusal) => {
-            say(b": ");
-            refuse(refusal);
+            rt.print(": ")?;
+            refuse(rt, refusal)
         }
     }
 }
 
-fn print_area(body: &[u8], start: usize) {
+fn print_area(rt: &impl Print, body: &[u8], start: usize) -> io::Result<()> {
     let answer = areas::rings(body);
     match answer {
-        Answer::Is(n) => {
-            word(b": area at ", start as u64);
-            word(b", rings ", n as u64);
-            end_line();
-        }
+        Answer::Is(n) => println!(rt; ": area at {start}, rings {n}"),
         Answer::No(refusal) => {
-            say(b": ");
-            refuse(moved(refusal, start));
+            rt.print(": ")?;
+            refuse(rt, moved(refusal, start))
         }
     }
 }
@@ -122,72 +120,71 @@ fn moved(refusal: Refusal, start: usize) -> Refusal {
 // ---- The field list inside an area, with places in the message.
 
 // Window after window, until one isn't full. A field has at least one byte, so the list is no longer than the body.
-fn print_fields(body: &[u8], start: u64) {
+fn print_fields(rt: &impl Print, body: &[u8], start: u64) -> io::Result<()> {
     let mut first = 0;
-    while first <= body.len() && print_window(body, first, start) {
+    while first <= body.len() && print_window(rt, body, first, start)? {
         first += WINDOW;
     }
+    Ok(())
 }
 
 // Prints the entries from `first` on, as many as a window takes, and answers whether there may be more.
-fn print_window(body: &[u8], first: usize, start: u64) -> bool {
+fn print_window(rt: &impl Print, body: &[u8], first: usize, start: u64) -> io::Result<bool> {
     let mut numbers = [0u64; WINDOW * NUMBERS];
     let answer = inside::window(body, first, &mut numbers);
     let Answer::Is(n) = answer else {
-        return false;
+        return Ok(false);
     };
-    print_entries(&numbers, n, start);
-    n == WINDOW
+    print_entries(rt, &numbers, n, start)?;
+    Ok(n == WINDOW)
 }
 
 // Prints the first n entries, or as many as there are.
-fn print_entries(numbers: &[u64], n: usize, start: u64) {
+fn print_entries(rt: &impl Print, numbers: &[u64], n: usize, start: u64) -> io::Result<()> {
     let mut i = 0;
     let mut from = 0;
     while i < n {
         if numbers.len() - from < NUMBERS {
-            return;
+            return Ok(());
         }
-        print_entry(numbers, from, start);
+        print_entry(rt, numbers, from, start)?;
         from += NUMBERS;
         i += 1;
     }
+    Ok(())
 }
 
 // Prints the six numbers from `from` on as a line of the listing's form: place, size, field number, ring, vertex, axis.
-fn print_entry(numbers: &[u64], from: usize, start: u64)
+fn print_entry(rt: &impl Print, numbers: &[u64], from: usize, start: u64) -> io::Result<()>
     requires { from + 6 ≤ length numbers.now }
 {
-    word(b"", std::num::wrapping_add_u64(start, numbers[from]));
-    word(b" ", numbers[from + 1]);
-    word(b" ", numbers[from + 2]);
-    word(b" ", numbers[from + 3]);
-    word(b" ", numbers[from + 4]);
-    word(b" ", numbers[from + 5]);
-    end_line();
+    let place = std::num::wrapping_add_u64(start, numbers[from]);
+    let (size, field) = (numbers[from + 1], numbers[from + 2]);
+    let (ring, vertex, axis) = (numbers[from + 3], numbers[from + 4], numbers[from + 5]);
+    println!(rt; "{place} {size} {field} {ring} {vertex} {axis}")
 }
 
-fn print_owner(body: &[u8], start: usize) {
+fn print_owner(rt: &impl Print, body: &[u8], start: usize) -> io::Result<()> {
     let answer = inside::owner(body, BYTE);
     if let Owned::By(entry, _) = answer {
-        word(b"byte ", std::num::wrapping_add_usize(start, BYTE) as u64);
-        word(b" is of field ", entry.field);
-        word(b", ring ", entry.i as u64);
-        word(b", vertex ", entry.j as u64);
-        word(b", axis ", entry.k as u64);
-        end_line();
+        let byte = std::num::wrapping_add_usize(start, BYTE);
+        let field = entry.field;
+        let (ring, vertex, axis) = (entry.i, entry.j, entry.k);
+        println!(rt; "byte {byte} is of field {field}, ring {ring}, vertex {vertex}, axis {axis}")?;
     }
+    Ok(())
 }
 
 // ---- The holes of an area: each ring after the first, by the bits of its vertices, so that their order is seen.
 
-fn print_holes(body: &[u8]) {
+fn print_holes(rt: &impl Print, body: &[u8]) -> io::Result<()> {
     let rings = ring_count(body);
     let mut ring = 1;
     while ring < rings {
-        print_ring(body, ring);
+        print_ring(rt, body, ring)?;
         ring += 1;
     }
+    Ok(())
 }
 
 fn ring_count(body: &[u8]) -> usize {
@@ -198,52 +195,49 @@ fn ring_count(body: &[u8]) -> usize {
     }
 }
 
-fn print_ring(body: &[u8], ring: usize) {
+fn print_ring(rt: &impl Print, body: &[u8], ring: usize) -> io::Result<()> {
     let answer = areas::ring(body, ring);
     if let RingAnswer::Is(layout) = answer {
-        print_vertices(body, ring, layout.vertices);
+        print_vertices(rt, body, ring, layout.vertices)?;
     }
+    Ok(())
 }
 
-fn print_vertices(body: &[u8], ring: usize, vertices: usize) {
+fn print_vertices(rt: &impl Print, body: &[u8], ring: usize, vertices: usize) -> io::Result<()> {
     let mut v = 0;
     while v < vertices {
-        print_vertex(body, ring, v);
+        print_vertex(rt, body, ring, v)?;
         v += 1;
     }
+    Ok(())
 }
 
-fn print_vertex(body: &[u8], ring: usize, v: usize) {
-    word(b"ring ", ring as u64);
-    word(b", vertex ", v as u64);
-    print_bits(areas::vertex_bits(body, ring, v));
+fn print_vertex(rt: &impl Print, body: &[u8], ring: usize, v: usize) -> io::Result<()> {
+    print!(rt; "ring {ring}, vertex {v}")?;
+    print_bits(rt, areas::vertex_bits(body, ring, v))
 }
 
-fn print_bits(bits: Bits) {
+fn print_bits(rt: &impl Print, bits: Bits) -> io::Result<()> {
     if let Bits::Are(x, y, z) = bits {
-        say(b": ");
-        io::print_hex(STDOUT_FILENO, x, 16);
-        say(b" ");
-        io::print_hex(STDOUT_FILENO, y, 16);
-        say(b" ");
-        io::print_hex(STDOUT_FILENO, z, 16);
+        print!(rt; ": {x:016x} {y:016x} {z:016x}")?;
     }
-    end_line();
+    rt.println("")
 }
 
 // ---- The holes turned, and the area passed on.
 
 // Turns the holes in a copy, and passes that on. The message that the body is lent from stays as it came.
-fn turn_and_pass_on(body: &[u8]) {
+fn turn_and_pass_on(rt: &impl Print, body: &[u8]) -> io::Result<()> {
     let mut copy = [0u8; ROOM];
     let size = copy_into(body, &mut copy);
-    pass_on_turned(&mut copy[0..size], body);
+    pass_on_turned(rt, &mut copy[0..size], body)
 }
 
-fn pass_on_turned(copy: &mut [u8], first: &[u8]) {
-    if turn_in_place(copy) {
-        pass_on(copy, first);
+fn pass_on_turned(rt: &impl Print, copy: &mut [u8], first: &[u8]) -> io::Result<()> {
+    if turn_in_place(rt, copy)? {
+        pass_on(rt, copy, first)?;
     }
+    Ok(())
 }
 
 // Copies all bytes if they fit, and none if they don't. Answers how many.
@@ -253,73 +247,74 @@ fn copy_into(from: &[u8], to: &mut [u8]) -> usize
     if to.len() < from.len() {
         return 0;
     }
-    bytes::copy(from, to)
+    to[..from.len()].copy_from_slice(from);
+    from.len()
 }
 
 // Turns the holes, and says how many rings the body has, or why it's refused. Answers whether they were turned.
-fn turn_in_place(body: &mut [u8]) -> bool {
+fn turn_in_place(rt: &impl Print, body: &mut [u8]) -> io::Result<bool> {
     let turned = turn::turn_holes(body);
     match turned {
         Answer::Is(n) => {
-            word(b"turned, rings ", n as u64);
-            end_line();
-            true
+            println!(rt; "turned, rings {n}")?;
+            Ok(true)
         }
         Answer::No(refusal) => {
-            refuse(refusal);
-            false
+            refuse(rt, refusal)?;
+            Ok(false)
         }
     }
 }
 
 // Writes a turned area into a reply, and reads that back.
-fn pass_on(turned: &[u8], first: &[u8]) {
+fn pass_on(rt: &impl Print, turned: &[u8], first: &[u8]) -> io::Result<()> {
     let mut out = [0u8; ROOM];
     let step = write_reply(&mut out, turned);
     let answer = step.answer;
-    read_back(written(&out, answer), first);
+    read_back(rt, written(rt, &out, answer)?, first)
 }
 
 // What was written, by the answer of the last step. After a refusal that is printed, and this is empty.
-fn written(out: &[u8], answer: Answer) -> &[u8] {
+fn written<'a>(rt: &impl Print, out: &'a [u8], answer: Answer) -> io::Result<&'a [u8]> {
     match answer {
         Answer::Is(n) => {
             if out.len() < n {
-                return &out[0..0];
+                return Ok(&out[0..0]);
             }
-            return &out[0..n];
+            Ok(&out[0..n])
         }
         Answer::No(refusal) => {
-            refuse(refusal);
-            return &out[0..0];
+            refuse(rt, refusal)?;
+            Ok(&out[0..0])
         }
     }
 }
 
-fn read_back(reply: &[u8], first: &[u8]) {
+fn read_back(rt: &impl Print, reply: &[u8], first: &[u8]) -> io::Result<()> {
     let verdict = message::accept(4, reply);
     if let Verdict::No(refusal) = verdict {
-        refuse(refusal);
-        return;
+        return refuse(rt, refusal);
     }
-    word(b"passed on, bytes ", reply.len() as u64);
-    print_cell(reply, 0, 0);
+    let size = reply.len();
+    print!(rt; "passed on, bytes {size}")?;
+    print_cell(rt, reply, 0, 0)?;
     let turned = query::part_at(reply, query::cell_span(reply, 0, 0, 0));
-    print_holes(turned);
-    turn_back(turned, first);
+    print_holes(rt, turned)?;
+    turn_back(rt, turned, first)
 }
 
 // Turns the holes once more, which restores the body.
-fn turn_back(turned: &[u8], first: &[u8]) {
+fn turn_back(rt: &impl Print, turned: &[u8], first: &[u8]) -> io::Result<()> {
     let mut copy = [0u8; ROOM];
     let size = copy_into(turned, &mut copy);
-    restore(&mut copy[0..size], first);
+    restore(rt, &mut copy[0..size], first)
 }
 
-fn restore(copy: &mut [u8], first: &[u8]) {
-    if turn_in_place(copy) {
-        compare(b"turned twice: ", copy, first);
+fn restore(rt: &impl Print, copy: &mut [u8], first: &[u8]) -> io::Result<()> {
+    if turn_in_place(rt, copy)? {
+        compare(rt, "turned twice: ", copy, first)?;
     }
+    Ok(())
 }
 
 // ---- A reply with one table, which has one row, which has one area.
@@ -375,11 +370,11 @@ fn after(first: Outcome, second: Outcome) -> Outcome {
 
 // ---- The area, written anew by steps from what is read of it.
 
-fn write_anew(body: &[u8]) {
+fn write_anew(rt: &impl Print, body: &[u8]) -> io::Result<()> {
     let mut out = [0u8; ROOM];
     let step = write_area(&mut out, body);
     let answer = step.answer;
-    compare(b"written anew: ", written(&out, answer), body);
+    compare(rt, "written anew: ", written(rt, &out, answer)?, body)
 }
 
 fn write_area(out: &mut [u8], body: &[u8]) -> outline::Outcome {
@@ -481,12 +476,12 @@ fn area_block(kept: &[u8]) -> [u8; format::AREA_KEPT] {
 // ---- What is printed.
 
 // Says whether two bodies are the same.
-fn compare(text: &[u8], a: &[u8], b: &[u8]) {
-    say(text);
+fn compare(rt: &impl Print, text: &str, a: &[u8], b: &[u8]) -> io::Result<()> {
+    rt.print(text)?;
     if same(a, b) {
-        say(b"the same bytes\n");
+        rt.println("the same bytes")
     } else {
-        say(b"other bytes\n");
+        rt.println("other bytes")
     }
 }
 
@@ -504,20 +499,7 @@ fn same(a: &[u8], b: &[u8]) -> bool {
     true
 }
 
-fn refuse(refusal: Refusal) {
-    listing::print_refusal(refusal);
-}
-
-fn say(text: &[u8]) {
-    io::write_all(STDOUT_FILENO, text);
-}
-
-fn end_line() {
-    say(b"\n");
-}
-
-// Prints a text and a number.
-fn word(text: &[u8], n: u64) {
-    say(text);
-    io::print_decimal(STDOUT_FILENO, n);
+fn refuse(rt: &impl Print, refusal: Refusal) -> io::Result<()> {
+    listing::print_refusal(rt, refusal)?;
+    Ok(())
 }

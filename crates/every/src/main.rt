@@ -1,5 +1,6 @@
 // One message of each kind, with every wire type, is written step by step, read back, compared and listed.
 // What must be printed is made by the second encoder and the second reader alone: tests/second/every.py.
+// A write that fails ends it with an error.
 #![tactic(auto)]
 
 ghost use Rattle.std.specs.Prelude.{◌<◌};
@@ -9,11 +10,11 @@ ghost use Rattle.write.specs.Shown.{Opened};
 
 use columns::Column;
 use format::Answer;
-use libc::STDOUT_FILENO;
 use message::Verdict;
 use query::{Argued, CellAnswer, Part};
 use reply::Head;
 use show::{Cell, Raw};
+use std::io;
 use write::{Outcome, State};
 
 // A byte of kind, and more room than any of the messages needs.
@@ -122,15 +123,16 @@ struct Bits {
     lower: u64,
 }
 
-fn main() {
-    if login_request() && login_response() && invocation() {
-        response();
+fn main(rt: HostRuntime) -> io::Result<()> {
+    if login_request(&rt)? && login_response(&rt)? && invocation(&rt)? {
+        response(&rt)?;
     }
+    Ok(())
 }
 
 // ---- The messages. Each answers whether it was written and read back as it was written.
 
-fn login_request() -> bool {
+fn login_request(rt: &impl Print) -> io::Result<bool> {
     let mut buffer = [0u8; ROOM];
     buffer[0] = 1;
     let answer = login::login_request(
@@ -141,10 +143,15 @@ fn login_request() -> bool {
         b"harbour",
         b"a hash of 32 bytes, as SHA-256's",
     );
-    report(b"login request accepted\n", frame_in(&buffer, answer), true)
+    report(
+        rt,
+        "login request accepted",
+        frame_in(rt, &buffer, answer)?,
+        true,
+    )
 }
 
-fn login_response() -> bool {
+fn login_response(rt: &impl Print) -> io::Result<bool> {
     let mut buffer = [0u8; ROOM];
     buffer[0] = 2;
     let answer = login::login_response(
@@ -158,42 +165,48 @@ fn login_response() -> bool {
         b"6.0 harbour",
     );
     report(
-        b"login response accepted\n",
-        frame_in(&buffer, answer),
+        rt,
+        "login response accepted",
+        frame_in(rt, &buffer, answer)?,
         true,
     )
 }
 
-fn invocation() -> bool {
+fn invocation(rt: &impl Print) -> io::Result<bool> {
     let mut buffer = [0u8; ROOM];
     buffer[0] = 3;
     let step = write_call(&mut buffer[1..]);
     let answer = step.answer;
-    let frame = frame_in(&buffer, answer);
+    let frame = frame_in(rt, &buffer, answer)?;
     report(
-        b"invocation accepted, parameters as written\n",
+        rt,
+        "invocation accepted, parameters as written",
         frame,
         parameters_are(message_in(frame)),
     )
 }
 
 // Writes a draft with a row of values and one of nulls, and the response with those rows copied from it.
-fn response() -> bool {
+fn response(rt: &impl Print) -> io::Result<bool> {
     let mut draft = [0u8; ROOM];
     let step = write_draft(&mut draft[1..]);
     let answer = step.answer;
-    let frame = frame_in(&draft, answer);
-    frame.len() != 0 && response_from(message_in(frame))
+    let frame = frame_in(rt, &draft, answer)?;
+    if frame.len() == 0 {
+        return Ok(false);
+    }
+    response_from(rt, message_in(frame))
 }
 
-fn response_from(draft: &[u8]) -> bool {
+fn response_from(rt: &impl Print, draft: &[u8]) -> io::Result<bool> {
     let mut buffer = [0u8; ROOM];
     buffer[0] = 4;
     let step = write_reply(&mut buffer[1..], draft);
     let answer = step.answer;
-    let frame = frame_in(&buffer, answer);
+    let frame = frame_in(rt, &buffer, answer)?;
     report(
-        b"response accepted, cells as written\n",
+        rt,
+        "response accepted, cells as written",
         frame,
         cells_are(message_in(frame)),
     )
@@ -202,18 +215,18 @@ fn response_from(draft: &[u8]) -> bool {
 // ---- What is printed.
 
 // The byte of kind and the message behind it, by the answer of its last step. After a refusal that is printed, and this is empty.
-fn frame_in(buffer: &[u8; ROOM], answer: Answer) -> &[u8] {
+fn frame_in<'a>(rt: &impl Print, buffer: &'a [u8; ROOM], answer: Answer) -> io::Result<&'a [u8]> {
     let whole: &[u8] = buffer;
     match answer {
         Answer::Is(n) => {
             if whole.len() <= n {
-                return &whole[0..0];
+                return Ok(&whole[0..0]);
             }
-            return &whole[0..n + 1];
+            Ok(&whole[0..n + 1])
         }
         Answer::No(refusal) => {
-            listing::print_refusal(refusal);
-            return &whole[0..0];
+            listing::print_refusal(rt, refusal)?;
+            Ok(&whole[0..0])
         }
     }
 }
@@ -228,37 +241,34 @@ fn message_in(frame: &[u8]) -> &[u8] {
 
 // Prints the verdict on a message that was read back: the one given, where it is accepted and its values are those that were written, and then
 // its bytes and its field list. Answers whether it is so.
-fn report(fine: &[u8], frame: &[u8], equal: bool) -> bool {
+fn report(rt: &impl Print, fine: &str, frame: &[u8], equal: bool) -> io::Result<bool> {
     if frame.len() == 0 {
-        return false;
+        return Ok(false);
     }
     let verdict = message::accept(frame[0], &frame[1..]);
     if let Verdict::No(refusal) = verdict {
-        listing::print_refusal(refusal);
-        return false;
+        listing::print_refusal(rt, refusal)?;
+        return Ok(false);
     }
     if !equal {
-        io::write_all(STDOUT_FILENO, b"not as written\n");
-        return false;
+        rt.println("not as written")?;
+        return Ok(false);
     }
-    io::write_all(STDOUT_FILENO, fine);
-    print_bytes(&frame[1..]);
-    listing::print(frame);
-    true
+    rt.println(fine)?;
+    print_bytes(rt, &frame[1..])?;
+    listing::print(rt, frame)?;
+    Ok(true)
 }
 
 // Prints bytes as a line of hexadecimal digits.
-fn print_bytes(bytes: &[u8]) {
+fn print_bytes(rt: &impl Print, bytes: &[u8]) -> io::Result<()> {
     let mut i = 0;
     while i < bytes.len() {
-        io::print_hex(STDOUT_FILENO, wide(bytes[i]), 2);
+        let x = bytes[i];
+        print!(rt; "{x:02x}")?;
         i += 1;
     }
-    io::write_all(STDOUT_FILENO, b"\n");
-}
-
-fn wide(x: u8) -> u64 {
-    x as u64
+    rt.println("")
 }
 
 // ---- Steps.

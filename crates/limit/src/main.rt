@@ -1,9 +1,10 @@
 // The insurer's question, asked of replies on standard input, one frame each: which bytes set the throttle limit of an engine?
 // A card is made from the first reply and opened over each of them. Where it opens a column, the engine's limit is printed with
 // its place in the message and the field that owns its first byte; where it doesn't fit any more, the refusal is, and why.
+// A read or a write that fails ends it with an error.
 #![tactic(auto)]
 
-ghost use Rattle.std.specs.Prelude.{◌≡◌, ◌≤◌, length};
+ghost use Rattle.std.specs.Prelude.{◌≡◌, ◌≤◌, length, IfOk};
 ghost use Rattle.format.specs.Result.{told_answer};
 ghost use Rattle.cards.specs.Card.{most_size};
 ghost use Rattle.cards.specs.Answers.{ask_open};
@@ -14,9 +15,10 @@ use cards::{Fit, Reason};
 use fields::Owned;
 use format::Answer;
 use frames::Frame;
-use libc::STDOUT_FILENO;
 use query::{CellAnswer, Part, TableAnswer};
 use show::Cell;
+use std::io;
+use std::io::Read;
 use text::Found;
 
 // The engine that is asked for.
@@ -24,106 +26,105 @@ const ENGINE: i32 = 2;
 
 // A proved loop has to end, and nothing says that the input does. So this one counts its turns down, from a number that no
 // run uses up.
-fn main() {
+fn main(rt: HostRuntime) -> io::Result<()> {
+    let mut input = rt.stdin();
     let mut card = [0u8; cards::MOST_SIZE];
-    let size = make_card(&mut card);
+    let size = make_card(&rt, &mut input, &mut card)?;
     if size == 0 {
-        return;
+        return Ok(());
     }
     let mut turns = u64::MAX;
-    while turns > 0 && open_next(&card[..size]) {
+    while turns > 0 && open_next(&rt, &mut input, &card[..size])? {
         turns -= 1;
     }
+    Ok(())
 }
 
 // Makes the card of the limit's column from the first reply, and asks that reply too. Answers how many bytes the card has; 0 if none was made.
-fn make_card(card: &mut [u8]) -> usize
+fn make_card<R: Read>(rt: &impl Print, input: &mut R, card: &mut [u8]) -> io::Result<usize>
     requires { most_size ≤ length card.old }
-    ensures { result ≤ most_size }
+    ensures { IfOk result (λ size. size ≤ most_size) }
 {
     let mut frame = [0u8; 65537];
-    let read = frames::next(&mut frame);
+    let read = frames::next(input, &mut frame)?;
     let Frame::Is(n) = read else {
-        return 0;
+        return Ok(0);
     };
     let reply = &frame[..n];
     let made = cards::make_card(reply, 0, b"THROTTLE_LIMIT", card);
     match made {
         Answer::No(refusal) => {
-            listing::print_refusal(refusal);
-            0
+            listing::print_refusal(rt, refusal)?;
+            Ok(0)
         }
         Answer::Is(position) => {
             let size = cards::size_at(position);
-            open(reply, &card[..size]);
-            size
+            open(rt, reply, &card[..size])?;
+            Ok(size)
         }
     }
 }
 
 // Opens the card over the next reply, and answers whether there was one.
-fn open_next(card: &[u8]) -> bool {
+fn open_next<R: Read>(rt: &impl Print, input: &mut R, card: &[u8]) -> io::Result<bool> {
     let mut frame = [0u8; 65537];
-    let read = frames::next(&mut frame);
+    let read = frames::next(input, &mut frame)?;
     let Frame::Is(n) = read else {
-        return false;
+        return Ok(false);
     };
-    open(&frame[..n], card);
-    true
+    open(rt, &frame[..n], card)?;
+    Ok(true)
 }
 
-fn open(reply: &[u8], card: &[u8]) {
+fn open(rt: &impl Print, reply: &[u8], card: &[u8]) -> io::Result<()> {
     let opened = opened_by(reply, card);
     match opened {
-        Answer::Is(column) => print_limit(reply, column),
+        Answer::Is(column) => print_limit(rt, reply, column),
         Answer::No(refusal) => {
-            say(b"card ");
-            listing::print_refusal(refusal);
-            print_reason(fit_of(reply, card));
+            rt.print("card ")?;
+            listing::print_refusal(rt, refusal)?;
+            print_reason(rt, fit_of(reply, card))
         }
     }
 }
 
 // Prints why a card doesn't fit; of a reply or a card that is refused for another fault there is nothing to say.
-fn print_reason(fit: Fit) {
+fn print_reason(rt: &impl Print, fit: Fit) -> io::Result<()> {
     if let Fit::Stale(reason, place) = fit {
-        say(b"stale: ");
-        print_fact(reason);
-        print_now(place);
+        rt.print("stale: ")?;
+        print_fact(rt, reason)?;
+        print_now(rt, place)?;
     }
+    Ok(())
 }
 
-fn print_fact(reason: Reason) {
+fn print_fact(rt: &impl Print, reason: Reason) -> io::Result<()> {
     match reason {
-        Reason::Past => say(b"its position is past the last column"),
-        Reason::OtherType => say(b"the column at its position has another type"),
-        Reason::OtherName => say(b"the column at its position has another name"),
+        Reason::Past => rt.print("its position is past the last column"),
+        Reason::OtherType => rt.print("the column at its position has another type"),
+        Reason::OtherName => rt.print("the column at its position has another name"),
     }
 }
 
-fn print_now(place: Found) {
+fn print_now(rt: &impl Print, place: Found) -> io::Result<()> {
     match place {
-        Found::At(column) => word(b"; its name and type now stand at column ", column as u64),
-        Found::Nothing => say(b"; no column has its name and type"),
+        Found::At(column) => { println!(rt; "; its name and type now stand at column {column}") }
+        Found::Nothing => rt.println("; no column has its name and type"),
     }
-    say(b"\n");
 }
 
 // Prints the engine's limit, and whose bytes it was read from.
-fn print_limit(reply: &[u8], column: usize) {
+fn print_limit(rt: &impl Print, reply: &[u8], column: usize) -> io::Result<()> {
     let row = engine_row(reply);
     let answer = cell_of(reply, row, column);
     let CellAnswer::Is(cell) = answer else {
-        say(b"no such engine\n");
-        return;
+        return rt.println("no such engine");
     };
     if let Cell::Decimal(_, lower) = cell {
-        word(b"limit ", lower);
-        say(b" x 10^-12,");
+        print!(rt; "limit {lower} x 10^-12,")?;
     }
-    word(b" column ", column as u64);
-    word(b", row ", row as u64);
-    print_place(reply, row, column);
+    print!(rt; " column {column}, row {row}")?;
+    print_place(rt, reply, row, column)
 }
 
 // The row of the engine, or how many rows there are if none is its.
@@ -199,33 +200,23 @@ fn cell_of(reply: &[u8], row: usize, column: usize) -> CellAnswer
 }
 
 // Prints where a cell's bytes stand and who owns the first of them.
-fn print_place(reply: &[u8], row: usize, column: usize) {
+fn print_place(rt: &impl Print, reply: &[u8], row: usize, column: usize) -> io::Result<()> {
     let place = query::cell_place(reply, 0, row, column);
     if let Part::Is(at, size) = place {
-        word(b": ", size as u64);
-        word(b" bytes from ", at as u64);
-        print_owner(reply, at);
+        print!(rt; ": {size} bytes from {at}")?;
+        print_owner(rt, reply, at)?;
     }
+    Ok(())
 }
 
-fn print_owner(reply: &[u8], offset: usize) {
+fn print_owner(rt: &impl Print, reply: &[u8], offset: usize) -> io::Result<()> {
     let answer = fields::owner(4, reply, offset);
     if let Owned::By(entry, _) = answer {
-        word(b"; byte ", offset as u64);
-        word(b" is of field ", entry.field);
-        word(b", table ", entry.i as u64);
-        word(b", row ", entry.j as u64);
-        word(b", column ", entry.k as u64);
+        let field = entry.field;
+        let (table, row, column) = (entry.i, entry.j, entry.k);
+        print!(rt;
+            "; byte {offset} is of field {field}, table {table}, row {row}, column {column}"
+        )?;
     }
-    say(b"\n");
-}
-
-fn say(text: &[u8]) {
-    io::write_all(STDOUT_FILENO, text);
-}
-
-// Prints a text and a number.
-fn word(text: &[u8], n: u64) {
-    say(text);
-    io::print_decimal(STDOUT_FILENO, n);
+    rt.println("")
 }

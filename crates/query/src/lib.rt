@@ -87,7 +87,7 @@ pub enum CellAnswer {
 }
 
 // A part of the message: where it starts and how long it is; or null.
-#[derive(Drop)]
+#[derive(Clone, Copy)]
 pub enum Part {
     Is(usize, usize),
     Null,

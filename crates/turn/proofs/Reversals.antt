@@ -1,18 +1,17 @@
 -- The bytes of some vertices, all reversed and then those of each, are the vertices in reverse order.
-use Prim.Native.Nat.{ℕ, zero, suc, ◌+◌, ◌*◌, ◌≤◌}
+use Prim.Native.Nat.{ℕ, zero, suc, ◌+◌, ◌-◌, ◌*◌, ◌≤◌}
 use mathlib.Core.Path.{◌≡◌, refl, sym, ◌∙◌, ap}
 use mathlib.Core.List.{List, [], ◌∷◌, ◌++◌, flat_map, reverse, reverse_aux, append_assoc, append-nil, reverse-append, reverse-reverse, reverse-cons}
 use lib.ListN.{length, take, drop, length-append, length-reverse}
 use lib.Seq.{take-append_seam, drop-append_seam}
 use native.Mathlib.Omega.{arith}
-use Rattle.bytes.specs.Bytes.{rev, slice}
+use Rattle.std.proofs.lemmas.List.{drop-drop, drop-take}
 use Rattle.turn.specs.Turning.{Each, Changing, Block, itself}
 use Rattle.turn.proofs.Changes.{first_left}
 
 -- a part of a list, reversed in its place
 pub part_reversed : (s front c y : List ℕ) (from to : ℕ) → front ++ (c ++ y) ≡ s → length front ≡ from → length c + from ≡ to
-    → take from s ++ (rev (slice from to s) ++ drop to s) ≡ front ++ (reverse c ++ y)
-unfolding rev slice
+    → take from s ++ (reverse (drop from (take to s)) ++ drop to s) ≡ front ++ (reverse c ++ y)
 part_reversed s front c y from to e f t =
     let whole : front ++ c ++ y ≡ s = append_assoc front c y ∙ e in
     let long : length (front ++ c) ≡ to = length-append front c ∙ omega arith in
@@ -22,8 +21,17 @@ part_reversed s front c y from to e f t =
     let four : drop from (front ++ c) ≡ c = rw (← f) (drop-append_seam front c) in
     rw (one, two, three, four)
 
+-- a part that is lent, and comes back reversed
+pub lent_reversed : (s : List ℕ) (from to : ℕ) → from ≤ to → {v : List ℕ} → v ≡ reverse (take (to - from) (drop from s))
+    → take from s ++ (v ++ drop (to - from) (drop from s)) ≡ take from s ++ (reverse (drop from (take to s)) ++ drop to s)
+lent_reversed s from to h {v} e =
+    let n : from + (to - from) ≡ to = omega arith in
+    let part : drop from (take to s) ≡ take (to - from) (drop from s) = rw n at (drop-take from (to - from) s) in
+    let rest : drop (to - from) (drop from s) ≡ drop to s = rw n at (drop-drop (to - from) from s) in
+    rw (e, part, rest)
+
 -- one vertex more has its own order
-pub mended : (s target : List ℕ) (at left : ℕ) → Changing reverse itself Block s target at (suc left) → {s' : List ℕ} → s' ≡ take at s ++ (rev (slice at (at + 24) s) ++ drop (at + 24) s)
+pub mended : (s target : List ℕ) (at left : ℕ) → Changing reverse itself Block s target at (suc left) → {s' : List ℕ} → s' ≡ take at s ++ (reverse (drop at (take (at + 24) s)) ++ drop (at + 24) s)
     → Changing reverse itself Block s' target (at + 24) left
 mended s target at left h {s'} e =
     let f = first_left reverse itself Block h in
@@ -59,7 +67,7 @@ flat_size (a ∷ l) g = rw (length-append, g.0, flat_size l g.1) (omega arith)
 -- what is left to mend when all bytes are reversed
 pub to_mend : (s front : List ℕ) (blocks : List (List ℕ)) (back : List ℕ) (from n to : ℕ) → front ++ (flat_map itself blocks ++ back) ≡ s → length front ≡ from → length blocks ≡ n
     → Each Block blocks → to ≡ from + 24 * n
-    → Changing reverse itself Block (take from s ++ (rev (slice from to s) ++ drop to s)) (front ++ (flat_map itself (reverse blocks) ++ back)) from n
+    → Changing reverse itself Block (take from s ++ (reverse (drop from (take to s)) ++ drop to s)) (front ++ (flat_map itself (reverse blocks) ++ back)) from n
 to_mend s front blocks back from n to e f m g t =
     let size : length (flat_map itself blocks) + from ≡ to = omega (arith, flat_size blocks g, t, m) in
     record {

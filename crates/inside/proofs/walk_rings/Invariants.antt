@@ -1,0 +1,12 @@
+use Prim.Native.Nat.{◌-◌}
+use Rattle.format.specs.Message.{first}
+use Rattle.format.specs.Geography.{ring}
+use Rattle.tally.specs.Walks.{index_of}
+use Rattle.tally.proofs.Rounds.{Round}
+use Rattle.inside.proofs.walk_rings.Given as goal
+
+abbrev pub invariant-loop-i : goal.invariant-loop-i
+invariant-loop-i l = Round first (λ m. ring) l.s (index_of l.ix) l.n l.initial.tour l.initial.out l.i l.tour l.out
+
+abbrev pub decreases-loop-i : goal.decreases-loop-i
+decreases-loop-i l = l.n - l.i
