@@ -438,8 +438,7 @@ fn open_table(out: &mut [u8], types: &mut [u8; write::COLUMNS]) -> Outcome {
     )
 }
 
-// Opens a table, and lends its columns for that. A function that lends structs has no proof of Rattle's own making: this one is proved by a walk by
-// hand, and does nothing else.
+// Opens a table, and lends its columns for that.
 fn open_lent(
     out: &mut [u8],
     st: State,

@@ -166,8 +166,7 @@ fn is_engine(answer: CellAnswer) -> bool {
     }
 }
 
-// ---- The questions to a reply's table, each by a reader over it. These five alone hold one: Rattle makes no proof of such a function by itself, so
-// each does nothing else, and is proved by a walk by hand.
+// ---- The questions to a reply's table, each by a reader over it.
 
 fn layout_of(reply: &[u8]) -> TableAnswer
     ensures { told_table result ≡ ask_table reply.now 0 }
