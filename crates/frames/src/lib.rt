@@ -1,7 +1,7 @@
 // Frames of an input: a size of 4 bytes, big-endian, then that many bytes.
 #![tactic(auto)]
 
-ghost use Rattle.std.specs.Prelude.{◌≤◌, IfOk};
+ghost use Rattle.std.specs.Prelude.{◌≤◌, ◌≡◌, length, IfOk, OnErr};
 ghost use Rattle.frames.specs.Within.{IsPrefixLen, Within};
 
 use std::io;
@@ -17,9 +17,10 @@ pub enum Frame {
 }
 
 // Reads the next frame to the start of buf. No contract can say what is read; this one says that
-// the frame lies within buf. A read that fails is an error.
+// the frame lies within buf. A read that fails is an error, and buf may then hold some of what came.
 pub fn next<R: Read>(input: &mut R, buf: &mut [u8]) -> io::Result<Frame>
-    ensures { IfOk result (λ frame. Within frame buf.new) }
+    ensures ok { IfOk result (λ frame. Within frame buf.new) }
+    ensures err { OnErr result (length buf.new ≡ length buf.old) }
 {
     let mut head = [0u8; 4];
     let got = read_full(input, &mut head)?;
@@ -42,7 +43,8 @@ pub fn next<R: Read>(input: &mut R, buf: &mut [u8]) -> io::Result<Frame>
 
 // Reads until buf is full or the input ends, and answers how many bytes it put at the start of buf.
 pub fn read_full<R: Read>(input: &mut R, buf: &mut [u8]) -> io::Result<usize>
-    ensures { IfOk result (λ n. IsPrefixLen n buf.new) }
+    ensures ok { IfOk result (λ n. IsPrefixLen n buf.new) }
+    ensures err { OnErr result (length buf.new ≡ length buf.old) }
 {
     let mut done = 0;
     while done < buf.len() {

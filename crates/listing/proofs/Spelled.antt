@@ -1,4 +1,4 @@
--- What `io::decimal` promises of its count is what `placesFrom` computes; a number below 2^64 has at most 20 digits.
+-- What `decimal` promises of its count is what `places_from` computes; a number below 2^64 has at most 20 digits.
 use Prim.Native.Nat.{ℕ, zero, suc, ◌+◌, ◌-◌, ◌^◌, ◌≤◌, ◌<◌}
 use mathlib.Core.Path.{◌≡◌, refl, sym, ap, subst, ◌∙◌}
 use mathlib.Core.List.{List, [], ◌∷◌, ◌++◌, append_assoc}
