@@ -2,6 +2,7 @@
 sources, and need nothing built. Run: python3 tests/numbers_test.py"""
 
 import itertools
+import os
 import pathlib
 import re
 import sys
@@ -84,7 +85,7 @@ class Refusals(unittest.TestCase):
         self.assertEqual(re.findall(r"Cause::(\w+),", part(rust, "const CAUSES: ", "];")), [name for name, _ in wanted])
 
     def test_the_proved_code_and_its_definition_give_them(self):
-        code = numbered(r"Fault::(\w+) => (\d+),", part(source("crates/format/src/lib.rt"), "pub fn number_of(", "\n}"))
+        code = numbered(r"Fault::(\w+) => (\d+),", part(source("crates/format/src/lib.rt"), "impl From<Fault> for u8 {", "\n}"))
         self.assertEqual(numbered(r"^number_of (\w+) = (\d+)$", source("crates/format/specs/Result.antt")), code)
         self.assertEqual(sorted(number for _, number in code), [number for _, number in NAMED_REFUSALS])
 
@@ -254,6 +255,14 @@ class Fields(unittest.TestCase):
             self.assertEqual(first, next((name for fields, name in groups.items() if int(number) in fields), "0"), number)
 
 
+def below(folder):
+    """The files below a folder. What `rt` makes in a crate's folder out/ is none of its files, and comes and goes while `rt` runs beside: it isn't entered."""
+    for at, folders, names in os.walk(folder):
+        folders[:] = [name for name in folders if name != "out"]
+        for name in names:
+            yield pathlib.Path(at, name)
+
+
 class Seven(unittest.TestCase):
     """It is no longer given, nor told: a name or an expected answer that still has it was forgotten. The notes on requests say what was, and the crate
     `causes` proves what became of it."""
@@ -263,8 +272,7 @@ class Seven(unittest.TestCase):
     TOLD = re.compile(r"\brefus(?:ed|al) 7\b|BAD[_]VALUE|Cause::Bad[V]alue")
 
     def test_nothing_tells_it(self):
-        # what `rt` makes in a crate's folder out/ is none of its files
-        files = [path for folder in self.FOLDERS for path in (ROOT / folder).glob("**/*") if "out" not in path.relative_to(ROOT).parts and path.is_file()] + [ROOT / "README.md"]
+        files = [path for folder in self.FOLDERS for path in below(ROOT / folder)] + [ROOT / "README.md"]
         self.assertGreater(len(files), 100)
         told = [str(path.relative_to(ROOT)) for path in files
                 if not any(folder in path.parents for folder in self.OF_BEFORE) and self.TOLD.search(path.read_bytes().decode(errors="replace"))]

@@ -1,5 +1,7 @@
 -- Calls of the C interface are calls of the library: the state that is read from the numbers is the one that the last call left, and an answer's low 8 bits are 0
 -- exactly if it is accepted. So what is proved of the library's calls (outline/proofs/Calls) holds of them.
+use Rattle.format.specs.declared.Refusal.{Refusal}
+use Rattle.std.specs.Prelude.{Result, Ok, Err}
 use Prim.Native.Nat.{ℕ, ◌*◌, ◌%◌, ◌^◌, ◌<◌, ◌≤◌}
 use native.Mathlib.Omega.{arith}
 use native.Mathlib.Nat.{mod-eq_of_lt}
@@ -7,10 +9,8 @@ use mathlib.Core.Path.{◌≡◌, refl, sym, ap, ◌∙◌, subst}
 use mathlib.Core.List.{List, [], ◌∷◌}
 use lib.ListN.{length, drop, length-append}
 use Rattle.format.specs.declared.Fault.{Fault}
-use Rattle.format.specs.declared.Answer.{Answer}
-use Rattle.format.specs.declared.Answer.TheVariants.{Is, No}
 use Rattle.format.proofs.Decides.{number_small}
-use Rattle.format.specs.Result.{Res, ok, no, told_answer}
+use Rattle.format.specs.Result.{Res, ok, no, told}
 use Rattle.format.specs.Geography.{Polygon, polygon}
 use Rattle.format.proofs.Results.{no_ok}
 use Rattle.steps.specs.Writings.{overlaid}
@@ -40,14 +40,14 @@ above_whole : (n : ℕ) → n < 2 ^ 56 → above n ≡ n * 2 ^ 8
 above_whole n h = mod-eq_of_lt (omega arith)
 
 -- a packed answer that is accepted
-packed_ok : (a : Answer) (r : ℕ) → r ≡ packed itself (told_answer a) → r % 2 ^ 8 ≡ 0 → (m : ℕ) × (a ≡ Is m) × (r ≡ above m)
-packed_ok (Is m) r e z = (m, refl, e)
-packed_ok (No x) r e z = absurd (refused_not x.fault x.place (ap (λ (n : ℕ). n % 2 ^ 8) (sym e) ∙ z))
+packed_ok : (a : Result ℕ Refusal) (r : ℕ) → r ≡ packed itself (told a) → r % 2 ^ 8 ≡ 0 → (m : ℕ) × (a ≡ Ok m) × (r ≡ above m)
+packed_ok (Ok m) r e z = (m, refl, e)
+packed_ok (Err x) r e z = absurd (refused_not x.fault x.place (ap (λ (n : ℕ). n % 2 ^ 8) (sym e) ∙ z))
 
-ok_packed : (a : Answer) (r n : ℕ) → r ≡ packed itself (told_answer a) → a ≡ Is n → r ≡ above n
-ok_packed a r n e i = e ∙ ap (λ (x : Answer). packed itself (told_answer x)) i
+ok_packed : (a : Result ℕ Refusal) (r n : ℕ) → r ≡ packed itself (told a) → a ≡ Ok n → r ≡ above n
+ok_packed a r n e i = e ∙ ap (λ (x : Result ℕ Refusal). packed itself (told x)) i
 
-ok_accepted : (a : Answer) (r n : ℕ) → r ≡ packed itself (told_answer a) → a ≡ Is n → r % 2 ^ 8 ≡ 0
+ok_accepted : (a : Result ℕ Refusal) (r n : ℕ) → r ≡ packed itself (told a) → a ≡ Ok n → r % 2 ^ 8 ≡ 0
 ok_accepted a r n e i = let is = ok_packed a r n e i in omega arith
 
 -- the state that is read from a state's numbers
@@ -61,7 +61,7 @@ state_again s = rw (stage_again s.stage) refl
 
 -- a call of the interface that left l is one of the library with this outcome
 record Same (o : Outcome) (l : Left) : Type 0 where
-  answer : l.answer ≡ packed itself (told_answer o.answer)
+  answer : l.answer ≡ packed itself (told o.answer)
   state : state_of l.numbers ≡ o.state
 
 abbrev in_library : Outcome → Left → library.Left
@@ -117,7 +117,7 @@ first_accepted : (ss : List Step) (l : Left) (c : Chain ss l) (n : ℕ) (b' : Li
 first_accepted [] l c n b' to = ap (λ (x : ℕ). x % 2 ^ 8) to.0 ∙ omega arith
 first_accepted (s ∷ ss) l c n b' to = to.0
 
-library_first : (ss : List Step) (l : library.Left) (c : library.Chain ss l) (n : ℕ) (b' : List ℕ) → library.ChainTo ss l c n b' → (m : ℕ) × (l.came.answer ≡ Is m)
+library_first : (ss : List Step) (l : library.Left) (c : library.Chain ss l) (n : ℕ) (b' : List ℕ) → library.ChainTo ss l c n b' → (m : ℕ) × (l.came.answer ≡ Ok m)
 library_first [] l c n b' to = (n, to.0)
 library_first (s ∷ ss) l c n b' to = to.0
 
@@ -139,7 +139,7 @@ abbrev begun : ℕ → ℕ → List ℕ → Outcome
 begun i j b = came (step (begin_area i j) (closed 0) b)
 
 module _ (i j : ℕ) (ss : List Step) (ns b : List ℕ) (c : Calls i j ss ns b) where
-  begun_same : (m : ℕ) → (begun i j b).answer ≡ Is m → Same (begun i j b) c.2
+  begun_same : (m : ℕ) → (begun i j b).answer ≡ Ok m → Same (begun i j b) c.2
   begun_same m e =
       let o = step (begin_area i j) (closed 0) b in
       same_from (begin_area i j) (closed 0) ns b c.2 (λ f p x. absurd (no_ok (sym x ∙ shown_ok o.answer refl e))) c.3
@@ -147,7 +147,7 @@ module _ (i j : ℕ) (ss : List Step) (ns b : List ℕ) (c : Calls i j ss ns b) 
   of_library : Same (begun i j b) c.2 → library.Calls i j ss b
   of_library k = (c.0, c.1, in_library (begun i j b) c.2, (refl, c.3.2), to_library ss c.2 (begun i j b) k c.4)
 
--- No slice has as many as 2^56 bytes, so that an answer tells a position whole; that is a premise here, for a list may be of any length.
+-- Err slice has as many as 2^56 bytes, so that an answer tells a position whole; that is a premise here, for a list may be of any length.
 
 -- the calls that a good polygon spells, on a buffer with room for it, are accepted and write it
 pub good_calls : (p : Polygon) → polygon.Good p → (ns b : List ℕ) → length b < 2 ^ 56 → let m = polygon.bytes p in length m ≤ length b → (c : Calls p.edition p.internal (polygon_rest p) ns b)

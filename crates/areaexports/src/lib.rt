@@ -2,11 +2,11 @@
 // Each function answers one number, as those for messages do (numbers/specs/Packed.antt).
 #![tactic(auto)]
 
-ghost use Rattle.std.specs.Prelude.{◌≡◌, length};
-ghost use Rattle.format.specs.Result.{ok, bind, told_answer};
+ghost use Rattle.std.specs.Prelude.{◌≡◌, length, Ok};
+ghost use Rattle.format.specs.Result.{ok, bind, told};
 ghost use Rattle.format.specs.Geography.{fields_inside, turned_body};
 ghost use Rattle.fields.specs.Questions.{owner_of, window_count, window_out};
-ghost use Rattle.areas.specs.Answers.{ask_rings, ask_ring, ask_vertex, ask_ring_kept, ask_kept, told_ring, told_bits};
+ghost use Rattle.areas.specs.Answers.{ask_rings, ask_ring, ask_vertex, ask_ring_kept, ask_kept, told_bits};
 ghost use Rattle.outline.specs.State.{closed, stage_number};
 ghost use Rattle.outline.specs.Steps.{begin_area, open_ring, add_vertex, close_ring, finish_area};
 ghost use Rattle.numbers.specs.Packed.{packed, nothing, itself, number_in};
@@ -14,8 +14,8 @@ ghost use Rattle.numbers.specs.Listed.{lent, part_numbers};
 ghost use Rattle.areaexports.specs.Listed.{ring_numbers, axes};
 ghost use Rattle.areaexports.specs.Stored.{stage_of, state_of, numbers_of, kept, WroteFrom, Wrote};
 
-use areas::{Bits, RingAnswer, RingLayout};
-use format::Answer;
+use areas::RingLayout;
+use format::Refusal;
 use outline::{Outcome, Outline, State};
 
 // ---- Questions to a body.
@@ -164,17 +164,10 @@ pub extern "C" fn chaloenpik_area_finish(
 
 // ---- Answers in a lent list; a refusal leaves it as it was.
 
-fn lend_ring(list: &mut [u64; 3], answer: RingAnswer) -> u64
-    ensures { (result ≡ packed nothing (told_ring answer)) × (list.new ≡ lent ring_numbers (told_ring answer) list.old) }
+fn lend_ring(list: &mut [u64; 3], answer: Result<RingLayout, Refusal>) -> u64
+    ensures { (result ≡ packed nothing (told answer)) × (list.new ≡ lent ring_numbers (told answer) list.old) }
 {
-    match answer {
-        RingAnswer::Is(ring) => {
-            let found = list_ring(ring);
-            *list = found;
-            0
-        }
-        RingAnswer::No(refusal) => numbers::refused(refusal),
-    }
+    numbers::lend(list, answer.map(list_ring))
 }
 
 fn list_ring(ring: RingLayout) -> [u64; 3]
@@ -183,16 +176,17 @@ fn list_ring(ring: RingLayout) -> [u64; 3]
     [ring.at as u64, ring.mark as u64, ring.vertices as u64]
 }
 
-fn lend_bits(list: &mut [u64; 3], answer: Bits) -> u64
+fn lend_bits(list: &mut [u64; 3], answer: Result<(u64, u64, u64), Refusal>) -> u64
     ensures { (result ≡ packed nothing (told_bits answer)) × (list.new ≡ lent axes (told_bits answer) list.old) }
 {
-    match answer {
-        Bits::Are(x, y, z) => {
-            *list = [x, y, z];
-            0
-        }
-        Bits::No(refusal) => numbers::refused(refusal),
-    }
+    numbers::lend(list, answer.map(list_bits))
+}
+
+fn list_bits(bits: (u64, u64, u64)) -> [u64; 3]
+    ensures { ok result ≡ told_bits (Ok bits) }
+{
+    let (x, y, z) = bits;
+    [x, y, z]
 }
 
 // ---- The state in numbers.
@@ -246,15 +240,15 @@ fn save(numbers: &mut [u64; 5], st: State)
 
 // Packs a step's answer, and keeps the state that it leaves; a refusal leaves the numbers as they were.
 fn keep(numbers: &mut [u64; 5], step: Outcome) -> u64
-    ensures { (result ≡ packed itself (told_answer step.answer)) × (numbers.new ≡ kept numbers.old (told_answer step.answer) step.state) }
+    ensures { (result ≡ packed itself (told step.answer)) × (numbers.new ≡ kept numbers.old (told step.answer) step.state) }
 {
     let answer = step.answer;
     let state = step.state;
     match answer {
-        Answer::Is(n) => {
+        Ok(n) => {
             save(numbers, state);
             numbers::above(n)
         }
-        Answer::No(refusal) => numbers::refused(refusal),
+        Err(refusal) => numbers::refused(refusal),
     }
 }

@@ -1,5 +1,5 @@
 -- What a count of at least so many gives, by what its four bytes say; and what all before the first ring gives, by what its three bytes and its count say.
-use Rattle.std.proofs.Common.{◌≡◌, ℕ, ◌+◌, ◌-◌, ◌%◌, ◌^◌, ◌<◌, ◌≤◌, Bool, true, false, eqb, ltb, leb, List, length, sym, refl, ap, ◌∙◌, mod-eq_of_lt, arith, ltb-true, le-ltb, lt-ltb, le-leb}
+use Rattle.std.proofs.Common.{◌≡◌, ℕ, ◌+◌, ◌-◌, ◌%◌, ◌^◌, ◌<◌, ◌≤◌, true, false, eqb, ltb, leb, List, length, sym, refl, ap, ◌∙◌, mod-eq_of_lt, arith, ltb-true, le-ltb, lt-ltb, le-leb}
 use native.Mathlib.Decide.{dec_lt}
 use borrow.Author.Tests.{lt-leb}
 use Rattle.format.specs.declared.Fault.{Fault}

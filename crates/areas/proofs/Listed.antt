@@ -1,10 +1,10 @@
 -- The field list inside a body beside the places of specs/Answers.antt: each ring, each float and the kept bytes are listed where they stand, with their indices; and what is
 -- answered of a vertex is what the bytes listed for it say.
-use Rattle.std.proofs.Common.{◌≡◌, ℕ, zero, suc, ◌+◌, ◌*◌, ◌<◌, ◌≤◌, List, [], ◌∷◌, ◌++◌, length, take, drop, replicate, sym, refl, ap, ◌∙◌, zero-add, arith, length-append}
+use Rattle.std.proofs.Common.{◌≡◌, ℕ, zero, suc, ◌+◌, ◌*◌, ◌≤◌, List, [], ◌∷◌, length, take, drop, replicate, sym, refl, ap, ◌∙◌, zero-add, arith, length-append}
 use lib.Seq.{take-length}
-use Rattle.format.specs.Result.{Res, ok, bind}
+use Rattle.format.specs.Result.{ok}
 use Rattle.format.specs.Number.{num_at, Bytes}
-use Rattle.format.specs.Format.{Format, Index, Entry, number, block, ruled, into, both, nothing, each, piece}
+use Rattle.format.specs.Format.{Index, number, block, ruled, into, both, each, piece}
 use Rattle.format.specs.Message.{first, second, third, no_index}
 use Rattle.format.specs.Geography.{Vertex, Ring, Polygon, vertex, at_least, fewest_vertices, ring, ringed, polygon, polygon_fields, ring_kept, body_kept, read_polygon}
 use Rattle.format.proofs.Results.{bound}

@@ -1,7 +1,7 @@
 -- A ring, part by part; and what a loop over rings keeps: where those that are left end, and where the one that is sought stands, is so for all.
-use Rattle.std.proofs.Common.{◌≡◌, ℕ, zero, suc, ◌+◌, ◌-◌, ◌<◌, ◌≤◌, Bool, true, false, ltb, leb, List, [], ◌∷◌, length, take, replicate, sym, refl, ap, ◌∙◌, ap₂, arith, le-ltb, lt-ltb}
+use Rattle.std.specs.Prelude.{Result, Ok, Err}
+use Rattle.std.proofs.Common.{◌≡◌, ℕ, zero, suc, ◌+◌, ◌-◌, ◌<◌, ◌≤◌, true, false, ltb, leb, List, [], ◌∷◌, length, take, replicate, refl, ap, ◌∙◌, arith, le-ltb, lt-ltb}
 use native.Mathlib.Decide.{dec_lt}
-use Rattle.format.specs.declared.Fault.{Fault}
 use Rattle.format.specs.declared.Fault.TheVariants.{Short}
 use Rattle.format.specs.declared.Refusal.{Refusal}
 use Rattle.format.specs.Result.{Res, ok, no as refused, bind, pick}
@@ -10,13 +10,11 @@ use Rattle.format.specs.Format.{Format, number, block, nothing, both, each}
 use Rattle.format.specs.Message.{first, second}
 use Rattle.format.specs.Geography.{Vertex, Ring, vertex, ring, at_least, fewest_vertices, ring_kept}
 use Rattle.format.proofs.Geography.{lawful_ring}
-use Rattle.scan.specs.declared.Next.{Next}
-use Rattle.scan.specs.Shown.{shown_next, next_no, refusal}
+use Rattle.scan.specs.Shown.{shown_next, refusal}
 use Rattle.scan.proofs.Answers.{next_go, next_stop}
 use Rattle.scan.proofs.Steps.{into_ends, both_ends, both_stop}
 use Rattle.places.proofs.Lists.{total, length-total}
-use Rattle.areas.specs.declared.Passed.{Passed}
-use Rattle.areas.specs.Passes.{shown_rings, rings_size}
+use Rattle.areas.specs.Passes.{shown_rings}
 
 -- a ring's vertices and what it keeps, and before them its vertex count
 abbrev pub after_count : ℕ → Format (List Vertex × List ℕ)
@@ -26,7 +24,7 @@ abbrev pub after_mark : Format (ℕ × (List Vertex × List ℕ))
 after_mark = both (at_least fewest_vertices 65) after_count
 
 module _ (s : List ℕ) (at : ℕ) where
-  pub ring_short : leb (at + 1) (length s) ≡ false → shown_next (ring.read s at) ≡ Next.No (refusal Short at)
+  pub ring_short : leb (at + 1) (length s) ≡ false → shown_next (ring.read s at) ≡ Err (refusal Short at)
   unfolding ring number
   ring_short e = into_ends _ _ (both (number 1 64) (λ m. after_mark)) s at ∙ ap shown_next (both_stop (number 1 64) (λ m. after_mark) s at (rw e))
 
@@ -38,11 +36,11 @@ module _ (s : List ℕ) (at : ℕ) where
 
 -- the rings from i to n: where they end, and where the ring that is sought stands, if found is where it stands so far
 module _ (s : List ℕ) (sought : ℕ) where
-  abbrev ended : ℕ → ℕ → Res (List Ring × ℕ) → Passed
-  ended i found (ok q) = Passed.End q.1 (found + total ring (take (sought - i) q.0))
-  ended i found (refused f p) = Passed.No (refusal f p)
+  abbrev ended : ℕ → ℕ → Res (List Ring × ℕ) → Result (ℕ × ℕ) Refusal
+  ended i found (ok q) = Ok (q.1, found + total ring (take (sought - i) q.0))
+  ended i found (refused f p) = Err (refusal f p)
 
-  abbrev pub Rest : ℕ → ℕ → ℕ → ℕ → Passed
+  abbrev pub Rest : ℕ → ℕ → ℕ → ℕ → Result (ℕ × ℕ) Refusal
   Rest n i at found = ended i found ((each first i (replicate (n - i) ring)).read s at)
 
   pub rings_start : (n from : ℕ) → Rest n 0 from from ≡ shown_rings from sought ((each first 0 (replicate n ring)).read s from)
@@ -55,19 +53,19 @@ module _ (s : List ℕ) (sought : ℕ) where
           rw (none, length-total first 0 (length l) ring l (omega arith))
       same (refused f p) = refl
 
-  pub rings_done : (n i at found : ℕ) → n ≤ i → Rest n i at found ≡ Passed.End at found
+  pub rings_done : (n i at found : ℕ) → n ≤ i → Rest n i at found ≡ Ok (at, found)
   unfolding each nothing total
   rings_done n i at found h =
       let none : n - i ≡ 0 = omega arith in
       let nothing_left : (k : ℕ) → found + total ring (take k []) ≡ found = elim [ zero ↦ omega arith | suc k ↦ omega arith ] in
       rw (none, nothing_left (sought - i))
 
-  module _ (by : Bytes s) (n i at found : ℕ) (h : i < n) {a : Next} (e : a ≡ shown_next (ring.read s at)) where
+  module _ (by : Bytes s) (n i at found : ℕ) (h : i < n) {a : Result ℕ Refusal} (e : a ≡ shown_next (ring.read s at)) where
     left : n - i ≡ suc (n - (i + 1))
     left = omega arith
 
     -- one ring more: the sought one stands after it, or where it was found before
-    pub rings_turn : {next : ℕ} → a ≡ Next.At next → (i ≤ sought → found ≡ at) → Rest n (i + 1) next (pick (ltb i sought) next found) ≡ Rest n i at found
+    pub rings_turn : {next : ℕ} → a ≡ Ok next → (i ≤ sought → found ≡ at) → Rest n (i + 1) next (pick (ltb i sought) next found) ≡ Rest n i at found
     unfolding each total
     rings_turn {next} told here =
         let go = next_go (ring.read s at) e told in
@@ -87,9 +85,9 @@ module _ (s : List ℕ) (sought : ℕ) where
 
         same : (r : Ring) → next ≡ at + length (ring.bytes r) → Dec (i < sought) → (q : Res (List Ring × ℕ))
             → ended (i + 1) (pick (ltb i sought) next found) q ≡ ended i found (bind q (λ w. ok (r ∷ w.0, w.1)))
-        same r far d (ok w) = ap (λ (x : ℕ). Passed.End w.1 x) (place r w.0 far d)
+        same r far d (ok w) = ap (λ (x : ℕ). Ok (w.1, x)) (place r w.0 far d)
         same r far d (refused f p) = refl
 
-    pub rings_stop : {x given : Refusal} → a ≡ Next.No given → x ≡ next_no a → Rest n i at found ≡ Passed.No x
+    pub rings_stop : {x : Refusal} → a ≡ Err x → Rest n i at found ≡ Err x
     unfolding each
-    rings_stop {x} told out = rw (left, next_stop (ring.read s at) e told out)
+    rings_stop {x} told = rw (left, next_stop (ring.read s at) e told)

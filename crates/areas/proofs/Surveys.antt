@@ -1,5 +1,6 @@
 -- A body: what stands before the first ring, the rings, what is kept, and no byte more. Each refuses in its turn.
-use Rattle.std.proofs.Common.{◌≡◌, ℕ, zero, suc, ◌+◌, ◌<◌, ◌≤◌, Bool, true, false, eqb, List, [], ◌∷◌, ◌++◌, length, take, replicate, sym, refl, ap, ◌∙◌, ap₂, arith, length-append, eq-eqb, ne_eqb}
+use Rattle.std.specs.Prelude.{Ok}
+use Rattle.std.proofs.Common.{◌≡◌, ℕ, ◌+◌, List, length, take, replicate, refl, ap, ◌∙◌, arith, length-append, eq-eqb, ne_eqb}
 use lib.ListN.{length-replicate}
 use lib.Seq.{take-length}
 use Rattle.format.specs.declared.Fault.{Fault}
@@ -16,7 +17,6 @@ use Rattle.places.proofs.Lists.{total, length-total}
 use Rattle.scan.proofs.Answers.{took}
 use Rattle.places.proofs.Readings.{both_parts, ruled_part, each_length}
 use Rattle.areas.specs.Answers.{ring_state}
-use Rattle.areas.specs.declared.Surveyed.{Surveyed}
 use Rattle.areas.specs.Passes.{head, rings_size, shown_survey}
 use Rattle.areas.proofs.Heads.{counted}
 
@@ -115,7 +115,7 @@ module _ (s : List ℕ) where
         body_is same = rw (headed, is, go, kept_read, eq-eqb last (length s) same)
 
         -- what one pass finds
-        pub surveyed : Bytes s → last ≡ length s → (sought : ℕ) → shown_survey sought (read_polygon s) ≡ Surveyed.Is (record { rings = n; found = at + rings_size (take sought rs); end = end })
+        pub surveyed : Bytes s → last ≡ length s → (sought : ℕ) → shown_survey sought (read_polygon s) ≡ Ok (record { rings = n; found = at + rings_size (take sought rs); end = end })
         surveyed by same sought =
             let p = made v rs kept in
             let l = take sought rs in

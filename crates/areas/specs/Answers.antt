@@ -1,17 +1,13 @@
 -- The questions to a body: how many rings it has, a ring, a vertex, the bytes that are kept. The body's own refusal comes first, then 11.
-use Rattle.std.specs.Prelude.{ℕ, ◌+◌, List, [], ◌∷◌, length, take}
+use Rattle.std.specs.Prelude.{ℕ, ◌+◌, List, [], ◌∷◌, length, take, Result, Ok, Err}
 use Rattle.std.proofs.Math.Option.{Option, some}
 use Rattle.format.specs.declared.Refusal.{Refusal}
 use Rattle.format.specs.Result.{Res, ok, no, bind}
 use Rattle.format.specs.Number.{num_at}
 use Rattle.format.specs.Geography.{Vertex, Ring, Polygon, ring, polygon, ring_kept, body_kept, read_polygon}
-use Rattle.scan.specs.Shown.{none_given}
 use Rattle.show.specs.declared.Cell.{Cell}
 use Rattle.places.specs.Entries.{entry}
 use Rattle.areas.specs.declared.RingLayout.{RingLayout}
-use Rattle.areas.specs.declared.RingAnswer.{RingAnswer}
-use Rattle.areas.specs.declared.Bits.{Bits}
-use Rattle.areas.specs.declared.VertexAnswer.{VertexAnswer}
 
 -- ring n: after the three leading bytes, the ring count and the rings before it. A part stands where the body would end if it were cut there
 unfoldable pub ring_state : Polygon → ℕ → ℕ
@@ -45,32 +41,18 @@ ask_ring_kept b n = of_ring b n (λ at r. ok (some (vertex_at at r (length r.ver
 abbrev pub ask_kept : List ℕ → Res (Option (ℕ × ℕ))
 ask_kept b = bind (read_polygon b) (λ p. ok (some (ring_state p (length p.rings), body_kept)))
 
--- what the answers tell
-abbrev pub told_ring : RingAnswer → Res RingLayout
-told_ring (RingAnswer.Is r) = ok r
-told_ring (RingAnswer.No r) = no r.fault r.place
+abbrev pub told_bits : Result (ℕ × ℕ × ℕ) Refusal → Res Vertex
+told_bits (Ok (x, y, z)) = ok (x ∷ y ∷ z ∷ [])
+told_bits (Err r) = no r.fault r.place
 
-abbrev pub told_bits : Bits → Res Vertex
-told_bits (Bits.Are x y z) = ok (x ∷ y ∷ z ∷ [])
-told_bits (Bits.No r) = no r.fault r.place
-
-abbrev pub told_vertex : VertexAnswer → Res (List Cell)
-told_vertex (VertexAnswer.Is x y z) = ok (x ∷ y ∷ z ∷ [])
-told_vertex (VertexAnswer.No r) = no r.fault r.place
+abbrev pub told_vertex : Result (Cell × Cell × Cell) Refusal → Res (List Cell)
+told_vertex (Ok (x, y, z)) = ok (x ∷ y ∷ z ∷ [])
+told_vertex (Err r) = no r.fault r.place
 
 -- what the bytes at a place say of a ring there
 abbrev pub ring_in : List ℕ → ℕ → RingLayout
 ring_in s at = record { at = at; mark = num_at 1 s at; vertices = num_at 4 s (at + 1) }
 
 -- and of a vertex
-abbrev pub bits_in : List ℕ → ℕ → Bits
-bits_in s at = Bits.Are (num_at 8 s at) (num_at 8 s (at + 8)) (num_at 8 s (at + 16))
-
--- the refusal that an answer holds; one that holds none is never asked
-abbrev pub ring_no : RingAnswer → Refusal
-ring_no (RingAnswer.Is r) = none_given
-ring_no (RingAnswer.No r) = r
-
-abbrev pub bits_no : Bits → Refusal
-bits_no (Bits.Are x y z) = none_given
-bits_no (Bits.No r) = r
+abbrev pub bits_in : List ℕ → ℕ → ℕ × ℕ × ℕ
+bits_in s at = (num_at 8 s at, num_at 8 s (at + 8), num_at 8 s (at + 16))

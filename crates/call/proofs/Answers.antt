@@ -8,6 +8,8 @@ use native.Mathlib.Omega.{arith}
 use lib.ListN.{length, length-append}
 use lib.Dec.{leb, eqb}
 use borrow.Author.Tests.{not-true}
+use Rattle.std.specs.Prelude.{Result}
+use Rattle.format.specs.declared.Refusal.{Refusal}
 use Rattle.format.specs.declared.Fault.TheVariants.{WireType}
 use Rattle.format.specs.Format.{Verdict, fine}
 use Rattle.format.specs.Number.{num_bytes}
@@ -16,7 +18,6 @@ use Rattle.format.specs.Message.{one, array, bytes, values, param, most_items}
 use Rattle.put.specs.Put.{sized}
 use Rattle.format.proofs.Numbers.{length-num_bytes}
 use Rattle.format.proofs.Results.{and_true_both}
-use Rattle.format.specs.declared.Answer.{Answer}
 use Rattle.steps.specs.declared.Stage.TheVariants.{Call, Array}
 use Rattle.steps.specs.State.{State, is_element, at_stage}
 use Rattle.steps.specs.Plans.{answer_of, also, test}
@@ -36,7 +37,7 @@ not_tiny t e = not-true (eqb t t_tinyint) (and_true_both (is_column t) _ e).1
 pub open_size : (t : ℕ) → is_element t ≡ true → length (param.bytes (record { type = t_array; argument = array t (values []) })) ≡ 4
 open_size t e = rw (open_bytes t (not_tiny t e)) (simp (length-append, length-num_bytes))
 
-module _ (st : State) (size : ℕ) {permitted more : Bool} {a : Answer} where
+module _ (st : State) (size : ℕ) {permitted more : Bool} {a : Result ℕ Refusal} where
   pub null_answer : permitted ≡ at_stage Call st size → more ≡ leb (st.count + 1) most_items → a ≡ shown_answer (answer_at permitted fine more st.position 1 size)
       → a ≡ shown_answer (answer_of (plan null_param st size) size)
   null_answer e f g = answered (plan null_param st size) size g e refl (λ u w. (f, sym (ap length null_bytes ∙ length-num_bytes 1 1)))
@@ -45,7 +46,7 @@ module _ (st : State) (size : ℕ) {permitted more : Bool} {a : Answer} where
       → a ≡ shown_answer (answer_at permitted v more st.position 4 size) → a ≡ shown_answer (answer_of (plan (open_array t) st size) size)
   open_answer t e v f g = answered (plan (open_array t) st size) size g e v (λ u w. (f, sym (open_size t (test_fine (is_element t) _ st.position w))))
 
-module _ (st : State) (size : ℕ) {permitted : Bool} {a : Answer} where
+module _ (st : State) (size : ℕ) {permitted : Bool} {a : Result ℕ Refusal} where
   pub close_answer : permitted ≡ at_stage Array st size → a ≡ shown_answer (answer_at permitted fine true st.position 0 size) → a ≡ shown_answer (answer_of (plan close_array st size) size)
   close_answer e g = answered (plan close_array st size) size g e refl (λ u w. (refl, refl))
 
@@ -65,7 +66,7 @@ array_size bs =
     let b = length-append (num_bytes 1 t_tinyint) (sized (some bs)) in
     omega (arith, ap length (array_bytes bs), length-num_bytes 1 t_array, length-num_bytes 1 t_tinyint)
 
-module _ (st : State) (size : ℕ) {permitted more : Bool} {v : Verdict} {k : ℕ} {a : Answer} where
+module _ (st : State) (size : ℕ) {permitted more : Bool} {v : Verdict} {k : ℕ} {a : Result ℕ Refusal} where
   pub fixed_answer : (t n : ℕ) → permitted ≡ at_stage Call st size → v ≡ value_fault st.position t (fixed n) → more ≡ leb (st.count + 1) most_items → k ≡ width_of t
       → a ≡ shown_answer (answer_at permitted v more st.position (1 + k) size) → a ≡ shown_answer (answer_of (plan (one_param t (fixed n)) st size) size)
   fixed_answer t n e h f j g = answered (plan (one_param t (fixed n)) st size) size g e h (λ u w. (f, ap (λ (i : ℕ). 1 + i) j ∙ sym (fixed_size st.position t n w)))

@@ -15,7 +15,7 @@ use Rattle.format.specs.Format.{Format, number, counted}
 use Rattle.format.specs.Message.{third, unlimited, Metadata, metadata, Table, table}
 use Rattle.format.proofs.Results.{no_ok, ok_same}
 use Rattle.format.proofs.Numbers.{length-num_bytes}
-use Rattle.scan.specs.Shown.{shown_byte, byte_in}
+use Rattle.scan.specs.Shown.{shown, number_in}
 use Rattle.scan.proofs.Counted.{Here}
 use Rattle.places.specs.Stands.{Stands}
 use Rattle.places.specs.Places.{table_at, column_type_at, name_at}
@@ -83,7 +83,7 @@ module _ {m : List ℕ} {l : TableLayout} (w : Laid m l) where
   types_fit = omega (arith, columns_are, types_at, type_place_lem w.at d 0 (omega arith), stands_fits (names_stand described))
 
   -- a type by its place
-  type_read : (i : ℕ) {t r : ℕ} → i < l.columns → entry d.types i ≡ ok t → r ≡ byte_in (shown_byte ((number 1 0).read m (l.types + i))) → r ≡ t
+  type_read : (i : ℕ) {t r : ℕ} → i < l.columns → entry d.types i ≡ ok t → r ≡ number_in (shown ((number 1 0).read m (l.types + i))) → r ≡ t
   type_read i below is e =
       let few = columns_are in
       let place : l.types + i ≡ w.at + 4 + 7 + i = omega (arith, types_at, type_place_lem w.at d 0 (omega arith)) in
@@ -119,7 +119,7 @@ module _ {m : List ℕ} {l : TableLayout} (w : Laid m l) where
       goes_on = let h = name_here named.bytes named.reads b in h.1 ∙ sym named.next
 
       -- whether the column of this turn has a type and name
-      pub fits_by : {t : ℕ} (type : ℕ) (wanted : List ℕ) → t ≡ byte_in (shown_byte ((number 1 0).read m (l.types + i))) → fits w.tab (a_card i type wanted) ≡ (eqb t type && same (take (end - start) (drop start m)) wanted)
+      pub fits_by : {t : ℕ} (type : ℕ) (wanted : List ℕ) → t ≡ number_in (shown ((number 1 0).read m (l.types + i))) → fits w.tab (a_card i type wanted) ≡ (eqb t type && same (take (end - start) (drop start m)) wanted)
       unfolding fits
       fits_by {t} type wanted e =
           let many = columns_are in

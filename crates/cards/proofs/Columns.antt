@@ -1,4 +1,5 @@
 -- What a column's layout says of the column: its type, and that its name is that part of the message.
+use Rattle.std.specs.Prelude.{Result, Err}
 use Prim.Native.Nat.{ℕ, ◌+◌, ◌-◌, ◌≤◌, ◌<◌}
 use mathlib.Core.Path.{◌≡◌, refl, sym, ◌∙◌, ap}
 use mathlib.Core.Bool.{Bool, true, false, ◌&&◌, false≢true}
@@ -9,7 +10,6 @@ use lib.Seq.{take_at, drop_at, length-take-le}
 use lib.Dec.{leb, ltb, eqb}
 use native.Mathlib.Omega.{arith}
 use borrow.Author.Tests.{leb-true, ltb-true, le-leb, lt-leb, eq-eqb, ne_eqb}
-use Rattle.format.specs.declared.Answer.{Answer}
 use Rattle.format.specs.declared.Fault.{Fault}
 use Rattle.format.specs.declared.Fault.TheVariants.{Stale, Name, Limit, Output}
 use Rattle.format.specs.declared.Refusal.{Refusal}
@@ -136,7 +136,7 @@ module _ (timed : Bool) (m : List ℕ) (t i w : ℕ) (wanted : List ℕ) where
 -- ---- how a card fits, by that column
 module _ (b : Table) (i w : ℕ) (wanted : List ℕ) where
   abbrev tells : Option Reason → Type 0
-  tells r = ok (why_not r (stands_at b w wanted)) ≡ ok (fit_of b (a_card i w wanted))
+  tells r = why_not r (stands_at b w wanted) ≡ fit_of b (a_card i w wanted)
 
   pub past_told : length b.metadata.types ≤ i → tells (some Reason.Past)
   unfolding reason_of
@@ -220,10 +220,10 @@ module _ (m : List ℕ) (t : ℕ) (wanted : List ℕ) where
       carded_as first layout (record { deep = omega arith; is = is })
 
 -- ---- what is made
-pub made_as : {r s : Res Card} {x : Answer} {before after : List ℕ} → r ≡ s → Made r x before after → Made s x before after
+pub made_as : {r s : Res Card} {x : Result ℕ Refusal} {before after : List ℕ} → r ≡ s → Made r x before after → Made s x before after
 made_as e w = rw (← e) w
 
-pub not_made : {r : Res Card} {x : Refusal} {out : List ℕ} → r ≡ no x.fault x.place → Made r (Answer.No x) out out
+pub not_made : {r : Res Card} {x : Refusal} {out : List ℕ} → r ≡ no x.fault x.place → Made r (Err x) out out
 not_made e = rw e (record { answer = refl; buffer = refl })
 
 module _ (place : ℕ) (c : Card) (room : ℕ) where

@@ -1,4 +1,5 @@
 -- A card's form and its bytes agree, whatever its kind: what is well-formed is the bytes of a good card, and those are well-formed.
+use Rattle.std.specs.Prelude.{Result, Ok, Err}
 use Prim.Native.Nat.{ℕ, zero, suc, ◌+◌, ◌-◌, ◌^◌, ◌<◌, ◌≤◌, min}
 use mathlib.Core.Path.{◌≡◌, refl, sym, ◌∙◌, ap, ap₂}
 use mathlib.Core.Bool.{Bool, true, false}
@@ -20,12 +21,11 @@ use Rattle.format.specs.Value.{is_column}
 use Rattle.format.specs.Message.{Table, Message, read_message, most_columns}
 use Rattle.format.proofs.Results.{ok_same, no_ok, passed, and_true_both}
 use Rattle.format.proofs.Numbers.{length-num_bytes, num_at_num_bytes, num_bytes_num_at}
-use Rattle.scan.specs.Shown.{refusal, number_in, shown_number}
+use Rattle.scan.specs.Shown.{number_in, shown}
 use Rattle.scan.proofs.Answers.{number_stands}
 use Rattle.places.specs.Places.{tables_of}
 use Rattle.places.specs.Entries.{entry}
 use Rattle.query.specs.Answers.{of_table}
-use Rattle.cards.specs.declared.Form.{Form}
 use Rattle.cards.specs.declared.Kind.{Kind}
 use Rattle.cards.specs.Card.{Card, a_card, near, far, kind_of, holds, card_form, card_body, card_rest, sized, rest_bytes, bytes_in, card_bytes, card_size, position_place, position_in, type_place, name_place, rest_size, most_size, most_name, most_byte, wrong_from, unless, Low, GoodCard}
 use Rattle.cards.specs.Answers.{of_card}
@@ -244,18 +244,14 @@ module _ (bs : List ℕ) where
     unfolding card_form
     no_kind n = rw (ne_eqb _ _ other, ne_eqb _ _ n)
 
-  module _ (k : Kind) where
-    pub other_size : (length bs ≡ card_size k → ⊥) → sized k bs ≡ no CardForm (min (length bs) (card_size k))
-    other_size n = rw (ne_eqb _ _ n)
+  module _ (k : Kind) (size : length bs ≡ card_size k) where
+    pub not_held : holds k (position_in k bs) ≡ false → sized k bs ≡ no CardForm position_place
+    unfolding card_body
+    not_held h = rw (eq-eqb _ _ size, h)
 
-    module _ (size : length bs ≡ card_size k) where
-      pub not_held : holds k (position_in k bs) ≡ false → sized k bs ≡ no CardForm position_place
-      unfolding card_body
-      not_held h = rw (eq-eqb _ _ size, h)
-
-      pub is_held : holds k (position_in k bs) ≡ true → sized k bs ≡ card_rest (type_place k) (position_in k bs) (drop (type_place k) bs)
-      unfolding card_body
-      is_held h = rw (eq-eqb _ _ size, h)
+    pub is_held : holds k (position_in k bs) ≡ true → sized k bs ≡ card_rest (type_place k) (position_in k bs) (drop (type_place k) bs)
+    unfolding card_body
+    is_held h = rw (eq-eqb _ _ size, h)
 
 module _ (at p : ℕ) (bs : List ℕ) where
   pub no_column : is_column (get_or bs 0 0) ≡ false → card_rest at p bs ≡ no CardForm at
@@ -272,14 +268,14 @@ module _ (at p : ℕ) (bs : List ℕ) where
       unfolding card_rest
       wrong_name k e = rw (column, le-leb _ _ short, e)
 
-      pub right_name : length bs ≡ rest_size → wrong_from (get_or bs 1 0) 0 (drop 2 bs) ≡ none → shown_form (card_rest at p bs) ≡ Form.Is p (get_or bs 0 0) (get_or bs 1 0)
+      pub right_name : length bs ≡ rest_size → wrong_from (get_or bs 1 0) 0 (drop 2 bs) ≡ none → shown_form (card_rest at p bs) ≡ Ok (p, get_or bs 0 0, get_or bs 1 0)
       unfolding card_rest
       right_name whole e =
           let size : length (take (get_or bs 1 0) (drop 2 bs)) ≡ get_or bs 1 0 = length-take-le (get_or bs 1 0) (drop 2 bs) (omega (arith, length-drop 2 bs)) in
           rw (column, le-leb _ _ short, e, size)
 
 -- the position, as it is read
-pub position_read : (k : Kind) (bs : List ℕ) (n : ℕ) → k.width ≤ 8 → length bs ≡ card_size k → n ≡ number_in (shown_number ((number (min k.width 8) 0).read bs position_place)) → n ≡ position_in k bs
+pub position_read : (k : Kind) (bs : List ℕ) (n : ℕ) → k.width ≤ 8 → length bs ≡ card_size k → n ≡ number_in (shown ((number (min k.width 8) 0).read bs position_place)) → n ≡ position_in k bs
 unfolding number
 position_read k bs n narrow size e =
     let w = k.width in
@@ -322,9 +318,9 @@ unfolding card_form
 form_fault bs = only_pick (eqb (get_or bs 0 0) near.number) (only_sized near bs) (only_pick (eqb (get_or bs 0 0) far.number) (only_sized far bs) (only_no 0))
 
 -- ---- what the form says of what is asked of a card
-pub form_no : (r : Res Card) {x : Refusal} {f : Form} → f ≡ shown_form r → f ≡ Form.No x → r ≡ no x.fault x.place
+pub form_no : (r : Res Card) {x : Refusal} {f : Result (ℕ × ℕ × ℕ) Refusal} → f ≡ shown_form r → f ≡ Err x → r ≡ no x.fault x.place
 form_no (ok c) e told = absurd (let z : ◌≡◌ {A = ℕ} 0 1 = cc in omega arith)
-form_no (no g p) {x} e told = let same : refusal g p ≡ x = cc in rw (← same)
+form_no (no g p) e told = cc
 
 pub record Says (r : Res Card) (p w n : ℕ) : Type 0 where
   pub card : Card
@@ -333,8 +329,13 @@ pub record Says (r : Res Card) (p w n : ℕ) : Type 0 where
   pub type : card.type ≡ w
   pub size : length card.name ≡ n
 
-pub form_is : (r : Res Card) {p w n : ℕ} {f : Form} → f ≡ shown_form r → f ≡ Form.Is p w n → Says r p w n
-form_is (ok c) {p} {w} {n} e told = let same : Form.Is c.position c.type (length c.name) ≡ Form.Is p w n = sym e ∙ told in record { card = c; formed = refl; position = cc; type = cc; size = cc }
+pub form_is : (r : Res Card) {p w n : ℕ} {f : Result (ℕ × ℕ × ℕ) Refusal} → f ≡ shown_form r → f ≡ Ok (p, w, n) → Says r p w n
+form_is (ok c) {p} {w} {n} e told =
+    let same : ◌≡◌ {A = ℕ × ℕ × ℕ} (c.position, c.type, length c.name) (p, w, n) = cc in
+    let position : c.position ≡ p = ap (λ (v : ℕ × ℕ × ℕ). v.0) same in
+    let type : c.type ≡ w = ap (λ (v : ℕ × ℕ × ℕ). v.1) same in
+    let size : length c.name ≡ n = ap (λ (v : ℕ × ℕ × ℕ). v.2) same in
+    record { card = c; formed = refl; position = position; type = type; size = size }
 form_is (no g p) e told = absurd (let z : ◌≡◌ {A = ℕ} 0 1 = cc in omega arith)
 
 module _ {A : Type 0} (m : List ℕ) (t : ℕ) (bs : List ℕ) (ask : Table → Card → Res A) where

@@ -1,23 +1,24 @@
--- One turn of each loop: over a card's name, over two names at once, and over a card that is written.
-use Prim.Native.Nat.{ℕ, zero, suc, ◌+◌, ◌-◌, ◌<◌, ◌≤◌}
-use mathlib.Core.Path.{◌≡◌, refl, sym, ◌∙◌, ap}
+-- One turn of each loop, over a card's name and over two names at once; and the parts of a card that is written.
+use Prim.Native.Nat.{ℕ, ◌+◌, ◌-◌, ◌<◌, ◌≤◌}
+use mathlib.Core.Path.{◌≡◌, refl, sym, ◌∙◌, ap, ap₂}
 use mathlib.Core.Bool.{Bool, true, false}
 use mathlib.Core.List.{List, [], ◌∷◌, ◌++◌}
 use mathlib.Core.Option.{Option, some, none}
 use lib.ListN.{length, get_or, set, take, drop, replicate, drop_of_length-le}
-use lib.Seq.{drop-cons, paste, paste-suc, take_all}
-use native.Mathlib.Nat.{zero-add}
+use lib.Seq.{drop-cons}
 use native.Mathlib.Numerals.{add-one}
 use native.Mathlib.Omega.{arith}
+use Rattle.std.specs.Prelude.{Option as Maybe, Some, None}
 use Rattle.format.specs.Result.{pick}
 use Rattle.format.specs.Number.{num_bytes}
 use Rattle.format.proofs.Numbers.{length-num_bytes}
 use Rattle.put.specs.Put.{put}
-use Rattle.text.specs.declared.Found.{Found}
 use Rattle.query.specs.Answers.{same}
 use Rattle.query.proofs.Ends.{EqualFrom, equal_from_end}
 use Rattle.query.proofs.Names.{same_yes, same_no}
-use Rattle.cards.specs.Card.{Card, position_place, type_place, front_bytes, rest_bytes, most_name, name_byte, wrong_from}
+use Rattle.std.proofs.lemmas.List.{append_assoc, take_at, drop_at, drop-drop}
+use borrow.Rule.Slice.PartMut.{put_mid}
+use Rattle.cards.specs.Card.{a_card, rest_size, position_place, type_place, front_bytes, rest_bytes, most_name, name_byte, wrong_from}
 use Rattle.cards.specs.declared.Kind.{Kind}
 use Rattle.cards.specs.Shown.{shown_wrong}
 
@@ -45,11 +46,11 @@ wrong_below size j (b ∷ bs) k e = by_byte (λ h. wrong_below size (j + 1) bs k
     by_byte others false e = let here : j ≡ k = cc in omega arith
 
 -- what the search for it says
-pub none_wrong : (o : Option ℕ) {f : Found} → f ≡ shown_wrong o → f ≡ Found.Nothing → o ≡ none
+pub none_wrong : (o : Option ℕ) {f : Maybe ℕ} → f ≡ shown_wrong o → f ≡ None → o ≡ none
 none_wrong none e told = refl
 none_wrong (some k) e told = absurd (let z : ◌≡◌ {A = ℕ} 0 1 = cc in omega arith)
 
-pub one_wrong : (o : Option ℕ) {f : Found} {k : ℕ} → f ≡ shown_wrong o → f ≡ Found.At k → o ≡ some k
+pub one_wrong : (o : Option ℕ) {f : Maybe ℕ} {k : ℕ} → f ≡ shown_wrong o → f ≡ Some k → o ≡ some k
 one_wrong none e told = absurd (let z : ◌≡◌ {A = ℕ} 0 1 = cc in omega arith)
 one_wrong (some j) {f} {k} e told = let same : j ≡ k = cc in ap some same
 
@@ -64,28 +65,23 @@ module _ (xs ys : List ℕ) where
   pub all_bytes : length xs ≡ length ys → EqualFrom (λ k. get_or xs k 0) ys 0 → true ≡ same xs ys
   all_bytes e h = let equal = equal_from_end xs ys e h in sym (rw equal (same_yes ys))
 
--- bytes copied to the front, from the first to the last
-module _ (out bs : List ℕ) where
-  pub copied_more : (k : ℕ) → k < length bs → length bs ≤ length out → set (paste out 0 bs k) k (get_or bs k 0) ≡ paste out 0 bs (k + 1)
-  copied_more k h l = ap (λ (j : ℕ). set (paste out 0 bs k) j (get_or bs k 0)) (sym (zero-add k)) ∙ paste-suc out 0 bs k 0 (omega arith) h ∙ ap (paste out 0 bs) (sym (add-one k))
-
-  pub copied_all : (n k : ℕ) → length bs ≡ n → k ≡ n → paste out 0 bs k ≡ bs ++ drop n out
-  copied_all n k e f = let whole : take k bs ≡ bs = take_all k bs (omega arith) in rw (whole, zero-add, f)
-
--- byte j of some bytes and the zeros after them
-pub zeros_after : (bs : List ℕ) (n j : ℕ) → get_or (bs ++ replicate n 0) j 0 ≡ get_or bs j 0
-zeros_after [] zero j = refl
-zeros_after [] (suc n) zero = refl
-zeros_after [] (suc n) (suc j) = zeros_after [] n j
-zeros_after (b ∷ bs) n zero = refl
-zeros_after (b ∷ bs) n (suc j) = zeros_after bs n j
-
-pub byte_after : (c : Card) (k : ℕ) → 2 ≤ k → get_or (rest_bytes c) k 0 ≡ get_or c.name (k - 2) 0
-byte_after c zero h = absurd (omega arith)
-byte_after c (suc zero) h = absurd (omega arith)
-byte_after c (suc (suc j)) h =
-    let back : suc (suc j) - 2 ≡ j = omega arith in
-    rw back (zeros_after c.name (most_name - length c.name) j)
+-- a card from its type on: its type, its name's length, its name and the zeros up to its end are put one after the other
+pub rest_put : (out name zs : List ℕ) (t k m n : ℕ) → rest_size ≤ length out → length name ≤ most_name → k ≡ length name → m ≡ most_name - length name → n ≡ m → zs ≡ replicate n 0
+    → put_mid (2 + length name) m (put_mid 2 k (set (set out 0 t) 1 (length name)) name) zs ≡ rest_bytes (a_card 0 t name) ++ drop rest_size out
+rest_put [] name zs t k m n room few e f g z = absurd (omega arith)
+rest_put (a ∷ []) name zs t k m n room few e f g z = absurd (omega arith)
+rest_put (a ∷ b ∷ os) name zs t k m n room few e f g z =
+    let front = t ∷ length name ∷ name in
+    let back = drop (length name) os in
+    let kept : put_mid 2 k (t ∷ length name ∷ os) name ≡ front ++ back = ap (λ (j : ℕ). front ++ drop j os) e in
+    let whole : length name + m ≡ most_name = omega arith in
+    let before : take (2 + length name) (front ++ back) ≡ front = take_at front back (2 + length name) (omega arith) in
+    let after : drop m (drop (2 + length name) (front ++ back)) ≡ drop most_name os =
+    ap (drop m) (drop_at front back (2 + length name) (omega arith)) ∙ drop-drop m (length name) os ∙ ap (λ (j : ℕ). drop j os) whole in
+    ap (λ (l : List ℕ). put_mid (2 + length name) m l zs) kept
+    ∙ ap₂ (λ (xs ys : List ℕ). xs ++ (zs ++ ys)) before after
+    ∙ ap (λ (l : List ℕ). front ++ (l ++ drop most_name os)) (z ∙ ap (λ (j : ℕ). replicate j 0) (g ∙ f))
+    ∙ ap (λ (l : List ℕ). t ∷ length name ∷ l) (sym (append_assoc name (replicate (most_name - length name) 0) (drop most_name os)))
 
 -- a card's front: its position is put behind its first byte, and then that byte
 pub front_put : (out : List ℕ) (k : Kind) (position : ℕ) → type_place k ≤ length out → set (put out position_place (num_bytes k.width position)) 0 k.number ≡ front_bytes k position ++ drop (type_place k) out

@@ -11,13 +11,14 @@ use lib.Dec.{ltb}
 use native.Mathlib.Nat.{eq-or-lt_of_le}
 use native.Mathlib.Omega.{arith}
 use borrow.Author.Tests.{leb-true, leb-false, ltb-true, ltb-false, lt-leb, eqb-true, eq-eqb, not-true, not-false}
+use Rattle.std.specs.Prelude.{Result, Ok, Err, Option as Maybe, Some, None}
 use Rattle.format.specs.declared.Fault.{Fault}
 use Rattle.format.specs.declared.Fault.TheVariants.{Stale}
+use Rattle.format.specs.declared.Refusal.{Refusal}
 use Rattle.format.specs.Result.{Res, ok, no, bind, pick}
 use Rattle.format.specs.Message.{Table, Message, read_message}
 use Rattle.format.proofs.Decides.{once, answer}
 use Rattle.format.proofs.Results.{ok_same, no_ok}
-use Rattle.text.specs.declared.Found.{Found}
 use Rattle.places.specs.Places.{tables_of}
 use Rattle.places.specs.Entries.{entry}
 use Rattle.places.proofs.Lists.{entry_below}
@@ -266,17 +267,17 @@ module _ (b : Table) (type : ℕ) (name : List ℕ) where
       go (some j) e = absurd (n j (stands→first j e).has)
 
 -- ---- the statement decides: two answers to one question are the same
-abbrev place : Option ℕ → Found
-place none = Found.Nothing
-place (some i) = Found.At i
+abbrev place : Option ℕ → Maybe ℕ
+place none = None
+place (some i) = Some i
 
-place_back : (x : Found) → place (told_place x) ≡ x
-place_back (Found.At i) = refl
-place_back Found.Nothing = refl
+place_back : (x : Maybe ℕ) → place (told_place x) ≡ x
+place_back (Some i) = refl
+place_back None = refl
 
 abbrev fit : Option (Reason × Option ℕ) → Fit
 fit none = Fit.Fits
 fit (some w) = Fit.Stale w.0 (place w.1)
 
-pub fit_once : (a b : Fit) → told_fit a ≡ told_fit b → a ≡ b
-fit_once = once told_fit (answer fit Fit.No) (elim [ Fit.Fits ↦ refl | Fit.Stale r x ↦ ap (Fit.Stale r) (place_back x) | Fit.No r ↦ refl ])
+pub fit_once : (a b : Result Fit Refusal) → told_fit a ≡ told_fit b → a ≡ b
+fit_once = once told_fit (answer (λ w. Ok (fit w)) Err) (elim [ Ok Fit.Fits ↦ refl | Ok (Fit.Stale r x) ↦ ap (λ z. Ok (Fit.Stale r z)) (place_back x) | Err r ↦ refl ])

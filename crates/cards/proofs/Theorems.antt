@@ -1,5 +1,7 @@
 -- What cards are good for: a card made opens the column that it was made from; a well-formed card opens a column exactly if position, type and name
 -- fit; and opening looks at nothing in the message but the table's column count and that column's type and name.
+use Rattle.format.specs.declared.Refusal.{Refusal}
+use Rattle.std.specs.Prelude.{Result}
 use Prim.Native.Nat.{ℕ, ◌<◌, ◌≤◌}
 use mathlib.Core.Path.{◌≡◌, refl, sym, ◌∙◌, ap}
 use mathlib.Core.Bool.{Bool, true, false, ◌&&◌, false≢true}
@@ -10,10 +12,9 @@ use lib.Seq.{take_at, drop_at}
 use lib.Dec.{leb, ltb, eqb}
 use native.Mathlib.Omega.{arith}
 use borrow.Author.Tests.{leb-true, eqb-true, ltb-true, ltb-false, eq-eqb}
-use Rattle.format.specs.declared.Answer.{Answer}
 use Rattle.format.specs.declared.Fault.{Fault}
 use Rattle.format.specs.declared.Fault.TheVariants.{Stale, Limit, Output}
-use Rattle.format.specs.Result.{Res, ok, no, bind, pick, told_answer}
+use Rattle.format.specs.Result.{Res, ok, no, bind, pick, told}
 use Rattle.format.specs.Number.{Bytes}
 use Rattle.format.specs.Message.{Table, Message, read_message}
 use Rattle.format.proofs.Decides.{answer_once}
@@ -109,7 +110,7 @@ made_opens m all t wanted c e =
     fits→opens m t (card_bytes c) s.accepted (encodes→form c s.good) s.there s.type (s.first.there ∙ ap (λ (z : List ℕ). ok (some z)) (sym s.name))
 
 -- what was written is such a card, and no byte past it has changed
-module _ (m : List ℕ) (all : Bytes m) (t : ℕ) (wanted : List ℕ) (x : Answer) (before after : List ℕ) (c : Card) (e : ask_made m t wanted (length before) ≡ ok c) (w : Made (ok c) x before after) where
+module _ (m : List ℕ) (all : Bytes m) (t : ℕ) (wanted : List ℕ) (x : Result ℕ Refusal) (before after : List ℕ) (c : Card) (e : ask_made m t wanted (length before) ≡ ok c) (w : Made (ok c) x before after) where
   made : ask_card m t wanted ≡ ok c
   made =
       let a = bound (ask_card m t wanted) e in
@@ -127,7 +128,7 @@ module _ (m : List ℕ) (all : Bytes m) (t : ℕ) (wanted : List ℕ) (x : Answe
   made_keeps = ap (drop (size_of c)) w.buffer ∙ drop_at (card_bytes c) (drop (size_of c) before) (size_of c) size
 
 -- a refusal changes no byte
-pub refused_keeps : {f : Fault} {p : ℕ} {x : Answer} {before after : List ℕ} → Made (no f p) x before after → after ≡ before
+pub refused_keeps : {f : Fault} {p : ℕ} {x : Result ℕ Refusal} {before after : List ℕ} → Made (no f p) x before after → after ≡ before
 refused_keeps w = w.buffer
 
 -- two replies whose tables agree in their column count, and in the type and name of a card's column, open the card alike
@@ -152,8 +153,8 @@ module _ (m l : List ℕ) (t u : ℕ) (bs : List ℕ) {r s : Message} {c : Card}
       comes_to m t bs r-accepted formed a-there ∙ ap (λ (z : Bool). pick z (ok c.position) (no Stale 0)) same_fit ∙ sym (comes_to l u bs s-accepted formed b_there)
 
 -- ---- the statements decide: two answers to one question are the same, and so are two buffers
-pub open_once : (m : List ℕ) (t : ℕ) (bs : List ℕ) (a b : Answer) → told_answer a ≡ ask_open m t bs → told_answer b ≡ ask_open m t bs → a ≡ b
+pub open_once : (m : List ℕ) (t : ℕ) (bs : List ℕ) (a b : Result ℕ Refusal) → told a ≡ ask_open m t bs → told b ≡ ask_open m t bs → a ≡ b
 open_once m t bs a b e f = answer_once a b (e ∙ sym f)
 
-pub made_once : (r : Res Card) (a b : Answer) (before after other : List ℕ) → Made r a before after → Made r b before other → (a ≡ b) × (after ≡ other)
+pub made_once : (r : Res Card) (a b : Result ℕ Refusal) (before after other : List ℕ) → Made r a before after → Made r b before other → (a ≡ b) × (after ≡ other)
 made_once r a b before after other w v = (answer_once a b (w.answer ∙ sym v.answer), w.buffer ∙ sym v.buffer)

@@ -1,9 +1,9 @@
 -- What making and opening a card are answered with.
-use Rattle.std.specs.Prelude.{ℕ, ◌≡◌, Bool, true, false, ◌&&◌, List, ◌++◌, length, drop, leb, eqb}
+use Rattle.format.specs.declared.Refusal.{Refusal}
+use Rattle.std.specs.Prelude.{ℕ, ◌≡◌, Bool, true, false, ◌&&◌, List, ◌++◌, length, drop, leb, eqb, Result}
 use Rattle.std.proofs.Math.Option.{Option}
-use Rattle.format.specs.declared.Answer.{Answer}
 use Rattle.format.specs.declared.Fault.TheVariants.{Limit, Output, Stale}
-use Rattle.format.specs.Result.{Res, ok, no, bind, pick, told_answer}
+use Rattle.format.specs.Result.{Res, ok, no, bind, pick, told}
 use Rattle.format.specs.Message.{Table, read_message}
 use Rattle.places.specs.Places.{tables_of, name_at}
 use Rattle.places.specs.Entries.{entry}
@@ -59,6 +59,6 @@ written (ok c) out = card_bytes c ++ drop (size_of c) out
 written (no f p) out = out
 
 -- a card, or the refusal of one, as it is answered (by the column's position) and written
-pub record Made (r : Res Card) (x : Answer) (before after : List ℕ) : Type 0 where
-  pub answer : told_answer x ≡ bind r (λ c. ok c.position)
+pub record Made (r : Res Card) (x : Result ℕ Refusal) (before after : List ℕ) : Type 0 where
+  pub answer : told x ≡ bind r (λ c. ok c.position)
   pub buffer : after ≡ written r before

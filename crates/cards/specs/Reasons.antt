@@ -1,9 +1,9 @@
 -- Whether a card fits a table, and if not why: the first of three facts that holds; and where a column of the card's type and name stands now.
-use Rattle.std.specs.Prelude.{ℕ, zero, suc, ◌+◌, ◌≤◌, ◌≡◌, Bool, false, not, List, [], ◌∷◌, length, leb, eqb}
+use Rattle.std.specs.Prelude.{ℕ, zero, suc, ◌+◌, ◌≤◌, ◌≡◌, Bool, false, not, List, [], ◌∷◌, length, leb, eqb, Result, Ok, Err, Option as Maybe, Some, None}
 use Rattle.std.proofs.Math.Option.{Option, some, none}
+use Rattle.format.specs.declared.Refusal.{Refusal}
 use Rattle.format.specs.Result.{Res, ok, no, pick}
 use Rattle.format.specs.Message.{Table}
-use Rattle.text.specs.declared.Found.{Found}
 use Rattle.places.specs.Entries.{entry}
 use Rattle.query.specs.Answers.{is_named}
 use Rattle.cards.specs.declared.Reason.{Reason}
@@ -70,11 +70,14 @@ abbrev pub ask_fit : List ℕ → ℕ → List ℕ → Res (Option (Reason × Op
 ask_fit m t bs = of_card m t bs (λ b c. ok (fit_of b c))
 
 -- what an answer says
-abbrev pub told_place : Found → Option ℕ
-told_place (Found.At i) = some i
-told_place Found.Nothing = none
+abbrev pub told_place : Maybe ℕ → Option ℕ
+told_place (Some i) = some i
+told_place None = none
 
-abbrev pub told_fit : Fit → Res (Option (Reason × Option ℕ))
-told_fit Fit.Fits = ok none
-told_fit (Fit.Stale r i) = ok (some (r, told_place i))
-told_fit (Fit.No x) = no x.fault x.place
+abbrev pub fit_told : Fit → Option (Reason × Option ℕ)
+fit_told Fit.Fits = none
+fit_told (Fit.Stale r i) = some (r, told_place i)
+
+abbrev pub told_fit : Result Fit Refusal → Res (Option (Reason × Option ℕ))
+told_fit (Ok f) = ok (fit_told f)
+told_fit (Err r) = no r.fault r.place

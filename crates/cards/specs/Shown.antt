@@ -1,25 +1,23 @@
 -- What the code answers on its way: nothing here is promised to a caller.
-use Rattle.std.specs.Prelude.{ℕ, ◌≡◌, List, length}
+use Rattle.std.specs.Prelude.{ℕ, ◌≡◌, List, length, Result, Ok, Err, Option as Maybe, Some, None}
 use Rattle.std.proofs.Math.Option.{Option, some, none}
 use Rattle.format.specs.declared.Refusal.{Refusal}
 use Rattle.format.specs.Result.{Res, ok, no}
 use Rattle.format.specs.Message.{Message, Table, table}
-use Rattle.text.specs.declared.Found.{Found}
 use Rattle.scan.specs.Shown.{refusal}
 use Rattle.places.specs.Stands.{Stands}
 use Rattle.query.specs.declared.TableLayout.{TableLayout}
 use Rattle.query.specs.Answers.{layout_of}
-use Rattle.cards.specs.declared.Form.{Form}
 use Rattle.cards.specs.Card.{Card}
 
-abbrev pub shown_wrong : Option ℕ → Found
-shown_wrong none = Found.Nothing
-shown_wrong (some k) = Found.At k
+abbrev pub shown_wrong : Option ℕ → Maybe ℕ
+shown_wrong none = None
+shown_wrong (some k) = Some k
 
 -- a card by its position, its type and its name's length; the name stands in the card
-abbrev pub shown_form : Res Card → Form
-shown_form (ok c) = Form.Is c.position c.type (length c.name)
-shown_form (no f p) = Form.No (refusal f p)
+abbrev pub shown_form : Res Card → Result (ℕ × ℕ × ℕ) Refusal
+shown_form (ok c) = Ok (c.position, c.type, length c.name)
+shown_form (no f p) = Err (refusal f p)
 
 -- the refusal of a message comes before another one
 abbrev pub own_before : Res Message → Refusal → Refusal

@@ -6,20 +6,17 @@
 ghost use Rattle.std.specs.Prelude.{◌≡◌, ◌&&◌, ◌++◌, ◌+◌, ◌≤◌, min, length, get_or, take, drop, eqb};
 ghost use Rattle.std.proofs.Math.Option.{some};
 ghost use Rattle.format.specs.declared.Fault.TheVariants.{CardForm};
-ghost use Rattle.format.specs.Result.{ok, bind, told_answer};
+ghost use Rattle.format.specs.Result.{ok, bind, told};
 ghost use Rattle.format.specs.Message.{read_message, response_layout};
 ghost use Rattle.scan.specs.Shown.{refusal};
 ghost use Rattle.query.specs.Answers.{of_table, same};
 ghost use Rattle.cards.specs.Card.{a_card, holds, kind_of, name_byte, wrong_from, card_rest, sized, card_form, rest_bytes, front_bytes, bytes_in, card_size, most_size, position_place, type_place, name_place, rest_size, most_name};
 ghost use Rattle.cards.specs.Answers.{opened, ask_open, short_named, room_for, ask_made, Made};
-ghost use Rattle.cards.specs.Reasons.{stands_at, fit_of, ask_fit, told_place, told_fit};
+ghost use Rattle.cards.specs.Reasons.{stands_at, fit_of, ask_fit, told_place, fit_told, told_fit};
 ghost use Rattle.cards.specs.Shown.{shown_wrong, shown_form, own_before, Laid};
 
-use format::{Answer, Fault, Refusal};
-use message::Verdict;
-use query::{ColumnLayout, Named, Placed, TableAnswer, TableLayout};
-use scan::Body;
-use text::Found;
+use format::{Fault, Refusal};
+use query::{ColumnLayout, TableLayout};
 
 // A kind of card: its first byte, how many bytes its position has, and the first and the last position that it holds.
 #[derive(Clone, Copy)]
@@ -91,20 +88,13 @@ fn name_at(position: usize) -> usize
 
 // ---- The form of a card.
 
-// What a card says: a position, a type, and how long its name is.
-#[derive(Drop)]
-enum Form {
-    Is(usize, u8, usize),
-    No(Refusal),
-}
-
-fn wrong(place: usize) -> Form
-    ensures { result ≡ Form.No (refusal CardForm place) }
+fn wrong(place: usize) -> Refusal
+    ensures { result ≡ refusal CardForm place }
 {
-    Form::No(Refusal {
+    Refusal {
         fault: Fault::CardForm,
         place,
-    })
+    }
 }
 
 // The smaller of two sizes.
@@ -136,17 +126,15 @@ fn name_byte(size: usize, k: usize, b: u8) -> bool
 }
 
 // The first byte of a name and the zeros after it that is wrong.
-fn wrong_byte(name: &[u8], size: usize) -> Found
+fn wrong_byte(name: &[u8], size: usize) -> Option<usize>
     ensures { result ≡ shown_wrong (wrong_from size 0 name.now) }
 {
-    let mut k = 0;
-    while k < name.len() {
-        if !name_byte(size, k, name[k]) {
-            return Found::At(k);
+    for (k, b) in name.iter().enumerate() {
+        if !name_byte(size, k, *b) {
+            return Some(k);
         }
-        k += 1;
     }
-    Found::Nothing
+    None
 }
 
 // Byte k of some bytes and the zeros after them.
@@ -157,43 +145,43 @@ fn padded(s: &[u8], k: usize) -> u8
 }
 
 // What the bytes from the type on say, which stands at a place, of a card that has its size and its position.
-fn read_rest(rest: &[u8], at: usize, position: usize) -> Form
+fn read_rest(rest: &[u8], at: usize, position: usize) -> Result<(usize, u8, usize), Refusal>
     requires { (length rest.now ≡ rest_size) × (at ≤ position_place + 8) }
     ensures { result ≡ shown_form (card_rest at position rest.now) }
 {
     let wire_type = rest[TYPE];
     if !scan::is_column(wire_type) {
-        return wrong(at);
+        return Err(wrong(at));
     }
     let size = rest[LENGTH] as usize;
     if MOST_NAME < size {
-        return wrong(at + LENGTH);
+        return Err(wrong(at + LENGTH));
     }
-    let Found::At(k) = wrong_byte(&rest[NAME..], size) else {
-        return Form::Is(position, wire_type, size);
-    };
-    wrong(at + NAME + k)
+    match wrong_byte(&rest[NAME..], size) {
+        Some(k) => Err(wrong(at + NAME + k)),
+        None => Ok((position, wire_type, size)),
+    }
 }
 
 // What a card of a kind says: its size decides, then its position, then the rest.
-fn read_sized(card: &[u8], kind: Kind) -> Form
+fn read_sized(card: &[u8], kind: Kind) -> Result<(usize, u8, usize), Refusal>
     requires { kind.width ≤ 8 }
     ensures { result ≡ shown_form (sized kind card.now) }
 {
     let size = size_of(kind);
     if card.len() != size {
-        return wrong(smaller(card.len(), size));
+        return Err(wrong(smaller(card.len(), size)));
     }
     let position = scan::number_at(card, POSITION, kind.width) as usize;
     if !is_held(kind, position) {
-        return wrong(POSITION);
+        return Err(wrong(POSITION));
     }
     let at = POSITION + kind.width;
     read_rest(&card[at..], at, position)
 }
 
 // What a card says, or the first byte that breaks its form.
-fn read_card(card: &[u8]) -> Form
+fn read_card(card: &[u8]) -> Result<(usize, u8, usize), Refusal>
     ensures { result ≡ shown_form (card_form card.now) }
 {
     let first = padded(card, 0);
@@ -203,7 +191,7 @@ fn read_card(card: &[u8]) -> Form
     if first == FAR.number {
         return read_sized(card, FAR);
     }
-    wrong(0)
+    Err(wrong(0))
 }
 
 // ---- Opening.
@@ -220,13 +208,10 @@ fn same_bytes(a: &[u8], b: &[u8]) -> bool
     if a.len() != b.len() {
         return false;
     }
-    let mut rest = a.len();
-    while 0 < rest {
-        let last = rest - 1;
-        if a[last] != b[last] {
+    for i in (0..a.len()).rev() {
+        if a[i] != b[i] {
             return false;
         }
-        rest = last;
     }
     true
 }
@@ -245,20 +230,23 @@ fn is_alike(m: &[u8], column: ColumnLayout, wire_type: u8, name: &[u8]) -> bool
 }
 
 // Opens a card that says this, in a response with its round trip or without.
-fn open_at(m: &[u8], timed: bool, t: usize, position: usize, wire_type: u8, name: &[u8]) -> Answer
-    ensures { told_answer result ≡ of_table timed m.now t (λ at b. opened b (a_card position wire_type name.now)) }
+fn open_at(
+    m: &[u8],
+    timed: bool,
+    t: usize,
+    position: usize,
+    wire_type: u8,
+    name: &[u8],
+) -> Result<usize, Refusal>
+    ensures { told result ≡ of_table timed m.now t (λ at b. opened b (a_card position wire_type name.now)) }
 {
-    let placed = query::find_placed(m, timed, t, position);
-    match placed {
-        Placed::No(r) => Answer::No(r),
-        Placed::Past => Answer::No(STALE),
-        Placed::Is(column) => {
-            if is_alike(m, column, wire_type, name) {
-                Answer::Is(position)
-            } else {
-                Answer::No(STALE)
-            }
-        }
+    let Some(column) = query::find_placed(m, timed, t, position)? else {
+        return Err(STALE);
+    };
+    if is_alike(m, column, wire_type, name) {
+        Ok(position)
+    } else {
+        Err(STALE)
     }
 }
 
@@ -266,21 +254,19 @@ fn open_at(m: &[u8], timed: bool, t: usize, position: usize, wire_type: u8, name
 fn after_message(m: &[u8], timed: bool, r: Refusal) -> Refusal
     ensures { result ≡ own_before (read_message (response_layout timed) m.now) r }
 {
-    let verdict = message::accept_layout(format::response_layout(timed), m);
-    match verdict {
-        Verdict::No(own) => own,
-        Verdict::Fine => r,
+    match message::accept_layout(format::response_layout(timed), m) {
+        Err(own) => own,
+        Ok(()) => r,
     }
 }
 
 // The column of table t that a card stands for, by its position, if it still has the card's type and name.
-pub fn open_card(m: &[u8], t: usize, card: &[u8]) -> Answer
-    ensures { told_answer result ≡ ask_open m.now t card.now }
+pub fn open_card(m: &[u8], t: usize, card: &[u8]) -> Result<usize, Refusal>
+    ensures { told result ≡ ask_open m.now t card.now }
 {
-    let form = read_card(card);
-    match form {
-        Form::No(r) => Answer::No(after_message(m, true, r)),
-        Form::Is(position, wire_type, size) => {
+    match read_card(card) {
+        Err(r) => Err(after_message(m, true, r)),
+        Ok((position, wire_type, size)) => {
             let start = name_at(position);
             let end = start + size;
             open_at(m, true, t, position, wire_type, &card[start..end])
@@ -302,35 +288,31 @@ pub enum Reason {
 #[derive(Drop)]
 pub enum Fit {
     Fits,
-    Stale(Reason, Found),
-    No(Refusal),
+    Stale(Reason, Option<usize>),
 }
 
 // The first column of a table that has this type and name.
-fn first_alike(m: &[u8], layout: TableLayout, wire_type: u8, name: &[u8]) -> Found
+fn first_alike(m: &[u8], layout: TableLayout, wire_type: u8, name: &[u8]) -> Option<usize>
     requires { Laid m.now layout }
     ensures { (w : Laid m.now layout) → told_place result ≡ stands_at w.tab wire_type name.now }
 {
     let mut at = layout.names;
-    let mut i = 0;
-    while i < layout.columns {
-        let body = scan::read_body(m, at, false, format::UNLIMITED);
-        let Body::Is(start, end) = body else {
-            return Found::Nothing;
+    for i in 0..layout.columns {
+        let Ok((start, end)) = scan::read_span(m, at, format::UNLIMITED) else {
+            return None;
         };
         if scan::byte_at(m, layout.types + i) == wire_type && same_bytes(&m[start..end], name) {
-            return Found::At(i);
+            return Some(i);
         }
         at = end;
-        i += 1;
     }
-    Found::Nothing
+    None
 }
 
 // That a card doesn't fit for a reason, with where its type and name stand.
 fn stale(m: &[u8], layout: TableLayout, reason: Reason, wire_type: u8, name: &[u8]) -> Fit
     requires { Laid m.now layout }
-    ensures { (w : Laid m.now layout) → told_fit result ≡ ok (some (reason, stands_at w.tab wire_type name.now)) }
+    ensures { (w : Laid m.now layout) → fit_told result ≡ some (reason, stands_at w.tab wire_type name.now) }
 {
     Fit::Stale(reason, first_alike(m, layout, wire_type, name))
 }
@@ -338,7 +320,7 @@ fn stale(m: &[u8], layout: TableLayout, reason: Reason, wire_type: u8, name: &[u
 // How a card that says this fits a table.
 fn fit_in(m: &[u8], layout: TableLayout, position: usize, wire_type: u8, name: &[u8]) -> Fit
     requires { Laid m.now layout }
-    ensures { (w : Laid m.now layout) → told_fit result ≡ ok (fit_of w.tab (a_card position wire_type name.now)) }
+    ensures { (w : Laid m.now layout) → fit_told result ≡ fit_of w.tab (a_card position wire_type name.now) }
 {
     if layout.columns <= position {
         return stale(m, layout, Reason::Past, wire_type, name);
@@ -354,24 +336,27 @@ fn fit_in(m: &[u8], layout: TableLayout, position: usize, wire_type: u8, name: &
 }
 
 // How it fits table t of a response with its round trip or without.
-fn fit_at(m: &[u8], timed: bool, t: usize, position: usize, wire_type: u8, name: &[u8]) -> Fit
+fn fit_at(
+    m: &[u8],
+    timed: bool,
+    t: usize,
+    position: usize,
+    wire_type: u8,
+    name: &[u8],
+) -> Result<Fit, Refusal>
     ensures { told_fit result ≡ of_table timed m.now t (λ at b. ok (fit_of b (a_card position wire_type name.now))) }
 {
-    let answer = query::find_table(m, timed, t);
-    match answer {
-        TableAnswer::No(r) => Fit::No(r),
-        TableAnswer::Is(layout) => fit_in(m, layout, position, wire_type, name),
-    }
+    let layout = query::find_table(m, timed, t)?;
+    Ok(fit_in(m, layout, position, wire_type, name))
 }
 
 // Whether a card fits table t, exactly if opening it there would open a column; and if not why, and where a column of its type and name stands now.
-pub fn card_fit(m: &[u8], t: usize, card: &[u8]) -> Fit
+pub fn card_fit(m: &[u8], t: usize, card: &[u8]) -> Result<Fit, Refusal>
     ensures { told_fit result ≡ ask_fit m.now t card.now }
 {
-    let form = read_card(card);
-    match form {
-        Form::No(r) => Fit::No(after_message(m, true, r)),
-        Form::Is(position, wire_type, size) => {
+    match read_card(card) {
+        Err(r) => Err(after_message(m, true, r)),
+        Ok((position, wire_type, size)) => {
             let start = name_at(position);
             let end = start + size;
             fit_at(m, true, t, position, wire_type, &card[start..end])
@@ -384,28 +369,16 @@ pub fn card_fit(m: &[u8], t: usize, card: &[u8]) -> Fit
 // How many bytes the length of a name has in a message.
 const LENGTH_SIZE: usize = 4;
 
-// Byte k of a card from its type on.
-fn rest_byte(wire_type: u8, name: &[u8], k: usize) -> u8
-    requires { length name.now ≤ most_name }
-    ensures { result ≡ get_or (rest_bytes (a_card 0 wire_type name.now)) k 0 }
-{
-    match k {
-        TYPE => wire_type,
-        LENGTH => name.len() as u8,
-        _ => padded(name, k - NAME),
-    }
-}
-
 // Writes a card from its type on, to the start of a buffer that has room for it.
 fn write_rest(out: &mut [u8], wire_type: u8, name: &[u8])
     requires { (rest_size ≤ length out.old) × (length name.now ≤ most_name) }
     ensures { out.new ≡ rest_bytes (a_card 0 wire_type name.now) ++ drop rest_size out.old }
 {
-    let mut k = 0;
-    while k < REST {
-        out[k] = rest_byte(wire_type, name, k);
-        k += 1;
-    }
+    let end = NAME + name.len();
+    out[TYPE] = wire_type;
+    out[LENGTH] = name.len() as u8;
+    out[NAME..end].copy_from_slice(name);
+    out[end..REST].fill(0);
 }
 
 // Writes the kind of a card and its position, to the start of a buffer that has room for them.
@@ -427,11 +400,17 @@ fn write_card(out: &mut [u8], kind: Kind, position: usize, wire_type: u8, name: 
 }
 
 // Makes the card of a column whose name's length stands at a place, if the name is short enough and there is room.
-fn put_card(out: &mut [u8], place: usize, position: usize, wire_type: u8, name: &[u8]) -> Answer
+fn put_card(
+    out: &mut [u8],
+    place: usize,
+    position: usize,
+    wire_type: u8,
+    name: &[u8],
+) -> Result<usize, Refusal>
     ensures { Made (bind (short_named place (a_card position wire_type name.now)) (room_for (length out.old))) result out.old out.new }
 {
     if MOST_NAME < name.len() {
-        return Answer::No(Refusal {
+        return Err(Refusal {
             fault: Fault::Limit,
             place,
         });
@@ -439,30 +418,25 @@ fn put_card(out: &mut [u8], place: usize, position: usize, wire_type: u8, name: 
     let kind = kind_of(position);
     let size = size_of(kind);
     if out.len() < size {
-        return Answer::No(Refusal {
+        return Err(Refusal {
             fault: Fault::Output,
             place: size,
         });
     }
     write_card(out, kind, position, wire_type, name);
-    Answer::Is(position)
+    Ok(position)
 }
 
 // Makes the card of the first column of a name in table t, at the start of the buffer, and says the column's position.
-pub fn make_card(m: &[u8], t: usize, name: &[u8], out: &mut [u8]) -> Answer
+pub fn make_card(m: &[u8], t: usize, name: &[u8], out: &mut [u8]) -> Result<usize, Refusal>
     ensures { Made (ask_made m.now t name.now (length out.old)) result out.old out.new }
 {
-    let named = query::named_column(m, t, name);
-    match named {
-        Named::No(r) => Answer::No(r),
-        Named::At(position, column) => {
-            put_card(
-                out,
-                column.name - LENGTH_SIZE,
-                position,
-                column.wire_type,
-                name,
-            )
-        }
-    }
+    let (position, column) = query::named_column(m, t, name)?;
+    put_card(
+        out,
+        column.name - LENGTH_SIZE,
+        position,
+        column.wire_type,
+        name,
+    )
 }

@@ -1,11 +1,9 @@
 -- What is read, asked and written, as it stands: 7 was split in each. And so it was in the answers of the C interface, whose numbers and places can be taken apart again.
 use Prim.Native.Nat.{ℕ, ◌+◌, ◌/◌, ◌%◌, ◌^◌, ◌<◌}
-use mathlib.Core.Path.{◌≡◌, refl, sym, ap, subst}
+use mathlib.Core.Path.{◌≡◌, refl, sym, subst}
 use mathlib.Core.List.{List}
-use lib.Dec.{eqb}
 use native.Mathlib.Omega.{arith}
 use borrow.Author.Tests.{ne_eqb}
-use Rattle.format.specs.declared.Fault.{Fault}
 use Rattle.format.specs.Result.{Res, ok, no, number_of}
 use Rattle.format.specs.Message.{read_message}
 use Rattle.format.specs.Geography.{read_polygon}
@@ -16,7 +14,7 @@ use Rattle.steps.specs.Logins.{Welcome, login_request, login_response}
 use Rattle.outline.specs.declared.State.{State as Outline}
 use Rattle.outline.specs.Steps as outline
 use Rattle.numbers.specs.Packed.{above, packed_by, packed}
-use Rattle.causes.specs.Before.{number_before, Told, found, refused, told, Split, unpacked}
+use Rattle.causes.specs.Before.{number_before, found, refused, told, Split, unpacked}
 use Rattle.causes.proofs.Split.{before_small, split_found, split_fault, split}
 
 abbrev pub SplitIn : {A : Type 0} → Res A → Type 0

@@ -1,6 +1,6 @@
 -- The body of a geography is refused rightly: its rings by the laws of formats, what stands before them at its places.
 use Prim.Native.Nat.{ℕ, ◌+◌, ◌≤◌}
-use mathlib.Core.Path.{◌≡◌, refl, sym, ap, ◌∙◌, subst}
+use mathlib.Core.Path.{◌≡◌, sym, ap, ◌∙◌, subst}
 use mathlib.Core.Bool.{Bool, false}
 use mathlib.Core.List.{List}
 use mathlib.Core.Logic.{inl, inr}
@@ -9,9 +9,9 @@ use lib.Dec.{leb, ltb, eqb}
 use native.Mathlib.Omega.{arith}
 use Rattle.format.specs.declared.Fault.{Fault}
 use Rattle.format.specs.declared.Fault.TheVariants.{Negative, Extra, Geography}
-use Rattle.format.specs.Result.{ok, no, pick}
+use Rattle.format.specs.Result.{ok}
 use Rattle.format.specs.Number.{num_at, half}
-use Rattle.format.specs.Format.{Format, number, block, ruled, into, both, each}
+use Rattle.format.specs.Format.{Format, number, block, ruled, both, each}
 use Rattle.format.specs.Message.{first}
 use Rattle.format.specs.Geography.{vertex, ring, polygon, at_least, ringed, holes_of, fewest_vertices, body_kept, read_polygon}
 use Rattle.format.proofs.Results.{ok_same, passed, bound}

@@ -9,15 +9,15 @@ use lib.Dec.{leb, ltb, eqb}
 use native.Mathlib.Omega.{arith}
 use borrow.Author.Tests.{eqb-true}
 use Rattle.format.specs.declared.Fault.{Fault}
-use Rattle.format.specs.declared.Fault.TheVariants.{Short, Negative, Limit, Extra, WireType, Decimal, Point, Name, Geography, Text}
-use Rattle.format.specs.Result.{Res, ok, no, bind, pick}
+use Rattle.format.specs.declared.Fault.TheVariants.{Short, Negative, Limit, Extra, WireType, Decimal, Point, Name, Geography}
+use Rattle.format.specs.Result.{pick}
 use Rattle.format.specs.Number.{num_at, half}
-use Rattle.format.specs.Format.{Format, Index, number, ruled, Verdict, fine, bad}
+use Rattle.format.specs.Format.{Format, Index, number, ruled, bad}
 use Rattle.format.specs.Text.{utf8}
-use Rattle.format.specs.Value.{value, width_of, fixed_fine, decimal_fine, point_fine, anything, not_empty, rule_of, name_byte_fine, ascii_from, ascii, t_decimal, t_point, t_geography, t_string}
-use Rattle.format.specs.Message.{login_request, server, login_response, list, items, argument, param, invocation, metadata, row, table, head, response, content_of, message, read_message, is_layout, most_message, filled, Message}
+use Rattle.format.specs.Value.{value, width_of, fixed_fine, anything, not_empty, rule_of, name_byte_fine, ascii_from, ascii, t_decimal, t_point, t_geography, t_string}
+use Rattle.format.specs.Message.{login_request, server, login_response, list, items, argument, param, invocation, metadata, row, table, head, response, content_of, message, read_message, is_layout, most_message}
 use Rattle.format.proofs.Texts.{utf8_bad}
-use Rattle.causes.specs.Causes.{Claim, breaks, Holds, There, Rightly, of_message}
+use Rattle.causes.specs.Causes.{Holds, There, Rightly, of_message}
 use Rattle.causes.proofs.Rightly.{Right, Judges, number_is, rightly_ok, rightly_no, rightly_pick, rightly_bind, right_number, right_block, right_nothing, right_ruled, right_plain, right_tested, right_room, right_into, right_both, right_pick, right_present, right_each, right_counted, all_replicate, all_map}
 
 -- the rules of bodies

@@ -1,5 +1,5 @@
 -- A step is refused rightly: a cause that it gives is one of what it was given.
-use Prim.Native.Nat.{ℕ, ◌%◌}
+use Prim.Native.Nat.{ℕ}
 use mathlib.Core.Path.{◌≡◌, refl, sym, ◌∙◌, subst}
 use mathlib.Core.Bool.{Bool, true, false, true≢false}
 use mathlib.Core.List.{List, [], ◌∷◌}
@@ -8,17 +8,15 @@ use mathlib.Core.Option.{Option, some, none}
 use lib.ListN.{length, get_or}
 use lib.Dec.{leb, eqb}
 use borrow.Author.Tests.{eqb-true}
-use Rattle.format.specs.declared.Fault.{Fault}
-use Rattle.format.specs.declared.Fault.TheVariants.{Limit, Version, WireType, Decimal, Point, Flags, Name, Geography, Output, PastEnd, Stage as WrongStage}
+use Rattle.format.specs.declared.Fault.TheVariants.{Limit, WireType, Decimal, Point, Name, Geography, Output, PastEnd, Stage as WrongStage}
 use Rattle.format.specs.Result.{pick, number_of}
-use Rattle.format.specs.Format.{Verdict, fine}
+use Rattle.format.specs.Format.{Verdict}
 use Rattle.format.specs.Text.{utf8}
 use Rattle.format.specs.Value.{Value, fixed, body, is_counted, fixed_fine, anything, not_empty, rule_of, ascii, t_decimal, t_geography, t_string}
-use Rattle.format.specs.Message.{flagged, most_columns}
 use Rattle.format.specs.Geography.{fewest_vertices}
-use Rattle.steps.specs.State.{State, all_columns, is_element}
+use Rattle.steps.specs.State.{State}
 use Rattle.steps.specs.Plans.{also, test}
-use Rattle.steps.specs.Arguments.{Column, types_of, Opening, null_text_fault, is_number_of, value_fault, name_fault, name_faults, opening_fault}
+use Rattle.steps.specs.Arguments.{Column, Opening, is_number_of, value_fault, name_fault, name_faults, opening_fault}
 use Rattle.steps.specs.Steps.{Step, begin_call, null_param, one_param, bytes_param, open_array, element, close_array, finish_call, begin_reply, open_table, open_row, cell, close_row, close_table, finish_reply, plan, step}
 use Rattle.steps.specs.Logins.{Welcome, login_request, login_response, request_fault, response_fault}
 use Rattle.outline.specs.declared.State.{State as Outline}

@@ -3,13 +3,9 @@
 // A read or a write that fails ends it with an error.
 #![tactic(auto)]
 
-ghost use Rattle.std.specs.Prelude.{◌+◌, ◌≤◌, length};
+ghost use Rattle.std.specs.Prelude.{◌≤◌, length};
 
-use areas::{Bits, RingAnswer};
-use fields::Owned;
-use format::{Answer, Refusal};
-use message::Verdict;
-use query::{Part, TableAnswer};
+use format::Refusal;
 use reply::Head;
 use std::io;
 use write::Outcome;
@@ -37,8 +33,8 @@ fn main(rt: HostRuntime) -> io::Result<()> {
 fn chart(rt: &impl Print, reply: &[u8]) -> io::Result<()> {
     let found = query::find_column(reply, 0, b"AREA");
     match found {
-        Answer::Is(column) => chart_column(rt, reply, column),
-        Answer::No(refusal) => refuse(rt, refusal),
+        Ok(column) => chart_column(rt, reply, column),
+        Err(refusal) => refuse(rt, refusal),
     }
 }
 
@@ -46,7 +42,7 @@ fn chart_column(rt: &impl Print, reply: &[u8], column: usize) -> io::Result<()> 
     println!(rt; "column {column}")?;
     print_rows(rt, reply, column, row_count(reply))?;
     let span = query::cell_span(reply, 0, 0, column);
-    if let Part::Is(start, _) = span {
+    if let Ok(Some((start, _))) = span {
         chart_area(rt, query::part_at(reply, span), start)?;
     }
     Ok(())
@@ -66,16 +62,14 @@ fn chart_area(rt: &impl Print, body: &[u8], start: usize) -> io::Result<()> {
 fn row_count(reply: &[u8]) -> usize {
     let answer = query::table(reply, 0);
     match answer {
-        TableAnswer::Is(layout) => layout.rows,
-        TableAnswer::No(_) => 0,
+        Ok(layout) => layout.rows,
+        Err(_) => 0,
     }
 }
 
 fn print_rows(rt: &impl Print, reply: &[u8], column: usize, rows: usize) -> io::Result<()> {
-    let mut row = 0;
-    while row < rows {
+    for row in 0..rows {
         print_row(rt, reply, row, column)?;
-        row += 1;
     }
     Ok(())
 }
@@ -88,9 +82,9 @@ fn print_row(rt: &impl Print, reply: &[u8], row: usize, column: usize) -> io::Re
 fn print_cell(rt: &impl Print, reply: &[u8], row: usize, column: usize) -> io::Result<()> {
     let span = query::cell_span(reply, 0, row, column);
     match span {
-        Part::Is(start, _) => print_area(rt, query::part_at(reply, span), start),
-        Part::Null => rt.println(": null"),
-        Part::No(refusal) => {
+        Ok(Some((start, _))) => print_area(rt, query::part_at(reply, span), start),
+        Ok(None) => rt.println(": null"),
+        Err(refusal) => {
             rt.print(": ")?;
             refuse(rt, refusal)
         }
@@ -100,8 +94,8 @@ fn print_cell(rt: &impl Print, reply: &[u8], row: usize, column: usize) -> io::R
 fn print_area(rt: &impl Print, body: &[u8], start: usize) -> io::Result<()> {
     let answer = areas::rings(body);
     match answer {
-        Answer::Is(n) => println!(rt; ": area at {start}, rings {n}"),
-        Answer::No(refusal) => {
+        Ok(n) => println!(rt; ": area at {start}, rings {n}"),
+        Err(refusal) => {
             rt.print(": ")?;
             refuse(rt, moved(refusal, start))
         }
@@ -121,9 +115,10 @@ fn moved(refusal: Refusal, start: usize) -> Refusal {
 
 // Window after window, until one isn't full. A field has at least one byte, so the list is no longer than the body.
 fn print_fields(rt: &impl Print, body: &[u8], start: u64) -> io::Result<()> {
-    let mut first = 0;
-    while first <= body.len() && print_window(rt, body, first, start)? {
-        first += WINDOW;
+    for first in (0..=body.len()).step_by(WINDOW) {
+        if !print_window(rt, body, first, start)? {
+            break;
+        }
     }
     Ok(())
 }
@@ -132,7 +127,7 @@ fn print_fields(rt: &impl Print, body: &[u8], start: u64) -> io::Result<()> {
 fn print_window(rt: &impl Print, body: &[u8], first: usize, start: u64) -> io::Result<bool> {
     let mut numbers = [0u64; WINDOW * NUMBERS];
     let answer = inside::window(body, first, &mut numbers);
-    let Answer::Is(n) = answer else {
+    let Ok(n) = answer else {
         return Ok(false);
     };
     print_entries(rt, &numbers, n, start)?;
@@ -141,32 +136,25 @@ fn print_window(rt: &impl Print, body: &[u8], first: usize, start: u64) -> io::R
 
 // Prints the first n entries, or as many as there are.
 fn print_entries(rt: &impl Print, numbers: &[u64], n: usize, start: u64) -> io::Result<()> {
-    let mut i = 0;
-    let mut from = 0;
-    while i < n {
-        if numbers.len() - from < NUMBERS {
-            return Ok(());
-        }
-        print_entry(rt, numbers, from, start)?;
-        from += NUMBERS;
-        i += 1;
+    for entry in numbers.chunks_exact(NUMBERS).take(n) {
+        print_entry(rt, entry, start)?;
     }
     Ok(())
 }
 
-// Prints the six numbers from `from` on as a line of the listing's form: place, size, field number, ring, vertex, axis.
-fn print_entry(rt: &impl Print, numbers: &[u64], from: usize, start: u64) -> io::Result<()>
-    requires { from + 6 ≤ length numbers.now }
+// Prints an entry's six numbers as a line of the listing's form: place, size, field number, ring, vertex, axis.
+fn print_entry(rt: &impl Print, numbers: &[u64], start: u64) -> io::Result<()>
+    requires { 6 ≤ length numbers.now }
 {
-    let place = std::num::wrapping_add_u64(start, numbers[from]);
-    let (size, field) = (numbers[from + 1], numbers[from + 2]);
-    let (ring, vertex, axis) = (numbers[from + 3], numbers[from + 4], numbers[from + 5]);
+    let place = std::num::wrapping_add_u64(start, numbers[0]);
+    let (size, field) = (numbers[1], numbers[2]);
+    let (ring, vertex, axis) = (numbers[3], numbers[4], numbers[5]);
     println!(rt; "{place} {size} {field} {ring} {vertex} {axis}")
 }
 
 fn print_owner(rt: &impl Print, body: &[u8], start: usize) -> io::Result<()> {
     let answer = inside::owner(body, BYTE);
-    if let Owned::By(entry, _) = answer {
+    if let Ok((entry, _)) = answer {
         let byte = std::num::wrapping_add_usize(start, BYTE);
         let field = entry.field;
         let (ring, vertex, axis) = (entry.i, entry.j, entry.k);
@@ -178,11 +166,8 @@ fn print_owner(rt: &impl Print, body: &[u8], start: usize) -> io::Result<()> {
 // ---- The holes of an area: each ring after the first, by the bits of its vertices, so that their order is seen.
 
 fn print_holes(rt: &impl Print, body: &[u8]) -> io::Result<()> {
-    let rings = ring_count(body);
-    let mut ring = 1;
-    while ring < rings {
+    for ring in 1..ring_count(body) {
         print_ring(rt, body, ring)?;
-        ring += 1;
     }
     Ok(())
 }
@@ -190,24 +175,22 @@ fn print_holes(rt: &impl Print, body: &[u8]) -> io::Result<()> {
 fn ring_count(body: &[u8]) -> usize {
     let answer = areas::rings(body);
     match answer {
-        Answer::Is(n) => n,
-        Answer::No(_) => 0,
+        Ok(n) => n,
+        Err(_) => 0,
     }
 }
 
 fn print_ring(rt: &impl Print, body: &[u8], ring: usize) -> io::Result<()> {
     let answer = areas::ring(body, ring);
-    if let RingAnswer::Is(layout) = answer {
+    if let Ok(layout) = answer {
         print_vertices(rt, body, ring, layout.vertices)?;
     }
     Ok(())
 }
 
 fn print_vertices(rt: &impl Print, body: &[u8], ring: usize, vertices: usize) -> io::Result<()> {
-    let mut v = 0;
-    while v < vertices {
+    for v in 0..vertices {
         print_vertex(rt, body, ring, v)?;
-        v += 1;
     }
     Ok(())
 }
@@ -217,8 +200,8 @@ fn print_vertex(rt: &impl Print, body: &[u8], ring: usize, v: usize) -> io::Resu
     print_bits(rt, areas::vertex_bits(body, ring, v))
 }
 
-fn print_bits(rt: &impl Print, bits: Bits) -> io::Result<()> {
-    if let Bits::Are(x, y, z) = bits {
+fn print_bits(rt: &impl Print, bits: Result<(u64, u64, u64), Refusal>) -> io::Result<()> {
+    if let Ok((x, y, z)) = bits {
         print!(rt; ": {x:016x} {y:016x} {z:016x}")?;
     }
     rt.println("")
@@ -255,11 +238,11 @@ fn copy_into(from: &[u8], to: &mut [u8]) -> usize
 fn turn_in_place(rt: &impl Print, body: &mut [u8]) -> io::Result<bool> {
     let turned = turn::turn_holes(body);
     match turned {
-        Answer::Is(n) => {
+        Ok(n) => {
             println!(rt; "turned, rings {n}")?;
             Ok(true)
         }
-        Answer::No(refusal) => {
+        Err(refusal) => {
             refuse(rt, refusal)?;
             Ok(false)
         }
@@ -275,15 +258,19 @@ fn pass_on(rt: &impl Print, turned: &[u8], first: &[u8]) -> io::Result<()> {
 }
 
 // What was written, by the answer of the last step. After a refusal that is printed, and this is empty.
-fn written<'a>(rt: &impl Print, out: &'a [u8], answer: Answer) -> io::Result<&'a [u8]> {
+fn written<'a>(
+    rt: &impl Print,
+    out: &'a [u8],
+    answer: Result<usize, Refusal>,
+) -> io::Result<&'a [u8]> {
     match answer {
-        Answer::Is(n) => {
+        Ok(n) => {
             if out.len() < n {
                 return Ok(&out[0..0]);
             }
             Ok(&out[0..n])
         }
-        Answer::No(refusal) => {
+        Err(refusal) => {
             refuse(rt, refusal)?;
             Ok(&out[0..0])
         }
@@ -292,7 +279,7 @@ fn written<'a>(rt: &impl Print, out: &'a [u8], answer: Answer) -> io::Result<&'a
 
 fn read_back(rt: &impl Print, reply: &[u8], first: &[u8]) -> io::Result<()> {
     let verdict = message::accept(4, reply);
-    if let Verdict::No(refusal) = verdict {
+    if let Err(refusal) = verdict {
         return refuse(rt, refusal);
     }
     let size = reply.len();
@@ -330,7 +317,7 @@ fn put_row(out: &mut [u8], types: &[u8; write::COLUMNS], step: Outcome, body: &[
     let opened = after(step, rows::open_row(out, step.state, types));
     let filled = after(
         opened,
-        rows::body_cell(out, opened.state, types, format::GEOGRAPHY, false, body),
+        rows::body_cell(out, opened.state, types, format::GEOGRAPHY, Some(body)),
     );
     after(filled, rows::close_row(out, filled.state, types))
 }
@@ -341,12 +328,10 @@ fn open_table(out: &mut [u8], types: &mut [u8; write::COLUMNS]) -> Outcome {
         version: 0,
         flags: 0,
         status: 1,
-        status_null: true,
         app_status: 128,
-        app_null: true,
         round_trip: 0,
     };
-    let begun = reply::begin_reply(out, head, b"chart 00", b"", b"", b"");
+    let begun = reply::begin_reply(out, head, b"chart 00", None, None, b"");
     after(
         begun,
         numbers::open_listed(out, begun.state, types, 0, &COLUMN, b"AREA"),
@@ -362,7 +347,7 @@ fn finish_reply(out: &mut [u8], types: &[u8; write::COLUMNS], step: Outcome) -> 
 // The second of two steps, or the first where that was refused.
 fn after(first: Outcome, second: Outcome) -> Outcome {
     let answer = first.answer;
-    if let Answer::No(_) = answer {
+    if let Err(_) = answer {
         return first;
     }
     second
@@ -397,12 +382,9 @@ fn begin_area(out: &mut [u8], body: &[u8]) -> outline::Outcome {
 }
 
 fn put_rings(out: &mut [u8], before: outline::Outcome, body: &[u8]) -> outline::Outcome {
-    let rings = ring_count(body);
     let mut step = before;
-    let mut ring = 0;
-    while ring < rings {
+    for ring in 0..ring_count(body) {
         step = put_ring(out, step, body, ring);
-        ring += 1;
     }
     step
 }
@@ -410,7 +392,7 @@ fn put_rings(out: &mut [u8], before: outline::Outcome, body: &[u8]) -> outline::
 // A ring that can't be read is left out.
 fn put_ring(out: &mut [u8], step: outline::Outcome, body: &[u8], ring: usize) -> outline::Outcome {
     let found = areas::ring(body, ring);
-    let RingAnswer::Is(layout) = found else {
+    let Ok(layout) = found else {
         return step;
     };
     let opened = then(step, outline::open_ring(out, step.state, layout.mark));
@@ -436,16 +418,18 @@ fn put_vertices(
     vertices: usize,
 ) -> outline::Outcome {
     let mut step = before;
-    let mut v = 0;
-    while v < vertices {
+    for v in 0..vertices {
         step = put_vertex(out, step, areas::vertex_bits(body, ring, v));
-        v += 1;
     }
     step
 }
 
-fn put_vertex(out: &mut [u8], step: outline::Outcome, bits: Bits) -> outline::Outcome {
-    let Bits::Are(x, y, z) = bits else {
+fn put_vertex(
+    out: &mut [u8],
+    step: outline::Outcome,
+    bits: Result<(u64, u64, u64), Refusal>,
+) -> outline::Outcome {
+    let Ok((x, y, z)) = bits else {
         return step;
     };
     then(step, outline::add_vertex(out, step.state, x, y, z))
@@ -454,7 +438,7 @@ fn put_vertex(out: &mut [u8], step: outline::Outcome, bits: Bits) -> outline::Ou
 // The second of two steps of an area, or the first where that was refused.
 fn then(first: outline::Outcome, second: outline::Outcome) -> outline::Outcome {
     let answer = first.answer;
-    if let Answer::No(_) = answer {
+    if let Err(_) = answer {
         return first;
     }
     second
@@ -478,25 +462,11 @@ fn area_block(kept: &[u8]) -> [u8; format::AREA_KEPT] {
 // Says whether two bodies are the same.
 fn compare(rt: &impl Print, text: &str, a: &[u8], b: &[u8]) -> io::Result<()> {
     rt.print(text)?;
-    if same(a, b) {
+    if a == b {
         rt.println("the same bytes")
     } else {
         rt.println("other bytes")
     }
-}
-
-fn same(a: &[u8], b: &[u8]) -> bool {
-    if a.len() != b.len() {
-        return false;
-    }
-    let mut i = 0;
-    while i < a.len() {
-        if a[i] != b[i] {
-            return false;
-        }
-        i += 1;
-    }
-    true
 }
 
 fn refuse(rt: &impl Print, refusal: Refusal) -> io::Result<()> {

@@ -2,15 +2,14 @@
 use Prim.Native.Nat.{ℕ, ◌+◌, ◌-◌, ◌≤◌}
 use native.Mathlib.Omega.{arith}
 use mathlib.Core.Path.{◌≡◌, refl, sym, ap, ap₂, ◌∙◌}
-use mathlib.Core.Bool.{Bool, true, false}
+use mathlib.Core.Bool.{false}
 use mathlib.Core.List.{List, [], ◌∷◌, ◌++◌, map, flat_map}
 use mathlib.Core.Option.{Option, some, none}
 use lib.ListN.{length, take, drop, replicate, length-append, length-drop, length-map}
 use lib.Dec.{leb}
 use lib.Seq.{length-take-le}
-use borrow.Author.Tests.{le-leb, leb-true}
+use borrow.Author.Tests.{le-leb}
 use Rattle.format.specs.declared.Fault.TheVariants.{Limit}
-use Rattle.format.specs.Result.{pick}
 use Rattle.format.specs.Number.{num_bytes}
 use Rattle.format.specs.Format.{Verdict, fine, number, room, ruled, into, both, counted, each, nothing}
 use Rattle.format.specs.Value.{string, ascii, most_bytes}
@@ -20,8 +19,9 @@ use Rattle.put.specs.Put.{sized}
 use Rattle.put.proofs.Laws.{sized_some}
 use Rattle.steps.specs.Plans.{also, test, placed}
 use Rattle.steps.specs.Arguments.{name_fault, name_faults, types_of, metadata_of}
-use Rattle.steps.proofs.Back.{also_fine, test_fine}
+use Rattle.steps.proofs.Back.{also_fine}
 use Rattle.columns.specs.declared.Column.{Column as Entry}
+use Rattle.columns.specs.Short.{name_fine}
 use Rattle.columns.specs.Entries.{name_of, columns_of, types_in, type_bytes, name_bytes, names_size}
 
 -- columns are as many as their entries, and have their types
@@ -31,21 +31,6 @@ columns_length es names = length-map es _
 pub types_same : (es : List Entry) (names : List ℕ) → types_of (columns_of es names) ≡ types_in es
 types_same [] names = refl
 types_same (e ∷ es) names = ap (λ (ts : List ℕ). e.wire_type ∷ ts) (types_same es names)
-
--- a name that has no fault stands in its buffer and is short
-pub name_fine : (p : ℕ) (names : List ℕ) (e : Entry) → name_fault p (name_of names e) ≡ fine → (e.start + e.size ≤ length names) × (e.size ≤ most_bytes)
-unfolding name_of
-name_fine p names e = go (leb (e.start + e.size) (length names)) refl
-  where
-    go : (t : Bool) → leb (e.start + e.size) (length names) ≡ t → name_fault p (pick t (some (take e.size (drop e.start names))) none) ≡ fine → (e.start + e.size ≤ length names) × (e.size ≤ most_bytes)
-    go true i f =
-        let inside = leb-true (e.start + e.size) (length names) i in
-        let d = length-drop e.start names in
-        let l : length (take e.size (drop e.start names)) ≡ e.size = length-take-le e.size (drop e.start names) (omega arith) in
-        let bs = take e.size (drop e.start names) in
-        let short = leb-true (length bs) most_bytes (test_fine (leb (length bs) most_bytes) Limit p (also_fine (test (leb (length bs) most_bytes) Limit p) (placed p (ascii bs)) f).0) in
-        (inside, omega arith)
-    go false i f = absurd (let z : ◌≡◌ {A = ℕ} 0 1 = cc in omega arith)
 
 -- names that stand in their buffer
 unfoldable pub Standing : List ℕ → List Entry → Type 0

@@ -30,7 +30,7 @@ use Rattle.steps.proofs.Accepted.{step_ok}
 use Rattle.steps.proofs.Back.{also_fine, test_fine}
 use Rattle.write.proofs.Taken.{step_refused, step_taken}
 use Rattle.columns.specs.declared.Column.{Column as Entry}
-use Rattle.columns.specs.declared.Survey.{Survey}
+use Rattle.columns.specs.declared.survey.Survey.{Survey}
 use Rattle.columns.specs.declared.Head.{Head}
 use Rattle.columns.specs.Entries.{columns_of, types_in, type_bytes, name_bytes, names_size, columns_fault}
 use Rattle.columns.specs.Walks.{none_at, add_all, head_answer, head_bytes, opened_at, head_of, head_out, Page, put_all, FitsAll}

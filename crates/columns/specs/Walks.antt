@@ -1,5 +1,9 @@
 -- The two walks over the columns of a table: they are looked at one by one, and written one by one. What comes of each column, and of a list of them.
-use Rattle.std.specs.Prelude.{ℕ, ◌+◌, ◌-◌, ◌*◌, ◌<◌, ◌≤◌, true, ◌&&◌, List, [], ◌∷◌, ◌++◌, length, set, leb, eqb}
+use native.Mathlib.Omega.{arith}
+use mathlib.Core.Path.{refl}
+use borrow.Author.Tests.{leb-true, leb-false}
+use Rattle.std.specs.Prelude.{◌≡◌, Bool, false, ℕ, ◌+◌, ◌-◌, ◌*◌, ◌<◌, ◌≤◌, true, ◌&&◌, List, [], ◌∷◌, ◌++◌, length, set, leb, eqb, Result, Ok, Err}
+use Rattle.format.specs.declared.Refusal.{Refusal}
 use Rattle.format.specs.declared.Fault.TheVariants.{Limit, WireType}
 use Rattle.format.specs.Result.{Res, ok, no, pick}
 use Rattle.format.specs.Number.{num_bytes}
@@ -7,9 +11,6 @@ use Rattle.format.specs.Format.{Verdict, fine, bad}
 use Rattle.format.specs.Value.{is_column, most_bytes}
 use Rattle.format.specs.Message.{most_columns, most_items}
 use Rattle.put.specs.Put.{put}
-use Rattle.format.specs.declared.Answer.TheVariants.{Is, No}
-use Rattle.write.specs.declared.Check.{Check}
-use Rattle.write.specs.declared.Check.TheVariants.{Fine, Bad}
 use Rattle.steps.specs.declared.Stage.TheVariants.{Reply, Table}
 use Rattle.write.specs.declared.State.{State as Code}
 use Rattle.steps.specs.State.{at_stage}
@@ -19,45 +20,64 @@ use Rattle.steps.specs.Steps.{answer_at}
 use Rattle.write.specs.Shown.{seen}
 use Rattle.write.specs.Shared.{verdict_of}
 use Rattle.columns.specs.declared.Column.{Column as Entry}
-use Rattle.columns.specs.declared.Survey.{Survey}
+use Rattle.columns.specs.declared.survey.Survey.{Survey}
 use Rattle.columns.specs.declared.Walk.{Walk}
 use Rattle.columns.specs.declared.Head.{Head}
+use Rattle.columns.specs.Short.{name_fine}
 use Rattle.columns.specs.Entries.{name_of, type_bytes, name_bytes}
 
 -- ---- looking at them
 
 abbrev pub none_at : ℕ → Survey
-none_at at = record { at = at; n = 0; kinds = true; fault = Fine; size = 0 }
+none_at at = record { at = at; n = 0; kinds = true; fault = Ok tt; size = 0; few = omega arith; short = omega arith }
 
-abbrev pub check_of : Verdict → Check
-check_of fine = Fine
-check_of (bad f p) = Bad (record { fault = f; place = p })
+abbrev pub check_of : Verdict → Result Unit Refusal
+check_of fine = Ok tt
+check_of (bad f p) = Err (record { fault = f; place = p })
 
 -- the first fault stays
-abbrev pub next_fault : ℕ → List ℕ → Check → Entry → Check
-next_fault at names Fine e = check_of (name_fault at (name_of names e))
-next_fault at names (Bad r) e = Bad r
+abbrev pub next_fault : ℕ → List ℕ → Result Unit Refusal → Entry → Result Unit Refusal
+next_fault at names (Ok u) e = check_of (name_fault at (name_of names e))
+next_fault at names (Err r) e = Err r
 
 -- a name is counted while there is no fault
-abbrev pub next_size : Check → ℕ → ℕ → ℕ
-next_size Fine size more = size + more
-next_size (Bad r) size more = size
+abbrev pub next_size : Result Unit Refusal → ℕ → ℕ → ℕ
+next_size (Ok u) size more = size + more
+next_size (Err r) size more = size
 
--- one column more; of one that is too many only that is kept
-abbrev pub added : List ℕ → Survey → Entry → Survey
-added names s e =
+-- a name that is counted is short, so the size stays bounded
+pub next_short : (at : ℕ) (names : List ℕ) (x : Result Unit Refusal) (e : Entry) (size n : ℕ) → size ≤ n * (4 + most_bytes) → next_size (next_fault at names x e) size (4 + e.size) ≤ (n + 1) * (4 + most_bytes)
+next_short at names (Ok u) e size n h = go (name_fault at (name_of names e)) refl
+  where
+    go : (v : Verdict) → name_fault at (name_of names e) ≡ v → next_size (check_of v) size (4 + e.size) ≤ (n + 1) * (4 + most_bytes)
+    go fine f = let short = (name_fine at names e f).1 in omega arith
+    go (bad g p) f = omega arith
+next_short at names (Err r) e size n h = omega arith
+
+-- one column more, by whether there were as many as a table may have; of one that is too many only that is kept
+abbrev pub added_where : List ℕ → (s : Survey) → Entry → (full : Bool) → leb most_columns s.n ≡ full → Survey
+added_where names s e true h =
+    let most = leb-true most_columns s.n h in
+    record { at = s.at; n = most_columns + 1; kinds = s.kinds; fault = s.fault; size = s.size; few = omega arith; short = omega (arith, s.few, s.short, most) }
+added_where names s e false h =
     let f = next_fault s.at names s.fault e in
-    pick (leb most_columns s.n)
-    (record { at = s.at; n = most_columns + 1; kinds = s.kinds; fault = s.fault; size = s.size })
-    (record { at = s.at; n = s.n + 1; kinds = is_column e.wire_type && s.kinds; fault = f; size = next_size f s.size (4 + e.size) })
+    let more = leb-false most_columns s.n h in
+    record {
+      at = s.at;
+      n = s.n + 1;
+      kinds = is_column e.wire_type && s.kinds;
+      fault = f;
+      size = next_size f s.size (4 + e.size);
+      few = omega (arith, more);
+      short = next_short s.at names s.fault e s.size s.n s.short;
+    }
+
+abbrev pub added : List ℕ → Survey → Entry → Survey
+added names s e = added_where names s e (leb most_columns s.n) refl
 
 unfoldable pub add_all : List ℕ → Survey → List Entry → Survey
 add_all names s [] = s
 add_all names s (e ∷ es) = add_all names (added names s e) es
-
--- each name that was counted is short
-abbrev pub Bounded : Survey → Type 0
-Bounded s = (s.n ≤ most_columns + 1) × (s.size ≤ s.n * (4 + most_bytes))
 
 -- ---- what is written around them
 
@@ -89,11 +109,11 @@ opened_at st position n = record {
 -- types stand side by side, and the names behind them
 abbrev pub head_of : Code → Survey → Res ℕ → Head
 head_of st s (ok n) = record {
-  step = record { answer = Is n; state = opened_at st n s.n };
+  step = record { answer = Ok n; state = opened_at st n s.n };
   walk = record { left = s.n; i = 0; kind_at = st.position + 11; name_at = st.position + 11 + s.n };
 }
 head_of st s (no f p) = record {
-  step = record { answer = No (record { fault = f; place = p }); state = st };
+  step = record { answer = Err (record { fault = f; place = p }); state = st };
   walk = record { left = 0; i = 0; kind_at = 0; name_at = 0 };
 }
 

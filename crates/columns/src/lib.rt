@@ -2,7 +2,7 @@
 // then what stands around them is written, and then they are, one by one again: so a table costs what its columns cost, wherever they are lent.
 #![tactic(auto)]
 
-ghost use Rattle.std.specs.Prelude.{◌≡◌, ◌+◌, ◌*◌, ◌<◌, ◌≤◌, length, leb};
+ghost use Rattle.std.specs.Prelude.{◌≡◌, ◌+◌, ◌<◌, ◌≤◌, length, leb};
 ghost use Rattle.format.specs.Value.{ascii};
 ghost use Rattle.format.specs.Message.{most_columns, most_items};
 ghost use Rattle.put.specs.Put.{put};
@@ -11,29 +11,20 @@ ghost use Rattle.steps.specs.Arguments.{name_fault};
 ghost use Rattle.write.specs.Shown.{shown_answer};
 ghost use Rattle.write.specs.Shared.{verdict_of};
 ghost use Rattle.columns.specs.Entries.{name_of, name_bytes};
-ghost use Rattle.columns.specs.Walks.{none_at, next_fault, added, Bounded, survey_fault, head_answer, head_bytes, opened_at, head_of, head_out, Fits, moved, column_out, column_types};
+ghost use Rattle.columns.specs.Walks.{none_at, next_fault, added, survey_fault, head_answer, head_bytes, opened_at, head_of, head_out, Fits, moved, column_out, column_types};
 
-use format::{Answer, Fault, Refusal};
+mod survey;
+
+use format::{Fault, Refusal};
 use steps::Stage;
-use text::Found;
-use write::{COLUMNS, Check, Outcome, State};
+pub use survey::Survey;
+use write::{COLUMNS, Outcome, State};
 
 // A column: its type, and where its name stands in a name buffer.
 #[derive(Clone, Copy)]
 pub struct Column {
     pub wire_type: u8,
     pub start: usize,
-    pub size: usize,
-}
-
-// What was found of columns, one after the other: how many they are, whether their types are columns', the first fault of their names, and how
-// many bytes their names have, with their lengths. Of more than a table may have only that counts. `at` is the writer's position, where faults stand.
-#[derive(Clone, Copy)]
-pub struct Survey {
-    pub at: usize,
-    pub n: usize,
-    pub kinds: bool,
-    pub fault: Check,
     pub size: usize,
 }
 
@@ -62,14 +53,13 @@ pub fn no_columns(st: State) -> Survey
         at: st.position,
         n: 0,
         kinds: true,
-        fault: Check::Fine,
+        fault: Ok(()),
         size: 0,
     }
 }
 
 // One column more. Behind the first fault of a name none is looked for.
 pub fn surveyed(s: Survey, c: Column, names: &[u8]) -> Survey
-    requires { Bounded s }
     ensures { result ≡ added names.now s c }
 {
     let before = s.fault;
@@ -84,7 +74,7 @@ pub fn surveyed(s: Survey, c: Column, names: &[u8]) -> Survey
     }
     let kinds = write::both(scan::is_column(c.wire_type), s.kinds);
     let fault = next_fault(s.at, before, c, names);
-    let Check::Fine = fault else {
+    let Ok(()) = fault else {
         return Survey {
             at: s.at,
             n: s.n + 1,
@@ -103,23 +93,25 @@ pub fn surveyed(s: Survey, c: Column, names: &[u8]) -> Survey
 }
 
 // The first fault of the names so far, and of one more.
-fn next_fault(at: usize, before: Check, c: Column, names: &[u8]) -> Check
+fn next_fault(
+    at: usize,
+    before: Result<(), Refusal>,
+    c: Column,
+    names: &[u8],
+) -> Result<(), Refusal>
     ensures { result ≡ next_fault at names.now before c }
 {
-    let Check::Fine = before else {
-        return before;
-    };
+    before?;
     name_fault(at, c, names)
 }
 
 // Opens a table with the columns that were looked at: writes what stands around them, where the step is taken. Its length and its row count
 // hold zeros until it is closed.
 pub fn open_head(out: &mut [u8], st: State, status: u8, s: Survey) -> Head
-    requires { Bounded s }
     ensures { (result ≡ head_of st s (head_answer st s (length out.old))) × (out.new ≡ head_out st status s (head_answer st s (length out.old)) out.old) }
 {
     let a = ask_open_table(st, s, out.len());
-    let Answer::Is(n) = a else {
+    let Ok(n) = a else {
         let step = Outcome {
             answer: a,
             state: st,
@@ -187,8 +179,7 @@ pub fn walk_in(h: Head) -> Walk
 }
 
 // What the step is answered, in a buffer of so many bytes.
-fn ask_open_table(st: State, s: Survey, size: usize) -> Answer
-    requires { Bounded s }
+fn ask_open_table(st: State, s: Survey, size: usize) -> Result<usize, Refusal>
     ensures { result ≡ shown_answer (head_answer st s size) }
 {
     let permitted = write::at_reply(st, size);
@@ -206,7 +197,7 @@ fn ask_open_table(st: State, s: Survey, size: usize) -> Answer
 }
 
 // What is wrong with the columns: their number, their types, their names.
-fn survey_fault(s: Survey) -> Check
+fn survey_fault(s: Survey) -> Result<(), Refusal>
     ensures { verdict_of result ≡ survey_fault s }
 {
     let few = write::test(s.n <= COLUMNS, Fault::Limit, s.at);
@@ -216,13 +207,13 @@ fn survey_fault(s: Survey) -> Check
 }
 
 // What is wrong with a name: that it ends past its buffer, its length, a byte above 127.
-fn name_fault(at: usize, c: Column, names: &[u8]) -> Check
+fn name_fault(at: usize, c: Column, names: &[u8]) -> Result<(), Refusal>
     ensures { verdict_of result ≡ name_fault at (name_of names.now c) }
 {
     let start = c.start;
     let size = c.size;
     if !stands(start, size, names.len()) {
-        return Check::Bad(Refusal {
+        return Err(Refusal {
             fault: Fault::PastEnd,
             place: 0,
         });
@@ -242,22 +233,16 @@ fn stands(start: usize, size: usize, length: usize) -> bool
 }
 
 // A byte above 127 is none of a name.
-fn ascii_fault(at: usize, name: &[u8]) -> Check
+fn ascii_fault(at: usize, name: &[u8]) -> Result<(), Refusal>
     ensures { verdict_of result ≡ placed at (ascii name.now) }
 {
-    let Found::Nothing = text::high_byte(name) else {
-        return Check::Bad(Refusal {
-            fault: Fault::Name,
-            place: at,
-        });
-    };
-    Check::Fine
+    write::test(text::high_byte(name).is_none(), Fault::Name, at)
 }
 
 // Writes what stands before the columns' types at a place: the table's length, which holds zeros, the metadata's, the status and how many
 // columns there are. It says where these end.
 fn head_at(out: &mut [u8], at: usize, status: u8, s: Survey) -> usize
-    requires { Bounded s × (s.n ≤ most_columns) × (at + 11 ≤ length out.old) }
+    requires { (s.n ≤ most_columns) × (at + 11 ≤ length out.old) }
     ensures { (result ≡ at + 11) × (out.new ≡ put out.old at (head_bytes status s)) }
 {
     let second = put::number_at(out, at, 0, 4);
@@ -273,7 +258,7 @@ fn name_at(out: &mut [u8], at: usize, c: Column, names: &[u8]) -> usize
 {
     let start = c.start;
     let end = start + c.size;
-    put::text_at(out, at, false, &names[start..end])
+    put::text_at(out, at, Some(&names[start..end]))
 }
 
 // The state after a table with so many columns was opened.

@@ -9,9 +9,8 @@ ghost use Rattle.steps.specs.Steps.{open_table};
 ghost use Rattle.write.specs.Shown.{Opened};
 
 use columns::Column;
-use format::Answer;
-use message::Verdict;
-use query::{Argued, CellAnswer, Part};
+use format::Refusal;
+use query::Argument;
 use reply::Head;
 use show::{Cell, Raw};
 use std::io;
@@ -215,16 +214,20 @@ fn response_from(rt: &impl Print, draft: &[u8]) -> io::Result<bool> {
 // ---- What is printed.
 
 // The byte of kind and the message behind it, by the answer of its last step. After a refusal that is printed, and this is empty.
-fn frame_in<'a>(rt: &impl Print, buffer: &'a [u8; ROOM], answer: Answer) -> io::Result<&'a [u8]> {
+fn frame_in<'a>(
+    rt: &impl Print,
+    buffer: &'a [u8; ROOM],
+    answer: Result<usize, Refusal>,
+) -> io::Result<&'a [u8]> {
     let whole: &[u8] = buffer;
     match answer {
-        Answer::Is(n) => {
+        Ok(n) => {
             if whole.len() <= n {
                 return Ok(&whole[0..0]);
             }
             Ok(&whole[0..n + 1])
         }
-        Answer::No(refusal) => {
+        Err(refusal) => {
             listing::print_refusal(rt, refusal)?;
             Ok(&whole[0..0])
         }
@@ -246,7 +249,7 @@ fn report(rt: &impl Print, fine: &str, frame: &[u8], equal: bool) -> io::Result<
         return Ok(false);
     }
     let verdict = message::accept(frame[0], &frame[1..]);
-    if let Verdict::No(refusal) = verdict {
+    if let Err(refusal) = verdict {
         listing::print_refusal(rt, refusal)?;
         return Ok(false);
     }
@@ -256,17 +259,14 @@ fn report(rt: &impl Print, fine: &str, frame: &[u8], equal: bool) -> io::Result<
     }
     rt.println(fine)?;
     print_bytes(rt, &frame[1..])?;
-    listing::print(rt, frame)?;
+    let _ = listing::print(rt, frame)?;
     Ok(true)
 }
 
 // Prints bytes as a line of hexadecimal digits.
 fn print_bytes(rt: &impl Print, bytes: &[u8]) -> io::Result<()> {
-    let mut i = 0;
-    while i < bytes.len() {
-        let x = bytes[i];
+    for x in bytes {
         print!(rt; "{x:02x}")?;
-        i += 1;
     }
     rt.println("")
 }
@@ -276,7 +276,7 @@ fn print_bytes(rt: &impl Print, bytes: &[u8]) -> io::Result<()> {
 // The second of two steps, or the first where that was refused.
 fn after(first: Outcome, second: Outcome) -> Outcome {
     let answer = first.answer;
-    if let Answer::No(_) = answer {
+    if let Err(_) = answer {
         return first;
     }
     second
@@ -297,14 +297,12 @@ fn put_parameters(out: &mut [u8], step: Outcome) -> Outcome {
 // A null, a parameter of each type, and a null string.
 fn put_each(out: &mut [u8], before: Outcome) -> Outcome {
     let mut step = after(before, call::null_param(out, before.state));
-    let mut c = 0;
-    while c < COLUMNS {
+    for c in 0..COLUMNS {
         step = put_param(out, step, c);
-        c += 1;
     }
     after(
         step,
-        call::body_param(out, step.state, format::STRING, true, b""),
+        call::body_param(out, step.state, format::STRING, None),
     )
 }
 
@@ -312,17 +310,14 @@ fn put_each(out: &mut [u8], before: Outcome) -> Outcome {
 fn put_param(out: &mut [u8], step: Outcome, c: usize) -> Outcome {
     let st = step.state;
     match c {
-        STRING_COLUMN => after(
-            step,
-            call::body_param(out, st, format::STRING, false, &TEXT),
-        ),
+        STRING_COLUMN => after(step, call::body_param(out, st, format::STRING, Some(&TEXT))),
         VARBINARY_COLUMN => after(
             step,
-            call::body_param(out, st, format::VARBINARY, false, &BYTES),
+            call::body_param(out, st, format::VARBINARY, Some(&BYTES)),
         ),
         GEOGRAPHY_COLUMN => after(
             step,
-            call::body_param(out, st, format::GEOGRAPHY, false, &SHAPE),
+            call::body_param(out, st, format::GEOGRAPHY, Some(&SHAPE)),
         ),
         _ => {
             let v = value(c);
@@ -349,15 +344,15 @@ fn put_strings(out: &mut [u8], step: Outcome) -> Outcome {
 
 // A string, a null one and an empty one.
 fn fill_strings(out: &mut [u8], step: Outcome) -> Outcome {
-    let first = put_string(out, step, false, &TEXT);
-    let second = put_string(out, first, true, b"");
-    put_string(out, second, false, b"")
+    let first = put_string(out, step, Some(&TEXT));
+    let second = put_string(out, first, None);
+    put_string(out, second, Some(b""))
 }
 
-fn put_string(out: &mut [u8], step: Outcome, null: bool, s: &[u8]) -> Outcome {
+fn put_string(out: &mut [u8], step: Outcome, text: Option<&[u8]>) -> Outcome {
     after(
         step,
-        call::body_element(out, step.state, format::STRING, null, s),
+        call::body_element(out, step.state, format::STRING, text),
     )
 }
 
@@ -426,12 +421,17 @@ fn open_table(out: &mut [u8], types: &mut [u8; write::COLUMNS]) -> Outcome {
         version: 1,
         flags: format::STATUS_STRING + format::EXCEPTION + format::APP_STRING,
         status: 253,
-        status_null: false,
         app_status: 128,
-        app_null: false,
         round_trip: 7,
     };
-    let begun = reply::begin_reply(out, head, b"client 4", b"sunk", b"mutiny", b"\xde\xad");
+    let begun = reply::begin_reply(
+        out,
+        head,
+        b"client 4",
+        Some(b"sunk"),
+        Some(b"mutiny"),
+        b"\xde\xad",
+    );
     after(
         begun,
         open_lent(out, begun.state, types, 255, ENTRIES, &NAMES),
@@ -455,10 +455,8 @@ fn open_lent(
 // A row of the columns' values, or of nulls where there are any.
 fn put_row(out: &mut [u8], types: &[u8; write::COLUMNS], before: Outcome, null: bool) -> Outcome {
     let mut step = after(before, rows::open_row(out, before.state, types));
-    let mut c = 0;
-    while c < COLUMNS {
+    for c in 0..COLUMNS {
         step = put_cell(out, types, step, null, c);
-        c += 1;
     }
     after(step, rows::close_row(out, step.state, types))
 }
@@ -475,15 +473,27 @@ fn put_cell(
     match c {
         STRING_COLUMN => after(
             step,
-            rows::body_cell(out, st, types, format::STRING, null, &TEXT),
+            rows::body_cell(out, st, types, format::STRING, text_or_null(null, &TEXT)),
         ),
         VARBINARY_COLUMN => after(
             step,
-            rows::body_cell(out, st, types, format::VARBINARY, null, &BYTES),
+            rows::body_cell(
+                out,
+                st,
+                types,
+                format::VARBINARY,
+                text_or_null(null, &BYTES),
+            ),
         ),
         GEOGRAPHY_COLUMN => after(
             step,
-            rows::body_cell(out, st, types, format::GEOGRAPHY, null, &SHAPE),
+            rows::body_cell(
+                out,
+                st,
+                types,
+                format::GEOGRAPHY,
+                text_or_null(null, &SHAPE),
+            ),
         ),
         _ => {
             let v = value_or_null(null, c);
@@ -504,10 +514,8 @@ fn copy_row(
     row: usize,
 ) -> Outcome {
     let mut step = after(before, rows::open_row(out, before.state, types));
-    let mut c = 0;
-    while c < COLUMNS {
+    for c in 0..COLUMNS {
         step = copy_cell(out, types, step, draft, row, c);
-        c += 1;
     }
     after(step, rows::close_row(out, step.state, types))
 }
@@ -522,7 +530,7 @@ fn copy_cell(
     c: usize,
 ) -> Outcome {
     let answer = query::cell(draft, 0, row, c);
-    let CellAnswer::Is(cell) = answer else {
+    let Ok(cell) = answer else {
         return step;
     };
     after(
@@ -581,6 +589,14 @@ fn value_or_null(null: bool, c: usize) -> Bits {
     }
 }
 
+// The same of a text or binary value.
+fn text_or_null(null: bool, s: &[u8]) -> Option<&[u8]> {
+    if null {
+        return None;
+    }
+    Some(s)
+}
+
 fn fixed(wire_type: u8, upper: u64, lower: u64) -> Bits {
     Bits {
         wire_type,
@@ -595,20 +611,13 @@ fn fixed(wire_type: u8, upper: u64, lower: u64) -> Bits {
 fn parameters_are(m: &[u8]) -> bool {
     is_null(query::parameter(m, 0))
         && each_is(m)
-        && parameter_text(m, NULL_STRING, true, b"")
+        && parameter_text(m, NULL_STRING, None)
         && arrays_are(m)
 }
 
 // Whether the parameters of each type are.
 fn each_is(m: &[u8]) -> bool {
-    let mut c = 0;
-    while c < COLUMNS {
-        if !parameter_is(m, c) {
-            return false;
-        }
-        c += 1;
-    }
-    true
+    (0..COLUMNS).all(|c| parameter_is(m, c))
 }
 
 // Parameter 0 is null, so that of a column stands one behind.
@@ -616,23 +625,23 @@ fn parameter_is(m: &[u8], c: usize) -> bool
     requires { c < 11 }
 {
     match c {
-        STRING_COLUMN => parameter_text(m, c + 1, false, &TEXT),
-        VARBINARY_COLUMN => parameter_text(m, c + 1, false, &BYTES),
-        GEOGRAPHY_COLUMN => parameter_text(m, c + 1, false, &SHAPE),
+        STRING_COLUMN => parameter_text(m, c + 1, Some(&TEXT)),
+        VARBINARY_COLUMN => parameter_text(m, c + 1, Some(&BYTES)),
+        GEOGRAPHY_COLUMN => parameter_text(m, c + 1, Some(&SHAPE)),
         _ => argument_is(query::parameter(m, c + 1), value(c)),
     }
 }
 
-fn argument_is(answer: Argued, v: Bits) -> bool {
-    let Argued::One(cell) = answer else {
+fn argument_is(answer: Result<Argument, Refusal>, v: Bits) -> bool {
+    let Ok(Argument::One(cell)) = answer else {
         return false;
     };
     cell_is(cell, v)
 }
 
-fn is_null(answer: Argued) -> bool {
+fn is_null(answer: Result<Argument, Refusal>) -> bool {
     match answer {
-        Argued::Null => true,
+        Ok(Argument::Null) => true,
         _ => false,
     }
 }
@@ -645,9 +654,9 @@ fn arrays_are(m: &[u8]) -> bool {
             fixed(format::TINYINT, 0, 255),
         )
         && is_array(query::parameter(m, STRINGS), format::STRING, 3)
-        && element_text(m, 0, false, &TEXT)
-        && element_text(m, 1, true, b"")
-        && element_text(m, 2, false, b"")
+        && element_text(m, 0, Some(&TEXT))
+        && element_text(m, 1, None)
+        && element_text(m, 2, Some(b""))
         && is_array(query::parameter(m, DECIMALS), format::DECIMAL, 2)
         && shows(query::element(m, DECIMALS, 0), value(DECIMAL_COLUMN))
         && shows(
@@ -656,8 +665,8 @@ fn arrays_are(m: &[u8]) -> bool {
         )
 }
 
-fn is_array(answer: Argued, wire_type: u8, size: usize) -> bool {
-    let Argued::Array(t, n) = answer else {
+fn is_array(answer: Result<Argument, Refusal>, wire_type: u8, size: usize) -> bool {
+    let Ok(Argument::Array(t, n)) = answer else {
         return false;
     };
     t == wire_type && n == size
@@ -672,8 +681,8 @@ fn cells_are(m: &[u8]) -> bool {
         && shows_null_point(query::cell(m, 0, 2, POINT_COLUMN))
 }
 
-fn shows_null_point(answer: CellAnswer) -> bool {
-    let CellAnswer::Is(cell) = answer else {
+fn shows_null_point(answer: Result<show::Cell, Refusal>) -> bool {
+    let Ok(cell) = answer else {
         return false;
     };
     match cell {
@@ -684,28 +693,21 @@ fn shows_null_point(answer: CellAnswer) -> bool {
 
 // Whether a row's cells are the columns' values, or nulls.
 fn row_is(m: &[u8], row: usize, null: bool) -> bool {
-    let mut c = 0;
-    while c < COLUMNS {
-        if !is_at(m, row, null, c) {
-            return false;
-        }
-        c += 1;
-    }
-    true
+    (0..COLUMNS).all(|c| is_at(m, row, null, c))
 }
 
 fn is_at(m: &[u8], row: usize, null: bool, c: usize) -> bool {
     match c {
-        STRING_COLUMN => cell_text(m, row, c, null, &TEXT),
-        VARBINARY_COLUMN => cell_text(m, row, c, null, &BYTES),
-        GEOGRAPHY_COLUMN => cell_text(m, row, c, null, &SHAPE),
+        STRING_COLUMN => cell_text(m, row, c, text_or_null(null, &TEXT)),
+        VARBINARY_COLUMN => cell_text(m, row, c, text_or_null(null, &BYTES)),
+        GEOGRAPHY_COLUMN => cell_text(m, row, c, text_or_null(null, &SHAPE)),
         _ => shows(query::cell(m, 0, row, c), value_or_null(null, c)),
     }
 }
 
 // Whether a fixed value is shown, in a cell or an element.
-fn shows(answer: CellAnswer, v: Bits) -> bool {
-    let CellAnswer::Is(cell) = answer else {
+fn shows(answer: Result<show::Cell, Refusal>, v: Bits) -> bool {
+    let Ok(cell) = answer else {
         return false;
     };
     cell_is(cell, v)
@@ -720,37 +722,25 @@ fn cell_is(cell: Cell, v: Bits) -> bool {
 }
 
 // Whether the bytes of a text or binary value are handed back, or that it is null: of a cell, a parameter, and an element of the strings.
-fn cell_text(m: &[u8], row: usize, c: usize, null: bool, s: &[u8]) -> bool {
-    part_is(m, query::cell_span(m, 0, row, c), null, s)
+fn cell_text(m: &[u8], row: usize, c: usize, text: Option<&[u8]>) -> bool {
+    part_is(m, query::cell_span(m, 0, row, c), text)
 }
 
-fn parameter_text(m: &[u8], p: usize, null: bool, s: &[u8]) -> bool {
-    part_is(m, query::parameter_span(m, p), null, s)
+fn parameter_text(m: &[u8], p: usize, text: Option<&[u8]>) -> bool {
+    part_is(m, query::parameter_span(m, p), text)
 }
 
-fn element_text(m: &[u8], e: usize, null: bool, s: &[u8]) -> bool {
-    part_is(m, query::element_span(m, STRINGS, e), null, s)
+fn element_text(m: &[u8], e: usize, text: Option<&[u8]>) -> bool {
+    part_is(m, query::element_span(m, STRINGS, e), text)
 }
 
-fn part_is(m: &[u8], span: Part, null: bool, s: &[u8]) -> bool {
+fn part_is(m: &[u8], span: Result<Option<(usize, usize)>, Refusal>, text: Option<&[u8]>) -> bool {
     match span {
-        Part::Is(_, _) => !null && same(query::part_at(m, span), s),
-        Part::Null => null,
-        Part::No(_) => false,
+        Ok(Some((_, _))) => match text {
+            Some(s) => query::part_at(m, span) == s,
+            None => false,
+        },
+        Ok(None) => text.is_none(),
+        Err(_) => false,
     }
-}
-
-// Whether two parts have the same bytes.
-fn same(a: &[u8], b: &[u8]) -> bool {
-    if a.len() != b.len() {
-        return false;
-    }
-    let mut i = 0;
-    while i < a.len() {
-        if a[i] != b[i] {
-            return false;
-        }
-        i += 1;
-    }
-    true
 }

@@ -18,18 +18,15 @@ ghost use Rattle.numbers.specs.Records.{login_request_numbers, login_response_nu
 ghost use Rattle.record.specs.Records.{shown_login_request, shown_login_response, shown_invocation, shown_response};
 ghost use Rattle.numbers.specs.Packed.{packed, nothing, itself, number_in, rows_of, columns_of, type_of};
 
-use message::Verdict;
-
 // Whether a message of a kind is accepted.
 #[unsafe(no_mangle)]
 pub extern "C" fn chaloenpik_accept(kind: u8, m: &[u8]) -> u64
     ensures { result ≡ packed nothing (read_message (kind_layout kind) m.now) }
 {
-    let verdict = message::accept(kind, m);
-    let Verdict::No(refusal) = verdict else {
-        return 0;
-    };
-    numbers::refused(refusal)
+    match message::accept(kind, m) {
+        Ok(()) => 0,
+        Err(refusal) => numbers::refused(refusal),
+    }
 }
 
 // How many fields a message of a kind has.
@@ -175,7 +172,7 @@ pub extern "C" fn chaloenpik_element(m: &[u8], p: usize, e: usize, list: &mut [u
 // The record of a login request, as nine numbers (numbers/specs/Records.antt).
 #[unsafe(no_mangle)]
 pub extern "C" fn chaloenpik_login_request(m: &[u8], list: &mut [u64; 9]) -> u64
-    ensures { (result ≡ packed nothing (read_message 1 m.now)) × (list.new ≡ lent (λ p. login_request_numbers (shown_login_request (ok p))) (read_message 1 m.now) list.old) }
+    ensures { (result ≡ packed nothing (shown_login_request (read_message 1 m.now))) × (list.new ≡ lent login_request_numbers (shown_login_request (read_message 1 m.now)) list.old) }
 {
     numbers::lend_login_request(list, record::login_request(m))
 }
@@ -183,7 +180,7 @@ pub extern "C" fn chaloenpik_login_request(m: &[u8], list: &mut [u64; 9]) -> u64
 // The record of a login response, as nine numbers.
 #[unsafe(no_mangle)]
 pub extern "C" fn chaloenpik_login_response(m: &[u8], list: &mut [u64; 9]) -> u64
-    ensures { (result ≡ packed nothing (read_message 2 m.now)) × (list.new ≡ lent (λ p. login_response_numbers (shown_login_response (ok p))) (read_message 2 m.now) list.old) }
+    ensures { (result ≡ packed nothing (shown_login_response (read_message 2 m.now))) × (list.new ≡ lent login_response_numbers (shown_login_response (read_message 2 m.now)) list.old) }
 {
     numbers::lend_login_response(list, record::login_response(m))
 }
@@ -191,7 +188,7 @@ pub extern "C" fn chaloenpik_login_response(m: &[u8], list: &mut [u64; 9]) -> u6
 // The record of an invocation, as six numbers.
 #[unsafe(no_mangle)]
 pub extern "C" fn chaloenpik_invocation(m: &[u8], list: &mut [u64; 6]) -> u64
-    ensures { (result ≡ packed nothing (read_message 3 m.now)) × (list.new ≡ lent (λ p. invocation_numbers (shown_invocation (ok p))) (read_message 3 m.now) list.old) }
+    ensures { (result ≡ packed nothing (shown_invocation (read_message 3 m.now))) × (list.new ≡ lent invocation_numbers (shown_invocation (read_message 3 m.now)) list.old) }
 {
     numbers::lend_invocation(list, record::invocation(m))
 }
@@ -199,7 +196,7 @@ pub extern "C" fn chaloenpik_invocation(m: &[u8], list: &mut [u64; 6]) -> u64
 // The record of a response, as seventeen numbers.
 #[unsafe(no_mangle)]
 pub extern "C" fn chaloenpik_response(m: &[u8], list: &mut [u64; 17]) -> u64
-    ensures { (result ≡ packed nothing (read_message 4 m.now)) × (list.new ≡ lent (λ p. response_numbers (shown_response (ok p))) (read_message 4 m.now) list.old) }
+    ensures { (result ≡ packed nothing (shown_response (read_message 4 m.now))) × (list.new ≡ lent response_numbers (shown_response (read_message 4 m.now)) list.old) }
 {
     numbers::lend_response(list, record::response(m))
 }

@@ -1,15 +1,13 @@
 -- What each question is answered after a tour, over any list of fields that tiles a room: the task has seen them all, and listed those that were asked for.
 use Prim.Native.Nat.{ℕ, zero, suc, ◌+◌, ◌^◌, ◌≤◌, ◌<◌}
-use mathlib.Core.Path.{◌≡◌, refl, sym, ◌∙◌, ap, ap₂}
+use mathlib.Core.Path.{◌≡◌, refl, sym, ◌∙◌, ap}
 use mathlib.Core.List.{List, [], ◌∷◌, ◌++◌}
 use lib.ListN.{length, take, drop}
 use lib.Seq.{sets, sets-eq}
 use native.Mathlib.Omega.{arith}
 use native.Mathlib.Decide.{dec_lt}
 use borrow.Author.Tests.{le-leb, lt-leb, lt-ltb, le-ltb}
-use Rattle.format.specs.declared.Fault.{Fault}
 use Rattle.format.specs.declared.Fault.TheVariants.{PastEnd}
-use Rattle.format.specs.declared.Refusal.{Refusal}
 use Rattle.format.specs.Result.{Res, ok, no as refused, bind}
 use Rattle.format.specs.Number.{Bytes}
 use Rattle.format.specs.Format.{Entry}
@@ -17,22 +15,12 @@ use Rattle.format.specs.Message.{read_message}
 use Rattle.format.proofs.Results.{ok_same, bound}
 use Rattle.format.proofs.Took.{Tiles}
 use Rattle.tally.specs.declared.Task.{Task}
-use Rattle.tour.specs.declared.Toured.{Toured}
 use Rattle.tally.specs.Task.{State, doing, list_task, six, visited}
 use Rattle.tour.specs.Tour.{fields_of, task_after, out_after}
-use Rattle.tour.specs.Told.{told_toured, toured_no}
 use Rattle.fields.specs.Questions.{nth, owner_of, window_of, window_count, window_out, sixes, over, entry_at}
 use Rattle.fields.specs.Met.{count_met, field_met, owner_met, window_met}
 use Rattle.fields.proofs.Seen.{listing, Windowed, windowed, tiles_asked, tiles_few, owned, owns, owner_past}
 use Rattle.fields.proofs.Together.{tiled}
-
--- a tour that is refused
-pub refuses : {a : Toured} {given r : Refusal} → a ≡ Toured.No given → r ≡ toured_no a → told_toured a ≡ refused r.fault r.place
-refuses told out = rw (out, told)
-
--- the refusal past the end
-pub past_told : {A : Type 0} {r : Refusal} → (r.fault ≡ PastEnd) × (r.place ≡ 0) → ◌≡◌ {A = Res A} (refused r.fault r.place) (refused PastEnd 0)
-past_told e = ap₂ (λ (f : Fault) (p : ℕ). refused f p) e.0 e.1
 
 -- the fields that there are stand side by side, from a room's first byte to its last
 pub record Tiled (x : Res (List Entry)) (size : ℕ) : Type 0 where

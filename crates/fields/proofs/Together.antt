@@ -1,4 +1,6 @@
 -- What the answers say together: windows add up to the list, each byte has one owner, the owner is the field of its number, and no two answers tell the same.
+use Rattle.format.specs.declared.Refusal.{Refusal}
+use Rattle.std.specs.Prelude.{Result, Ok, Err}
 use Prim.Native.Nat.{ℕ, zero, suc, ◌+◌, ◌-◌, ◌/◌, ◌≤◌, ◌<◌, ◌*◌}
 use mathlib.Core.Path.{◌≡◌, refl, sym, ◌∙◌, ap}
 use mathlib.Core.Bool.{Bool, true, false, ◌&&◌, and-false}
@@ -23,8 +25,6 @@ use Rattle.format.proofs.Owner.{Owns, Owner, owner}
 use Rattle.format.proofs.Demands.{accepted→encodes, fields_tile}
 use Rattle.tally.specs.Task.{six}
 use Rattle.fields.specs.declared.Entry as fields
-use Rattle.fields.specs.declared.Listed.{Listed}
-use Rattle.fields.specs.declared.Owned.{Owned}
 use Rattle.fields.specs.Questions.{nth, owner_from, owner_of, window_of, window_out, sixes, over, entry_at}
 use Rattle.fields.proofs.Listing.{length-sixes}
 use Rattle.fields.specs.Told.{told_listed, told_owned}
@@ -170,8 +170,8 @@ module _ (kind : ℕ) (m : List ℕ) (by : Bytes m) (r : Message) (accepted : re
 abbrev entry : format.Entry → fields.Entry
 entry e = record { offset = e.at; size = e.size; field = e.field; i = e.index.i; j = e.index.j; k = e.index.k }
 
-pub listed_once : (a b : Listed) → told_listed a ≡ told_listed b → a ≡ b
-listed_once = once told_listed (answer (λ x. Listed.Is (entry x)) Listed.No) (elim [ Listed.Is x ↦ refl | Listed.No r ↦ refl ])
+pub listed_once : (a b : Result fields.Entry Refusal) → told_listed a ≡ told_listed b → a ≡ b
+listed_once = once told_listed (answer (λ x. Ok (entry x)) Err) (elim [ Ok x ↦ refl | Err r ↦ refl ])
 
-pub owned_once : (a b : Owned) → told_owned a ≡ told_owned b → a ≡ b
-owned_once = once told_owned (answer (λ w. Owned.By (entry w.0) w.1) Owned.No) (elim [ Owned.By x n ↦ refl | Owned.No r ↦ refl ])
+pub owned_once : (a b : Result (fields.Entry × ℕ) Refusal) → told_owned a ≡ told_owned b → a ≡ b
+owned_once = once told_owned (answer (λ w. Ok (entry w.0, w.1)) Err) (elim [ Ok (x, n) ↦ refl | Err r ↦ refl ])

@@ -3,16 +3,15 @@
 
 ghost use Rattle.std.specs.Prelude.{◌≡◌, length};
 ghost use Rattle.format.specs.declared.Fault.TheVariants.{PastEnd};
-ghost use Rattle.format.specs.Result.{ok, bind, told_answer};
+ghost use Rattle.format.specs.Result.{ok, bind, told};
 ghost use Rattle.format.specs.Message.{kind_layout};
 ghost use Rattle.tour.specs.Tour.{fields_of};
-ghost use Rattle.tour.specs.Told.{told_toured};
 ghost use Rattle.fields.specs.Questions.{nth, owner_of, window_count, window_out, entry_at};
 ghost use Rattle.fields.specs.Met.{count_met, field_met, owner_met, window_met};
 ghost use Rattle.fields.specs.Told.{told_entry, told_listed, told_owned};
 
-use format::{Answer, Fault, Refusal};
-use tour::Toured;
+use format::{Fault, Refusal};
+use tally::Task;
 
 // A field: where it stands, how long it is, its number and its three indices.
 #[derive(Drop)]
@@ -25,23 +24,9 @@ pub struct Entry {
     pub k: usize,
 }
 
-// A field of the list.
-#[derive(Drop)]
-pub enum Listed {
-    Is(Entry),
-    No(Refusal),
-}
-
-// The field that owns a byte, and its number in the list.
-#[derive(Drop)]
-pub enum Owned {
-    By(Entry, usize),
-    No(Refusal),
-}
-
 // How many fields a message of a kind has.
-pub fn count(kind: u8, m: &[u8]) -> Answer
-    ensures { told_answer result ≡ bind (fields_of (kind_layout kind) m.now) (λ es. ok (length es)) }
+pub fn count(kind: u8, m: &[u8]) -> Result<usize, Refusal>
+    ensures { told result ≡ bind (fields_of (kind_layout kind) m.now) (λ es. ok (length es)) }
 {
     let layout = format::kind_layout(kind);
     let mut six: [u64; 6] = [0; 6];
@@ -51,7 +36,7 @@ pub fn count(kind: u8, m: &[u8]) -> Answer
 }
 
 // The entry of a number in the list, from 0 on.
-pub fn field(kind: u8, m: &[u8], n: usize) -> Listed
+pub fn field(kind: u8, m: &[u8], n: usize) -> Result<Entry, Refusal>
     ensures { told_listed result ≡ bind (fields_of (kind_layout kind) m.now) (λ es. nth es n) }
 {
     let layout = format::kind_layout(kind);
@@ -62,7 +47,7 @@ pub fn field(kind: u8, m: &[u8], n: usize) -> Listed
 }
 
 // The entry that owns a byte, and its number in the list.
-pub fn owner(kind: u8, m: &[u8], offset: usize) -> Owned
+pub fn owner(kind: u8, m: &[u8], offset: usize) -> Result<(Entry, usize), Refusal>
     ensures { told_owned result ≡ bind (fields_of (kind_layout kind) m.now) (λ es. owner_of es offset) }
 {
     let layout = format::kind_layout(kind);
@@ -73,8 +58,8 @@ pub fn owner(kind: u8, m: &[u8], offset: usize) -> Owned
 }
 
 // The entries from a number on, six numbers for each, as many whole entries as fit a lent list; how many were written.
-pub fn window(kind: u8, m: &[u8], first: usize, out: &mut [u64]) -> Answer
-    ensures { (told_answer result ≡ bind (fields_of (kind_layout kind) m.now) (λ es. window_count es first (length out.old))) × (out.new ≡ window_out (fields_of (kind_layout kind) m.now) first out.old) }
+pub fn window(kind: u8, m: &[u8], first: usize, out: &mut [u64]) -> Result<usize, Refusal>
+    ensures { (told result ≡ bind (fields_of (kind_layout kind) m.now) (λ es. window_count es first (length out.old))) × (out.new ≡ window_out (fields_of (kind_layout kind) m.now) first out.old) }
 {
     let layout = format::kind_layout(kind);
     let asked = tour::list_task(first, 0);
@@ -83,53 +68,45 @@ pub fn window(kind: u8, m: &[u8], first: usize, out: &mut [u64]) -> Answer
 }
 
 // How many fields a tour met. Here and below, the tour may have gone over any list of fields.
-pub fn count_met(toured: Toured) -> Answer
-    ensures { told_answer result ≡ count_met (told_toured toured) }
+pub fn count_met(toured: Result<Task, Refusal>) -> Result<usize, Refusal>
+    ensures { told result ≡ count_met (told toured) }
 {
-    let Toured::Done(task) = toured else {
-        return Answer::No(tour::toured_refusal(toured));
-    };
-    Answer::Is(task.seen)
+    let task = toured?;
+    Ok(task.seen)
 }
 
 // The n-th field that a tour met, where it listed that one in six numbers.
-pub fn field_met(toured: Toured, n: usize, six: &[u64; 6]) -> Listed
-    ensures { told_listed result ≡ field_met (told_toured toured) n six.now }
+pub fn field_met(toured: Result<Task, Refusal>, n: usize, six: &[u64; 6]) -> Result<Entry, Refusal>
+    ensures { told_listed result ≡ field_met (told toured) n six.now }
 {
-    let Toured::Done(task) = toured else {
-        return Listed::No(tour::toured_refusal(toured));
-    };
+    let task = toured?;
     if task.seen <= n {
-        return Listed::No(past_end());
+        return Err(past_end());
     }
-    Listed::Is(entry_of(six))
+    Ok(entry_of(six))
 }
 
 // The first field that ended past a byte, where a tour listed that one in six numbers.
-pub fn owner_met(toured: Toured, six: &[u64; 6]) -> Owned
-    ensures { told_owned result ≡ owner_met (told_toured toured) six.now }
+pub fn owner_met(toured: Result<Task, Refusal>, six: &[u64; 6]) -> Result<(Entry, usize), Refusal>
+    ensures { told_owned result ≡ owner_met (told toured) six.now }
 {
-    let Toured::Done(task) = toured else {
-        return Owned::No(tour::toured_refusal(toured));
-    };
+    let task = toured?;
     if task.taken == 0 {
-        return Owned::No(past_end());
+        return Err(past_end());
     }
     let number = task.last;
-    Owned::By(entry_of(six), number)
+    Ok((entry_of(six), number))
 }
 
 // How many fields a tour listed, from the first-th on.
-pub fn window_met(toured: Toured, first: usize) -> Answer
-    ensures { told_answer result ≡ window_met (told_toured toured) first }
+pub fn window_met(toured: Result<Task, Refusal>, first: usize) -> Result<usize, Refusal>
+    ensures { told result ≡ window_met (told toured) first }
 {
-    let Toured::Done(task) = toured else {
-        return Answer::No(tour::toured_refusal(toured));
-    };
+    let task = toured?;
     if task.seen <= first {
-        return Answer::No(past_end());
+        return Err(past_end());
     }
-    Answer::Is(task.taken)
+    Ok(task.taken)
 }
 
 fn past_end() -> Refusal

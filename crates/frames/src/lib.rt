@@ -27,7 +27,7 @@ pub fn next<R: Read>(input: &mut R, buf: &mut [u8]) -> io::Result<Frame>
     if got == 0 {
         return Ok(Frame::End);
     }
-    let size = big_endian(&head);
+    let size = u32::from_be_bytes(head) as usize;
     if got < 4 {
         return Ok(Frame::Broken);
     }
@@ -55,14 +55,4 @@ pub fn read_full<R: Read>(input: &mut R, buf: &mut [u8]) -> io::Result<usize>
         done += n;
     }
     Ok(done)
-}
-
-fn big_endian(head: &[u8; 4]) -> usize {
-    wide(head[0]) * 16777216 + wide(head[1]) * 65536 + wide(head[2]) * 256 + wide(head[3])
-}
-
-fn wide(x: u8) -> usize
-    ensures { result ≤ 255 }
-{
-    x as usize
 }

@@ -3,19 +3,19 @@
 #![tactic(auto)]
 
 ghost use Rattle.std.specs.Prelude.{◌≡◌, length};
-ghost use Rattle.format.specs.Result.{told_answer};
+ghost use Rattle.format.specs.Result.{told};
 ghost use Rattle.cards.specs.Answers.{ask_open};
 ghost use Rattle.cards.specs.Reasons.{ask_fit, told_fit};
-ghost use Rattle.query.specs.Answers.{told_table, ask_table, told_column, ask_column, ask_position, told_cell, ask_cell, told_part, ask_cell_span, ask_parameter_span, ask_element_span, Handed};
+ghost use Rattle.query.specs.Answers.{ask_table, ask_column, ask_position, ask_cell, told_part, ask_cell_span, ask_parameter_span, ask_element_span, Handed};
 ghost use Rattle.steps.specs.Steps.{open_table};
 ghost use Rattle.write.specs.Shown.{Opened};
 ghost use Rattle.columns.specs.Entries.{columns_of};
-ghost use Rattle.columns.specs.Walks.{Bounded, add_all, put_all, FitsAll};
+ghost use Rattle.columns.specs.Walks.{add_all, put_all, FitsAll};
 
 use cards::Fit;
 use columns::{Column, Head, Survey};
-use format::Answer;
-use query::{CellAnswer, ColumnAnswer, Part, TableAnswer};
+use format::Refusal;
+use query::{ColumnLayout, TableLayout};
 use write::{COLUMNS, Outcome, State};
 
 // One table, kept open over its message. Making it looks at nothing: each call on it refuses as the call on the message does.
@@ -33,49 +33,49 @@ pub fn reader<'a>(msg: &'a [u8], table: usize) -> TableReader<'a>
 }
 
 // The table's layout.
-pub fn layout<'a>(r: TableReader<'a>) -> TableAnswer
-    ensures { told_table result ≡ ask_table r.entry.msg.now r.entry.table }
+pub fn layout<'a>(r: TableReader<'a>) -> Result<TableLayout, Refusal>
+    ensures { told result ≡ ask_table r.entry.msg.now r.entry.table }
 {
     query::table(r.msg, r.table)
 }
 
 // The layout of a column.
-pub fn column<'a>(r: TableReader<'a>, c: usize) -> ColumnAnswer
-    ensures { told_column result ≡ ask_column r.entry.msg.now r.entry.table c }
+pub fn column<'a>(r: TableReader<'a>, c: usize) -> Result<ColumnLayout, Refusal>
+    ensures { told result ≡ ask_column r.entry.msg.now r.entry.table c }
 {
     query::column(r.msg, r.table, c)
 }
 
 // The position of the first column of a name.
-pub fn find<'a, 'b>(r: TableReader<'a>, name: &'b [u8]) -> Answer
-    ensures { told_answer result ≡ ask_position r.entry.msg.now r.entry.table name.now }
+pub fn find<'a, 'b>(r: TableReader<'a>, name: &'b [u8]) -> Result<usize, Refusal>
+    ensures { told result ≡ ask_position r.entry.msg.now r.entry.table name.now }
 {
     query::find_column(r.msg, r.table, name)
 }
 
 // The position of the column that a card was made from.
-pub fn opened<'a, 'b>(r: TableReader<'a>, card: &'b [u8]) -> Answer
-    ensures { told_answer result ≡ ask_open r.entry.msg.now r.entry.table card.now }
+pub fn opened<'a, 'b>(r: TableReader<'a>, card: &'b [u8]) -> Result<usize, Refusal>
+    ensures { told result ≡ ask_open r.entry.msg.now r.entry.table card.now }
 {
     cards::open_card(r.msg, r.table, card)
 }
 
 // Whether a card fits, and if not why, and where a column of its type and name stands.
-pub fn fit<'a, 'b>(r: TableReader<'a>, card: &'b [u8]) -> Fit
+pub fn fit<'a, 'b>(r: TableReader<'a>, card: &'b [u8]) -> Result<Fit, Refusal>
     ensures { told_fit result ≡ ask_fit r.entry.msg.now r.entry.table card.now }
 {
     cards::card_fit(r.msg, r.table, card)
 }
 
 // A cell, shown by its column's type.
-pub fn cell<'a>(r: TableReader<'a>, row: usize, c: usize) -> CellAnswer
-    ensures { told_cell result ≡ ask_cell r.entry.msg.now r.entry.table row c }
+pub fn cell<'a>(r: TableReader<'a>, row: usize, c: usize) -> Result<show::Cell, Refusal>
+    ensures { told result ≡ ask_cell r.entry.msg.now r.entry.table row c }
 {
     query::cell(r.msg, r.table, row, c)
 }
 
 // Where the bytes of a text or binary cell stand, or null.
-pub fn span<'a>(r: TableReader<'a>, row: usize, c: usize) -> Part
+pub fn span<'a>(r: TableReader<'a>, row: usize, c: usize) -> Result<Option<(usize, usize)>, Refusal>
     ensures { told_part result ≡ ask_cell_span r.entry.msg.now r.entry.table row c }
 {
     query::cell_span(r.msg, r.table, row, c)
@@ -85,7 +85,7 @@ pub fn span<'a>(r: TableReader<'a>, row: usize, c: usize) -> Part
 // of the message itself, which is empty, at the message's start, for null and a refusal.
 #[derive(Drop)]
 pub struct Bytes<'a> {
-    pub answer: Part,
+    pub answer: Result<Option<(usize, usize)>, Refusal>,
     pub part: &'a [u8],
 }
 
@@ -118,14 +118,11 @@ pub fn element_bytes<'a>(m: &'a [u8], p: usize, e: usize) -> Bytes<'a>
 
 // What is found of the columns of a lent list, behind those of a survey.
 fn survey(s: Survey, cols: &[Column], names: &[u8]) -> Survey
-    requires { Bounded s }
     ensures { result ≡ add_all names.now s cols.now }
 {
     let mut a = s;
-    let mut i = 0;
-    while i < cols.len() {
-        a = columns::surveyed(a, cols[i], names);
-        i = i + 1;
+    for column in cols {
+        a = columns::surveyed(a, *column, names);
     }
     a
 }
@@ -142,10 +139,8 @@ fn put_columns(
     ensures { (result ≡ head.step) × (out.exit.now ≡ (put_all names.now (record { out = out.entry.now; types = types.old; walk = head.walk }) cols.now).out) × (types.new ≡ (put_all names.now (record { out = out.entry.now; types = types.old; walk = head.walk }) cols.now).types) }
 {
     let mut w = columns::walk_in(head);
-    let mut i = 0;
-    while i < cols.len() {
-        w = columns::put_column(out, types, w, cols[i], names);
-        i = i + 1;
+    for column in cols {
+        w = columns::put_column(out, types, w, *column, names);
     }
     columns::step_in(head)
 }

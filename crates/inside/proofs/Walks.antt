@@ -2,7 +2,7 @@
 use Prim.Native.Nat.{ℕ}
 use mathlib.Core.Path.{◌≡◌, ◌∙◌, ap}
 use mathlib.Core.List.{List}
-use lib.ListN.{length, replicate}
+use lib.ListN.{replicate}
 use lib.Dec.{leb, ltb, eqb}
 use Rattle.format.specs.declared.Fault.TheVariants.{Negative, Geography}
 use Rattle.format.specs.Result.{ok}

@@ -3,28 +3,26 @@
 #![tactic(auto)]
 
 ghost use Rattle.std.specs.Prelude.{◌≡◌, length, replicate};
-ghost use Rattle.format.specs.Result.{ok, bind, told_answer};
+ghost use Rattle.format.specs.Result.{ok, bind, told};
 ghost use Rattle.format.specs.Format.{each};
 ghost use Rattle.format.specs.Message.{first, second};
 ghost use Rattle.format.specs.Geography.{vertex, ring, polygon, fields_inside};
 ghost use Rattle.tally.specs.Task.{doing};
 ghost use Rattle.tour.specs.Tour.{task_after, out_after};
 ghost use Rattle.tally.specs.Walks.{index_of, Walked};
-ghost use Rattle.tour.specs.Told.{told_toured};
 ghost use Rattle.fields.specs.Questions.{nth, owner_of, window_count, window_out};
 ghost use Rattle.fields.specs.Told.{told_listed, told_owned};
 
-use fields::{Listed, Owned};
-use format::Answer;
+use fields::Entry;
+use format::Refusal;
 use tally::{Indices, Task, Tour};
-use tour::Toured;
 
 // The floats of a vertex: its x, y and z.
 const AXES: usize = 3;
 
 // How many fields a body has.
-pub fn count(b: &[u8]) -> Answer
-    ensures { told_answer result ≡ bind (fields_inside b.now) (λ es. ok (length es)) }
+pub fn count(b: &[u8]) -> Result<usize, Refusal>
+    ensures { told result ≡ bind (fields_inside b.now) (λ es. ok (length es)) }
 {
     let mut six: [u64; 6] = [0; 6];
     let asked = tour::list_task(0, 0);
@@ -33,7 +31,7 @@ pub fn count(b: &[u8]) -> Answer
 }
 
 // The entry of a number in the list, from 0 on.
-pub fn field(b: &[u8], n: usize) -> Listed
+pub fn field(b: &[u8], n: usize) -> Result<Entry, Refusal>
     ensures { told_listed result ≡ bind (fields_inside b.now) (λ es. nth es n) }
 {
     let mut six: [u64; 6] = [0; 6];
@@ -43,7 +41,7 @@ pub fn field(b: &[u8], n: usize) -> Listed
 }
 
 // The entry that owns a byte, and its number in the list.
-pub fn owner(b: &[u8], offset: usize) -> Owned
+pub fn owner(b: &[u8], offset: usize) -> Result<(Entry, usize), Refusal>
     ensures { told_owned result ≡ bind (fields_inside b.now) (λ es. owner_of es offset) }
 {
     let mut six: [u64; 6] = [0; 6];
@@ -53,8 +51,8 @@ pub fn owner(b: &[u8], offset: usize) -> Owned
 }
 
 // The entries from a number on, six numbers for each, as many whole entries as fit a lent list; how many were written.
-pub fn window(b: &[u8], first: usize, out: &mut [u64]) -> Answer
-    ensures { (told_answer result ≡ bind (fields_inside b.now) (λ es. window_count es first (length out.old))) × (out.new ≡ window_out (fields_inside b.now) first out.old) }
+pub fn window(b: &[u8], first: usize, out: &mut [u64]) -> Result<usize, Refusal>
+    ensures { (told result ≡ bind (fields_inside b.now) (λ es. window_count es first (length out.old))) × (out.new ≡ window_out (fields_inside b.now) first out.old) }
 {
     let asked = tour::list_task(first, 0);
     let toured = visit_inside(b, out, asked);
@@ -62,18 +60,15 @@ pub fn window(b: &[u8], first: usize, out: &mut [u64]) -> Answer
 }
 
 // The task over all fields of a body, in wire order.
-pub fn visit_inside(b: &[u8], out: &mut [u64], task: Task) -> Toured
-    ensures { (told_toured result ≡ task_after (fields_inside b.now) (doing task out.old)) × (out.new ≡ out_after (fields_inside b.now) (doing task out.old)) }
+pub fn visit_inside(b: &[u8], out: &mut [u64], task: Task) -> Result<Task, Refusal>
+    ensures { (told result ≡ task_after (fields_inside b.now) (doing task out.old)) × (out.new ≡ out_after (fields_inside b.now) (doing task out.old)) }
 {
-    let rings = areas::rings(b);
-    if let Answer::No(refusal) = rings {
-        return Toured::No(refusal);
-    }
+    areas::rings(b)?;
     let start = Tour { at: 0, task };
     let ix = Indices { i: 0, j: 0, k: 0 };
     let tour = walk_polygon(b, out, start, ix);
     let done = tour.task;
-    Toured::Done(done)
+    Ok(done)
 }
 
 // A body that is accepted: its three leading bytes, its rings, and its kept bytes.
@@ -94,15 +89,13 @@ fn walk_rings(s: &[u8], out: &mut [u64], from: Tour, n: usize, ix: Indices) -> T
     ensures { Walked (each first 0 (replicate n ring)) s.now (index_of ix) from out.old result out.new }
 {
     let mut tour = from;
-    let mut i = 0;
-    while i < n {
+    for i in 0..n {
         let at = Indices {
             i,
             j: ix.j,
             k: ix.k,
         };
         tour = walk_ring(s, out, tour, at);
-        i += 1;
     }
     tour
 }
@@ -123,15 +116,13 @@ fn walk_vertices(s: &[u8], out: &mut [u64], from: Tour, n: usize, ix: Indices) -
     ensures { Walked (each second 0 (replicate n vertex)) s.now (index_of ix) from out.old result out.new }
 {
     let mut tour = from;
-    let mut j = 0;
-    while j < n {
+    for j in 0..n {
         let at = Indices {
             i: ix.i,
             j,
             k: ix.k,
         };
         tour = walk_vertex(s, out, tour, at);
-        j += 1;
     }
     tour
 }
@@ -141,15 +132,13 @@ fn walk_vertex(s: &[u8], out: &mut [u64], from: Tour, ix: Indices) -> Tour
     ensures { Walked vertex s.now (index_of ix) from out.old result out.new }
 {
     let mut tour = from;
-    let mut k = 0;
-    while k < AXES {
+    for k in 0..AXES {
         let axis = Indices {
             i: ix.i,
             j: ix.j,
             k,
         };
         tour = tour::walk_fixed(s, out, tour, 8, 66, axis);
-        k += 1;
     }
     tour
 }

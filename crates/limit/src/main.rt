@@ -4,63 +4,60 @@
 // A read or a write that fails ends it with an error.
 #![tactic(auto)]
 
-ghost use Rattle.std.specs.Prelude.{◌≡◌, ◌≤◌, length, IfOk};
-ghost use Rattle.format.specs.Result.{told_answer};
+ghost use Rattle.format.specs.Result.{told};
+ghost use Rattle.std.specs.Prelude.{◌≡◌, ◌≤◌, length, IfOk, IfSome};
 ghost use Rattle.cards.specs.Card.{most_size};
 ghost use Rattle.cards.specs.Answers.{ask_open};
 ghost use Rattle.cards.specs.Reasons.{ask_fit, told_fit};
-ghost use Rattle.query.specs.Answers.{told_table, ask_table, ask_position, told_cell, ask_cell};
+ghost use Rattle.query.specs.Answers.{ask_table, ask_position, ask_cell};
 
 use cards::{Fit, Reason};
-use fields::Owned;
-use format::Answer;
+use format::Refusal;
 use frames::Frame;
-use query::{CellAnswer, Part, TableAnswer};
+use query::TableLayout;
 use show::Cell;
 use std::io;
 use std::io::Read;
-use text::Found;
 
 // The engine that is asked for.
 const ENGINE: i32 = 2;
 
-// A proved loop has to end, and nothing says that the input does. So this one counts its turns down, from a number that no
-// run uses up.
+// A proved loop has to end, and nothing says that the input does. So this one has a last turn, which no run comes to.
 fn main(rt: HostRuntime) -> io::Result<()> {
     let mut input = rt.stdin();
     let mut card = [0u8; cards::MOST_SIZE];
-    let size = make_card(&rt, &mut input, &mut card)?;
-    if size == 0 {
+    let Some(size) = make_card(&rt, &mut input, &mut card)? else {
         return Ok(());
-    }
-    let mut turns = u64::MAX;
-    while turns > 0 && open_next(&rt, &mut input, &card[..size])? {
-        turns -= 1;
+    };
+    for _ in 0..u64::MAX {
+        if !open_next(&rt, &mut input, &card[..size])? {
+            break;
+        }
     }
     Ok(())
 }
 
-// Makes the card of the limit's column from the first reply, and asks that reply too. Answers how many bytes the card has; 0 if none was made.
-fn make_card<R: Read>(rt: &impl Print, input: &mut R, card: &mut [u8]) -> io::Result<usize>
+// Makes the card of the limit's column from the first reply, and asks that reply too. Answers how many bytes the card has, if one was made.
+fn make_card<R: Read>(rt: &impl Print, input: &mut R, card: &mut [u8]) -> io::Result<Option<usize>>
     requires { most_size ≤ length card.old }
-    ensures { IfOk result (λ size. size ≤ most_size) }
+    ensures { IfOk result (λ made. IfSome made (λ size. size ≤ most_size)) }
 {
     let mut frame = [0u8; 65537];
     let read = frames::next(input, &mut frame)?;
     let Frame::Is(n) = read else {
-        return Ok(0);
+        return Ok(None);
     };
     let reply = &frame[..n];
     let made = cards::make_card(reply, 0, b"THROTTLE_LIMIT", card);
     match made {
-        Answer::No(refusal) => {
+        Err(refusal) => {
             listing::print_refusal(rt, refusal)?;
-            Ok(0)
+            Ok(None)
         }
-        Answer::Is(position) => {
+        Ok(position) => {
             let size = cards::size_at(position);
             open(rt, reply, &card[..size])?;
-            Ok(size)
+            Ok(Some(size))
         }
     }
 }
@@ -79,8 +76,8 @@ fn open_next<R: Read>(rt: &impl Print, input: &mut R, card: &[u8]) -> io::Result
 fn open(rt: &impl Print, reply: &[u8], card: &[u8]) -> io::Result<()> {
     let opened = opened_by(reply, card);
     match opened {
-        Answer::Is(column) => print_limit(rt, reply, column),
-        Answer::No(refusal) => {
+        Ok(column) => print_limit(rt, reply, column),
+        Err(refusal) => {
             rt.print("card ")?;
             listing::print_refusal(rt, refusal)?;
             print_reason(rt, fit_of(reply, card))
@@ -89,8 +86,8 @@ fn open(rt: &impl Print, reply: &[u8], card: &[u8]) -> io::Result<()> {
 }
 
 // Prints why a card doesn't fit; of a reply or a card that is refused for another fault there is nothing to say.
-fn print_reason(rt: &impl Print, fit: Fit) -> io::Result<()> {
-    if let Fit::Stale(reason, place) = fit {
+fn print_reason(rt: &impl Print, fit: Result<Fit, Refusal>) -> io::Result<()> {
+    if let Ok(Fit::Stale(reason, place)) = fit {
         rt.print("stale: ")?;
         print_fact(rt, reason)?;
         print_now(rt, place)?;
@@ -106,10 +103,10 @@ fn print_fact(rt: &impl Print, reason: Reason) -> io::Result<()> {
     }
 }
 
-fn print_now(rt: &impl Print, place: Found) -> io::Result<()> {
+fn print_now(rt: &impl Print, place: Option<usize>) -> io::Result<()> {
     match place {
-        Found::At(column) => { println!(rt; "; its name and type now stand at column {column}") }
-        Found::Nothing => rt.println("; no column has its name and type"),
+        Some(column) => { println!(rt; "; its name and type now stand at column {column}") }
+        None => rt.println("; no column has its name and type"),
     }
 }
 
@@ -117,7 +114,7 @@ fn print_now(rt: &impl Print, place: Found) -> io::Result<()> {
 fn print_limit(rt: &impl Print, reply: &[u8], column: usize) -> io::Result<()> {
     let row = engine_row(reply);
     let answer = cell_of(reply, row, column);
-    let CellAnswer::Is(cell) = answer else {
+    let Ok(cell) = answer else {
         return rt.println("no such engine");
     };
     if let Cell::Decimal(_, lower) = cell {
@@ -132,32 +129,27 @@ fn engine_row(reply: &[u8]) -> usize {
     let rows = row_count(reply);
     let found = find_in(reply, b"ENGINE_ID");
     match found {
-        Answer::Is(column) => first_row(reply, column, rows),
-        Answer::No(_) => rows,
+        Ok(column) => first_row(reply, column, rows),
+        Err(_) => rows,
     }
 }
 
 fn first_row(reply: &[u8], column: usize, rows: usize) -> usize {
-    let mut row = 0;
-    while row < rows {
-        if is_engine(cell_of(reply, row, column)) {
-            return row;
-        }
-        row += 1;
-    }
-    rows
+    (0..rows)
+        .find(|row| is_engine(cell_of(reply, *row, column)))
+        .unwrap_or(rows)
 }
 
 fn row_count(reply: &[u8]) -> usize {
     let answer = layout_of(reply);
     match answer {
-        TableAnswer::Is(layout) => layout.rows,
-        TableAnswer::No(_) => 0,
+        Ok(layout) => layout.rows,
+        Err(_) => 0,
     }
 }
 
-fn is_engine(answer: CellAnswer) -> bool {
-    let CellAnswer::Is(cell) = answer else {
+fn is_engine(answer: Result<show::Cell, Refusal>) -> bool {
+    let Ok(cell) = answer else {
         return false;
     };
     match cell {
@@ -168,32 +160,32 @@ fn is_engine(answer: CellAnswer) -> bool {
 
 // ---- The questions to a reply's table, each by a reader over it.
 
-fn layout_of(reply: &[u8]) -> TableAnswer
-    ensures { told_table result ≡ ask_table reply.now 0 }
+fn layout_of(reply: &[u8]) -> Result<TableLayout, Refusal>
+    ensures { told result ≡ ask_table reply.now 0 }
 {
     held::layout(held::reader(reply, 0))
 }
 
-fn find_in(reply: &[u8], name: &[u8]) -> Answer
-    ensures { told_answer result ≡ ask_position reply.now 0 name.now }
+fn find_in(reply: &[u8], name: &[u8]) -> Result<usize, Refusal>
+    ensures { told result ≡ ask_position reply.now 0 name.now }
 {
     held::find(held::reader(reply, 0), name)
 }
 
-fn opened_by(reply: &[u8], card: &[u8]) -> Answer
-    ensures { told_answer result ≡ ask_open reply.now 0 card.now }
+fn opened_by(reply: &[u8], card: &[u8]) -> Result<usize, Refusal>
+    ensures { told result ≡ ask_open reply.now 0 card.now }
 {
     held::opened(held::reader(reply, 0), card)
 }
 
-fn fit_of(reply: &[u8], card: &[u8]) -> Fit
+fn fit_of(reply: &[u8], card: &[u8]) -> Result<Fit, Refusal>
     ensures { told_fit result ≡ ask_fit reply.now 0 card.now }
 {
     held::fit(held::reader(reply, 0), card)
 }
 
-fn cell_of(reply: &[u8], row: usize, column: usize) -> CellAnswer
-    ensures { told_cell result ≡ ask_cell reply.now 0 row column }
+fn cell_of(reply: &[u8], row: usize, column: usize) -> Result<show::Cell, Refusal>
+    ensures { told result ≡ ask_cell reply.now 0 row column }
 {
     held::cell(held::reader(reply, 0), row, column)
 }
@@ -201,7 +193,7 @@ fn cell_of(reply: &[u8], row: usize, column: usize) -> CellAnswer
 // Prints where a cell's bytes stand and who owns the first of them.
 fn print_place(rt: &impl Print, reply: &[u8], row: usize, column: usize) -> io::Result<()> {
     let place = query::cell_place(reply, 0, row, column);
-    if let Part::Is(at, size) = place {
+    if let Ok(Some((at, size))) = place {
         print!(rt; ": {size} bytes from {at}")?;
         print_owner(rt, reply, at)?;
     }
@@ -210,7 +202,7 @@ fn print_place(rt: &impl Print, reply: &[u8], row: usize, column: usize) -> io::
 
 fn print_owner(rt: &impl Print, reply: &[u8], offset: usize) -> io::Result<()> {
     let answer = fields::owner(4, reply, offset);
-    if let Owned::By(entry, _) = answer {
+    if let Ok((entry, _)) = answer {
         let field = entry.field;
         let (table, row, column) = (entry.i, entry.j, entry.k);
         print!(rt;

@@ -8,6 +8,6 @@ fn main(rt: HostRuntime) -> io::Result<()> {
     // One byte more than the longest input, to see that it is longer.
     let mut input = [0u8; 65538];
     let n = frames::read_full(&mut rt.stdin(), &mut input)?;
-    listing::print(&rt, &input[..n])?;
+    let _ = listing::print(&rt, &input[..n])?;
     Ok(())
 }

@@ -1,3 +1,2 @@
--- The proofs: counts of digits, digits that are put one by one, and numbers as text.
-pub mod Powers
+-- The proofs: numbers as text.
 pub mod Spelled

@@ -3,18 +3,15 @@
 #![tactic(auto)]
 
 ghost use Rattle.std.specs.Prelude.{◌+◌, ◌≤◌, ◌≡◌, ◌++◌, length, take, IfOk};
-ghost use Rattle.std.proofs.Math.Seq.{paste};
-ghost use Rattle.format.specs.Result.{number_of};
+ghost use Rattle.format.specs.Result.{number_of, told};
 ghost use Rattle.format.specs.Message.{is_kind};
-ghost use Rattle.message.specs.Verdict.{told_verdict};
 ghost use Rattle.listing.specs.Digits.{IsPrefixLen};
 ghost use Rattle.listing.specs.Listing.{listing_of};
 ghost use Rattle.listing.specs.Text.{spelled, behind_of, words_of};
 
 mod number;
 
-use format::{Answer, Fault, Refusal};
-use message::Verdict;
+use format::{Fault, Refusal};
 use number::decimal;
 use std::io;
 
@@ -31,33 +28,34 @@ const LINE: usize = 126;
 
 // Prints what the listing program prints for its input, one byte of kind and then a message: its field list, or a refusal.
 // Answers which.
-pub fn print(rt: &impl Print, input: &[u8]) -> io::Result<Verdict>
-    ensures { IfOk result (λ verdict. told_verdict verdict ≡ listing_of input.now) }
+pub fn print(rt: &impl Print, input: &[u8]) -> io::Result<Result<(), Refusal>>
+    ensures { IfOk result (λ verdict. told verdict ≡ listing_of input.now) }
 {
     let verdict = judge(input);
-    let Verdict::No(refusal) = verdict else {
-        print_fields(rt, input)?;
-        return Ok(verdict);
-    };
-    print_refusal(rt, refusal)?;
+    match verdict {
+        Ok(()) => print_fields(rt, input)?,
+        Err(refusal) => {
+            print_refusal(rt, refusal)?;
+        }
+    }
     Ok(verdict)
 }
 
 // What is printed for an input: the field list where all is fine, or a refusal.
-fn judge(input: &[u8]) -> Verdict
-    ensures { told_verdict result ≡ listing_of input.now }
+fn judge(input: &[u8]) -> Result<(), Refusal>
+    ensures { told result ≡ listing_of input.now }
 {
     if input.len() == 0 {
-        return Verdict::No(refusal_at_0(Fault::WireType));
+        return Err(refusal_at_0(Fault::WireType));
     }
     let kind = input[0];
     if input.len() <= MOST_INPUT {
         return message::accept(kind, &input[1..]);
     }
     if is_kind(kind) {
-        return Verdict::No(refusal_at_0(Fault::Limit));
+        return Err(refusal_at_0(Fault::Limit));
     }
-    Verdict::No(refusal_at_0(Fault::WireType))
+    Err(refusal_at_0(Fault::WireType))
 }
 
 fn is_kind(kind: u8) -> bool
@@ -77,7 +75,7 @@ pub fn print_refusal(rt: &impl Print, refusal: Refusal) -> io::Result<u8>
     ensures { IfOk result (λ number. number ≡ number_of refusal.fault) }
 {
     let fault = refusal.fault;
-    let number = format::number_of(fault);
+    let number = u8::from(fault);
     let place = refusal.place;
     println!(rt; "refused {number} {place}")?;
     Ok(number)
@@ -90,9 +88,10 @@ fn print_fields(rt: &impl Print, input: &[u8]) -> io::Result<()> {
     }
     let kind = input[0];
     let m = &input[1..];
-    let mut first = 0;
-    while first <= m.len() && print_window(rt, kind, m, first)? {
-        first += WINDOW;
+    for first in (0..=m.len()).step_by(WINDOW) {
+        if !print_window(rt, kind, m, first)? {
+            break;
+        }
     }
     Ok(())
 }
@@ -101,7 +100,7 @@ fn print_fields(rt: &impl Print, input: &[u8]) -> io::Result<()> {
 fn print_window(rt: &impl Print, kind: u8, m: &[u8], first: usize) -> io::Result<bool> {
     let mut numbers = [0u64; WINDOW * NUMBERS];
     let answer = fields::window(kind, m, first, &mut numbers);
-    let Answer::Is(n) = answer else {
+    let Ok(n) = answer else {
         return Ok(false);
     };
     print_entries(rt, &numbers, n)?;
@@ -110,41 +109,32 @@ fn print_window(rt: &impl Print, kind: u8, m: &[u8], first: usize) -> io::Result
 
 // Prints the first n entries, or as many as there are.
 fn print_entries(rt: &impl Print, numbers: &[u64], n: usize) -> io::Result<()> {
-    let mut i = 0;
-    let mut from = 0;
-    while i < n {
-        if numbers.len() - from < NUMBERS {
-            return Ok(());
-        }
-        print_line(rt, numbers, from)?;
-        from += NUMBERS;
-        i += 1;
+    for entry in numbers.chunks_exact(NUMBERS).take(n) {
+        print_line(rt, entry)?;
     }
     Ok(())
 }
 
-// Prints the six numbers from `from` on as a line.
-fn print_line(rt: &impl Print, numbers: &[u64], from: usize) -> io::Result<()>
-    requires { from + 6 ≤ length numbers.now }
+// Prints an entry's six numbers as a line.
+fn print_line(rt: &impl Print, numbers: &[u64]) -> io::Result<()>
+    requires { 6 ≤ length numbers.now }
 {
     let mut line = [0u8; LINE];
-    let end = put_line(&mut line, numbers, from);
+    let end = put_line(&mut line, numbers);
     rt.write_all(&line[..end])
 }
 
-// Puts the six numbers from `from` on to the start of line, in decimal, one space between and a
-// line feed behind. Answers where the text ends.
-fn put_line(line: &mut [u8], numbers: &[u64], from: usize) -> usize
-    requires from_in_bounds { from + 6 ≤ length numbers.now }
+// Puts an entry's six numbers to the start of line, in decimal, one space between and a line
+// feed behind. Answers where the text ends.
+fn put_line(line: &mut [u8], numbers: &[u64]) -> usize
+    requires six { 6 ≤ length numbers.now }
     requires in_bounds { 126 ≤ length line.old }
     ensures prefix_len { IsPrefixLen result line.new }
-    ensures line_after { take result line.new ≡ words_of numbers.now from 6 }
+    ensures line_after { take result line.new ≡ words_of numbers.now 0 6 }
 {
     let mut end = 0;
-    let mut i = 0;
-    while i < NUMBERS {
-        end = put_number(line, end, numbers[from + i], behind(i));
-        i += 1;
+    for i in 0..NUMBERS {
+        end = put_number(line, end, numbers[i], behind(i));
     }
     end
 }
@@ -164,19 +154,7 @@ fn put_number(line: &mut [u8], at: usize, n: u64, after: u8) -> usize
 {
     let mut digits = [0u8; 20];
     let count = decimal(n, &mut digits);
-    copy(&digits[..count], line, at);
+    line[at..at + count].copy_from_slice(&digits[..count]);
     line[at + count] = after;
     at + count + 1
-}
-
-// Copies src into dst from `at` on.
-fn copy(src: &[u8], dst: &mut [u8], at: usize)
-    requires { at + length src.now ≤ length dst.old }
-    ensures { dst.new ≡ paste dst.old at src.now (length src.now) }
-{
-    let mut i = 0;
-    while i < src.len() {
-        dst[at + i] = src[i];
-        i += 1;
-    }
 }

@@ -14,17 +14,11 @@ pub fn decimal(n: u64, out: &mut [u8; 20]) -> usize
     k
 }
 
-// How many digits n takes.
+// How many digits n takes: 0 takes one, as 1 does.
 fn digit_count(n: u64) -> usize
     ensures { IsDigitCount 10 1 n result }
 {
-    let mut k = 1;
-    let mut rest = n / 10;
-    while rest > 0 {
-        rest /= 10;
-        k += 1;
-    }
-    k
+    n.max(1).ilog10() as usize + 1
 }
 
 // Puts the last k digits of n at the start of out.
@@ -33,10 +27,8 @@ fn write_digits(n: u64, k: usize, out: &mut [u8])
     ensures digits { take k out.new ≡ last_digits 10 k n }
     ensures rest { drop k out.new ≡ drop k out.old }
 {
-    let mut i = k;
     let mut rest = n;
-    while i > 0 {
-        i -= 1;
+    for i in (0..k).rev() {
         out[i] = digit_to_ascii(rest % 10);
         rest /= 10;
     }

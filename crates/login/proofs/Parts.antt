@@ -9,25 +9,23 @@ use lib.ListN.{length, length-append}
 use lib.Dec.{leb, eqb}
 use native.Mathlib.Nat.{le_trans, zero-add}
 use borrow.Author.Tests.{leb-true, eq-eqb, ne_eqb}
+use Rattle.std.specs.Prelude.{Result, Ok, Err}
 use Rattle.format.specs.declared.Fault.TheVariants.{Version}
 use Rattle.format.specs.declared.Refusal.{Refusal}
-use Rattle.format.specs.Result.{Res, ok, no, pick}
+use Rattle.format.specs.Result.{pick}
 use Rattle.format.specs.Number.{num_bytes}
 use Rattle.format.specs.Format.{Verdict, fine, bad, number, block, ruled, into, both, nothing, present, counted}
 use Rattle.format.specs.Text.{utf8}
 use Rattle.format.specs.Value.{most_bytes}
 use Rattle.format.specs.Message.{edition, hash_size, server, no_server, login_request as request_format, login_response as response_format, a_login_request, a_login_response, content_of, message, message_bytes}
 use Rattle.format.proofs.Numbers.{length-num_bytes}
+use Rattle.scan.proofs.Answers.{shown_go, shown_stop}
 use Rattle.put.specs.Put.{put, sized}
 use Rattle.put.proofs.Laws.{Puts, puts, sized_some}
-use Rattle.format.specs.declared.Answer.{Answer}
-use Rattle.format.specs.declared.Answer.TheVariants.{Is, No}
-use Rattle.write.specs.declared.Check.{Check}
-use Rattle.write.specs.declared.Check.TheVariants.{Fine, Bad}
 use Rattle.steps.specs.State.{State, closed}
 use Rattle.write.specs.Shown.{zero, shown_answer, Told}
 use Rattle.write.specs.Shared.{verdict_of}
-use Rattle.steps.specs.Plans.{Plan, answer_of, out_of, carry, fill_all, also, test}
+use Rattle.steps.specs.Plans.{Plan, answer_of, carry, fill_all, also, test}
 use Rattle.steps.specs.Arguments.{text_fault}
 use Rattle.steps.specs.Steps.{answer_at, says}
 use Rattle.steps.specs.Logins.{hash_fault, written_request, written_response, Welcome, request_fault, response_fault, login_plan}
@@ -165,11 +163,8 @@ also_none fine = refl
 also_none (bad f p) = refl
 
 -- what was found of the arguments is no fault
-pub is_fine : {x : Check} {v : Verdict} → x ≡ Fine → verdict_of x ≡ v → v ≡ fine
+pub is_fine : {x : Result Unit Refusal} {u : Unit} {v : Verdict} → x ≡ Ok u → verdict_of x ≡ v → v ≡ fine
 is_fine e f = sym f ∙ ap verdict_of e
-
-pub not_fine : {x : Check} {r : Refusal} {v : Verdict} → x ≡ Bad r → verdict_of x ≡ v → v ≡ fine → ⊥
-not_fine e f g = let z : bad _ _ ≡ fine = sym (ap verdict_of e) ∙ f ∙ g in let y : ◌≡◌ {A = ℕ} 0 1 = cc in omega arith
 
 -- bytes that are put whole
 pub puts_whole : (b : List ℕ) (at : ℕ) (bs : List ℕ) {m : ℕ} {c : List ℕ} → at + length bs ≤ length b → (m ≡ at + length bs) × (c ≡ put b at bs) → Puts b at (length bs) bs m c
@@ -177,24 +172,16 @@ puts_whole b at bs f e = puts b at (length bs) bs refl f e
 
 module _ (p : Plan State) (b : List ℕ) where
   -- a login that is refused, and one that is taken
-  pub refused : {a : Answer} {x : Refusal} → a ≡ shown_answer (answer_of p (length b)) → a ≡ No x → Told (carry p (closed 0) b) a b
+  pub refused : {a r : Result ℕ Refusal} {x : Refusal} → a ≡ shown_answer (answer_of p (length b)) → a ≡ Err x → r ≡ Err x → Told (carry p (closed 0) b) r b
   unfolding carry
-  refused e f = go (answer_of p (length b)) e f
-    where
-      go : (r : Res ℕ) {a : Answer} {x : Refusal} → a ≡ shown_answer r → a ≡ No x → Told (out_of r p (closed 0) b) a b
-      go (ok n) e f = let z : No _ ≡ Is _ = sym f ∙ e in let y : ◌≡◌ {A = ℕ} 0 1 = cc in absurd (omega arith)
-      go (no g q) e f = (e, refl)
+  refused e f h = let s = shown_stop (answer_of p (length b)) e f in (h ∙ sym (rw s), sym (rw s))
 
-  pub taken : {a : Answer} {n : ℕ} {c : List ℕ} → a ≡ shown_answer (answer_of p (length b)) → a ≡ Is n → c ≡ fill_all p.fills (put b p.at p.bytes) → Told (carry p (closed 0) b) (Is n) c
+  pub taken : {a : Result ℕ Refusal} {n : ℕ} {c : List ℕ} → a ≡ shown_answer (answer_of p (length b)) → a ≡ Ok n → c ≡ fill_all p.fills (put b p.at p.bytes) → Told (carry p (closed 0) b) (Ok n) c
   unfolding carry
-  taken e f h = go (answer_of p (length b)) e f h
-    where
-      go : (r : Res ℕ) {a : Answer} {n : ℕ} {c : List ℕ} → a ≡ shown_answer r → a ≡ Is n → c ≡ fill_all p.fills (put b p.at p.bytes) → Told (out_of r p (closed 0) b) (Is n) c
-      go (ok n) e f h = (sym f ∙ e, h)
-      go (no g q) e f h = let z : Is _ ≡ No _ = sym f ∙ e in let y : ◌≡◌ {A = ℕ} 0 1 = cc in absurd (omega arith)
+  taken e f h = let s = shown_go (answer_of p (length b)) e f in (sym (rw s), h ∙ sym (rw s))
 
 -- where a login that is taken ends
-pub whole : (v : Verdict) (bs b : List ℕ) (total : ℕ) {a : Answer} {n : ℕ} → length bs ≡ total → a ≡ shown_answer (answer_of (login_plan v bs) (length b)) → a ≡ Is n → Whole n total (length b)
+pub whole : (v : Verdict) (bs b : List ℕ) (total : ℕ) {a : Result ℕ Refusal} {n : ℕ} → length bs ≡ total → a ≡ shown_answer (answer_of (login_plan v bs) (length b)) → a ≡ Ok n → Whole n total (length b)
 whole v bs b total l e f =
     let t = (accepts (login_plan v bs) zero b [] e f).accepted in
     record { is = t.reached ∙ zero-add (length bs) ∙ l; room = t.fits }

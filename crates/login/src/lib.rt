@@ -16,8 +16,7 @@ ghost use Rattle.write.specs.Shown.{shown_answer, Told};
 ghost use Rattle.write.specs.Shared.{verdict_of};
 ghost use Rattle.login.specs.Parts.{welcome, server_of, hash_part};
 
-use format::{Answer, Fault};
-use write::Check;
+use format::{Fault, Refusal};
 
 // Writes a login request. In version 0 the hash version, here `hashing`, is ignored.
 pub fn login_request(
@@ -27,20 +26,17 @@ pub fn login_request(
     service: &[u8],
     user: &[u8],
     hash: &[u8],
-) -> Answer
+) -> Result<usize, Refusal>
     ensures { Told (login_request version hashing service.now user.now hash.now out.old) result out.new }
 {
-    let a = ask_request(version, hashing, service, user, hash, out.len());
-    let Answer::Is(n) = a else {
-        return a;
-    };
+    let n = ask_request(version, hashing, service, user, hash, out.len())?;
     let front = put::number_at(out, 0, (n - 4) as u64, 4);
     let edition = put::number_at(out, front, version as u64, 1);
     let names = hash_version_at(out, edition, version, hashing);
-    let middle = put::text_at(out, names, false, service);
-    let last = put::text_at(out, middle, false, user);
+    let middle = put::text_at(out, names, Some(service));
+    let last = put::text_at(out, middle, Some(user));
     put::bytes_at(out, last, hash);
-    a
+    Ok(n)
 }
 
 // Writes a login response, its numbers without a sign. With a result other than 0 all that follows it is ignored.
@@ -53,21 +49,18 @@ pub fn login_response(
     start: u64,
     leader: u32,
     build: &[u8],
-) -> Answer
+) -> Result<usize, Refusal>
     ensures { Told (login_response version res (welcome host connection start leader build.now) out.old) result out.new }
 {
-    let a = ask_response(version, res, build, out.len());
-    let Answer::Is(n) = a else {
-        return a;
-    };
+    let n = ask_response(version, res, build, out.len())?;
     let front = put::number_at(out, 0, (n - 4) as u64, 4);
     let edition = put::number_at(out, front, version as u64, 1);
     let rest = put::number_at(out, edition, res as u64, 1);
     if res != 0 {
-        return a;
+        return Ok(n);
     }
     server_at(out, rest, host, connection, start, leader, build);
-    a
+    Ok(n)
 }
 
 // Writes the hash version, which version 0 has not, and says where it ends.
@@ -98,7 +91,7 @@ fn server_at(
     let third = put::number_at(out, second, connection, 8);
     let fourth = put::number_at(out, third, start, 8);
     let last = put::number_at(out, fourth, leader as u64, 4);
-    put::text_at(out, last, false, build);
+    put::text_at(out, last, Some(build));
 }
 
 // What a login is answered, in a buffer of so many bytes. Of a response's numbers it doesn't depend.
@@ -109,18 +102,15 @@ fn ask_request(
     user: &[u8],
     hash: &[u8],
     size: usize,
-) -> Answer
+) -> Result<usize, Refusal>
     ensures { result ≡ shown_answer (answer_of (login_plan (request_fault version hashing service.now user.now hash.now) (message_bytes 1 (says version (a_login_request (written_request version hashing service.now user.now hash.now))))) size) }
 {
-    let fault = request_fault(version, hashing, service, user, hash);
-    let Check::Fine = fault else {
-        return write::judge(true, fault, true, 0, 0, size);
-    };
+    request_fault(version, hashing, service, user, hash)?;
     let bytes = request_size(version, service, user, hash);
-    write::judge(true, fault, true, 0, bytes, size)
+    write::judge(true, Ok(()), true, 0, bytes, size)
 }
 
-fn ask_response(version: u8, res: u8, build: &[u8], size: usize) -> Answer
+fn ask_response(version: u8, res: u8, build: &[u8], size: usize) -> Result<usize, Refusal>
     ensures { result ≡ shown_answer (answer_of (login_plan (response_fault version res (welcome 0 0 0 0 build.now)) (message_bytes 2 (says version (a_login_response (written_response res (welcome 0 0 0 0 build.now)))))) size) }
 {
     let edition = write::test(version <= 1, Fault::Version, 0);
@@ -132,7 +122,13 @@ fn ask_response(version: u8, res: u8, build: &[u8], size: usize) -> Answer
 }
 
 // What is wrong with the arguments of a request, in wire order.
-fn request_fault(version: u8, hashing: u8, service: &[u8], user: &[u8], hash: &[u8]) -> Check
+fn request_fault(
+    version: u8,
+    hashing: u8,
+    service: &[u8],
+    user: &[u8],
+    hash: &[u8],
+) -> Result<(), Refusal>
     ensures { verdict_of result ≡ request_fault version hashing service.now user.now hash.now }
 {
     let edition = write::test(version <= 1, Fault::Version, 0);
@@ -146,11 +142,11 @@ fn request_fault(version: u8, hashing: u8, service: &[u8], user: &[u8], hash: &[
     )
 }
 
-fn hash_version_fault(version: u8, hashing: u8) -> Check
+fn hash_version_fault(version: u8, hashing: u8) -> Result<(), Refusal>
     ensures { verdict_of result ≡ pick (eqb version 1) (Rattle.steps.specs.Plans.test (leb hashing 1) Version 0) fine }
 {
     if version != 1 {
-        return Check::Fine;
+        return Ok(());
     }
     write::test(hashing <= 1, Fault::Version, 0)
 }
@@ -169,7 +165,7 @@ fn hash_size(version: u8, hashing: u8) -> usize
     }
 }
 
-fn hash_fault(n: usize, hash: &[u8]) -> Check
+fn hash_fault(n: usize, hash: &[u8]) -> Result<(), Refusal>
     ensures { verdict_of result ≡ hash_fault n hash.now }
 {
     let short = write::test(n <= hash.len(), Fault::Short, 0);

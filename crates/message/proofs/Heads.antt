@@ -1,4 +1,6 @@
 -- A response: what stands before its tables, and then the tables.
+use Rattle.format.specs.declared.Refusal.{Refusal}
+use Rattle.std.specs.Prelude.{Result, Ok, Err}
 use Prim.Native.Nat.{ℕ}
 use mathlib.Core.Path.{◌≡◌, refl, sym, ◌∙◌, ap}
 use mathlib.Core.Bool.{Bool, true, false}
@@ -7,7 +9,6 @@ use mathlib.Core.Option.{Option, none}
 use Rattle.format.specs.Format.{Format, Verdict, number, block, ruled, nothing, present, into, both, counted}
 use Rattle.format.specs.Value.{string, anything}
 use Rattle.format.specs.Message.{Table, Note, response, head, noted, trip, app_stated, tripped, after_flags, flag_byte, list, first, table, most_items, binary}
-use Rattle.scan.specs.declared.Next.{Next}
 use Rattle.scan.specs.Shown.{shown_next}
 use Rattle.scan.proofs.Steps.{into_ends, both_ends, goes_on, halts}
 use Rattle.message.proofs.Runs.{present_ends}
@@ -25,7 +26,7 @@ module _ (l b : ℕ) (nullable : Bool) (rule : List ℕ → Verdict) (s : List �
   noted_fields width n there at = simp (note_fields there)
 
 -- what reads a noted number answers by a test that is the flag's
-module _ (l b : ℕ) (nullable : Bool) (rule : List ℕ → Verdict) (s : List ℕ) (at width n : ℕ) {t there : Bool} (same : t ≡ there) {a : Next} (e : a ≡ shown_next ((noted (number width 0) t none (string nullable rule 0 0)).read s at)) where
+module _ (l b : ℕ) (nullable : Bool) (rule : List ℕ → Verdict) (s : List ℕ) (at width n : ℕ) {t there : Bool} (same : t ≡ there) {a : Result ℕ Refusal} (e : a ≡ shown_next ((noted (number width 0) t none (string nullable rule 0 0)).read s at)) where
   pub noted_shows : a ≡ shown_next ((noted (number width n) there none (string nullable rule l b)).read s at)
   noted_shows = rw same at e ∙ sym (ap shown_next (noted_fields l b nullable rule s width n there at))
 
@@ -34,9 +35,9 @@ module _ {A B C : Type 0} (f : Format A) (g : Format B) (h : Format C) (s : List
   both_alike : shown_next (f.read s at) ≡ shown_next (g.read s at) → shown_next ((both f (λ v. h)).read s at) ≡ shown_next ((both g (λ v. h)).read s at)
   both_alike = by_end (shown_next (f.read s at)) refl
     where
-      by_end : (a : Next) → a ≡ shown_next (f.read s at) → a ≡ shown_next (g.read s at) → shown_next ((both f (λ v. h)).read s at) ≡ shown_next ((both g (λ v. h)).read s at)
-      by_end (Next.At next) e d = goes_on f h s at e refl ∙ sym (goes_on g h s at d refl)
-      by_end (Next.No r) e d = halts f h s at e refl refl ∙ sym (halts g h s at d refl refl)
+      by_end : (a : Result ℕ Refusal) → a ≡ shown_next (f.read s at) → a ≡ shown_next (g.read s at) → shown_next ((both f (λ v. h)).read s at) ≡ shown_next ((both g (λ v. h)).read s at)
+      by_end (Ok next) e d = goes_on f h s at e refl ∙ sym (goes_on g h s at d refl)
+      by_end (Err r) e d = halts f h s at e refl ∙ sym (halts g h s at d refl)
 
 -- a round trip that is there, and one that is not, with the exception after it
 module _ (s : List ℕ) (at : ℕ) (there : Bool) where
@@ -62,7 +63,7 @@ module _ (timed : Bool) (s : List ℕ) (at : ℕ) where
   head_ends = into_ends _ _ (both (block 8 22) (λ c. head_1 timed)) s at
 
   -- the last of it, by a test that is the flag's
-  pub trip_shows : {t there : Bool} → t ≡ there → {a : Next} → a ≡ shown_next ((noted (trip timed) t none (binary 38 39)).read s at)
+  pub trip_shows : {t there : Bool} → t ≡ there → {a : Result ℕ Refusal} → a ≡ shown_next ((noted (trip timed) t none (binary 38 39)).read s at)
       → a ≡ shown_next ((noted (trip timed) there none (binary 38 39)).read s at)
   trip_shows same e = rw same at e
 

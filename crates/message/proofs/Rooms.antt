@@ -1,4 +1,5 @@
 -- A table's metadata and contents, field by field; and where its columns' types stand.
+use Rattle.std.specs.Prelude.{Result, Ok, Err}
 use Prim.Native.Nat.{ℕ, zero, suc, ◌+◌, ◌-◌, ◌≤◌}
 use mathlib.Core.Path.{◌≡◌, refl, sym, ◌∙◌, ap, ap₂}
 use mathlib.Core.Bool.{false}
@@ -19,26 +20,26 @@ use Rattle.format.specs.Format.{Format, number, nothing, ruled, room, into, both
 use Rattle.format.specs.Value.{Value, string, ascii, is_column}
 use Rattle.format.specs.Message.{Metadata, metadata, table, row, column_type, count, list, second, third, most_columns, unlimited}
 use Rattle.format.proofs.Results.{ok_same, passed, spared, bound}
-use Rattle.scan.specs.declared.Next.{Next}
 use Rattle.scan.specs.Shown.{shown_next, refusal}
 use Rattle.scan.proofs.Answers.{took}
 use Rattle.scan.proofs.Params.{byte_is}
 use Rattle.scan.proofs.Steps.{into_ends, both_ends, both_stop}
-use Rattle.message.specs.declared.Columns.{Columns}
-use Rattle.message.specs.Columns.{shown_columns, columns_no}
+use Rattle.message.specs.Columns.{shown_columns}
 use Rattle.message.specs.Inner.{described, contents}
 
 -- What an answer says of the metadata that was read.
-pub columns_go : (at : ℕ) (r : Res (Metadata × ℕ)) {a : Columns} {types n next : ℕ} → a ≡ shown_columns at r → a ≡ Columns.Are types n next → (m : Metadata) × (r ≡ ok (m, next)) × (types ≡ at) × (n ≡ length m.types)
-columns_go at (ok p) e told = (p.0, ap (λ (n : ℕ). ok (p.0, n)) (cc), cc, cc)
+pub columns_go : (at : ℕ) (r : Res (Metadata × ℕ)) {a : Result (ℕ × ℕ × ℕ) Refusal} {types n next : ℕ} → a ≡ shown_columns at r → a ≡ Ok (types, n, next) → (m : Metadata) × (r ≡ ok (m, next)) × (types ≡ at) × (n ≡ length m.types)
+columns_go at (ok p) {types = types} {n = n} {next = next} e told =
+    let same : ◌≡◌ {A = ℕ × ℕ × ℕ} (at, length p.0.types, p.1) (types, n, next) = cc in
+    (p.0, ap (λ (w : ℕ × ℕ × ℕ). ok (p.0, w.2)) same, sym (ap (λ (w : ℕ × ℕ × ℕ). w.0) same), sym (ap (λ (w : ℕ × ℕ × ℕ). w.1) same))
 columns_go at (no f p) e told = absurd (let z : ◌≡◌ {A = ℕ} 0 1 = cc in omega arith)
 
-pub columns_stop : (at : ℕ) (r : Res (Metadata × ℕ)) {a : Columns} {given x : Refusal} → a ≡ shown_columns at r → a ≡ Columns.No given → x ≡ columns_no a → r ≡ no x.fault x.place
-columns_stop at (ok p) e told out = absurd (let z : ◌≡◌ {A = ℕ} 0 1 = cc in omega arith)
-columns_stop at (no f p) e told out = let same : _ ≡ refusal f p = out ∙ ap columns_no e in rw same
+pub columns_stop : (at : ℕ) (r : Res (Metadata × ℕ)) {a : Result (ℕ × ℕ × ℕ) Refusal} {x : Refusal} → a ≡ shown_columns at r → a ≡ Err x → r ≡ no x.fault x.place
+columns_stop at (ok p) e told = absurd (let z : ◌≡◌ {A = ℕ} 0 1 = cc in omega arith)
+columns_stop at (no f p) e told = cc
 
-pub same_columns : (next : ℕ) {types n at k : ℕ} → types ≡ at → n ≡ k → Columns.Are types n next ≡ Columns.Are at k next
-same_columns next e f = ap₂ (λ (a b : ℕ). Columns.Are a b next) e f
+pub same_columns : (next : ℕ) {types n at k : ℕ} → types ≡ at → n ≡ k → ◌≡◌ {A = Result (ℕ × ℕ × ℕ) Refusal} (Ok (types, n, next)) (Ok (at, k, next))
+same_columns next e f = ap₂ (λ (a b : ℕ). Ok (a, b, next)) e f
 
 module _ {A B C : Type 0} where
   pub bind_bind : (r : Res A) (f : A → Res B) (g : B → Res C) → bind (bind r f) g ≡ bind r (λ a. bind (f a) g)
@@ -134,7 +135,7 @@ cut s at n end h fit =
 
 pub described_answer : (s : List ℕ) (at : ℕ) {u a n b : ℕ} {ts : List ℕ} {d : ℕ} {ns : List (Option (List ℕ))} {next : ℕ} → (number 1 0).read s at ≡ ok (u, a) → (count 2 most_columns 0).read s a ≡ ok (n, b)
     → (each third 0 (replicate n (column_type 45))).read s b ≡ ok (ts, d) → (each third 0 (replicate n (string false ascii 46 47))).read s d ≡ ok (ns, next)
-    → Columns.Are b n next ≡ shown_columns (at + 3) (described.read s at)
+    → Ok (b, n, next) ≡ shown_columns (at + 3) (described.read s at)
 described_answer s at {u} {a} {n} {b} {ts} {d} {ns} {next} status columns types names =
     let one = took 1 0 s at u a status in
     let two = count_took 2 most_columns s a n b columns in
@@ -193,7 +194,7 @@ module _ (s : List ℕ) (at : ℕ) where
   unfolding contents
   contents_ends = into_ends _ _ (both metadata rows_of) s at
 
-  pub contents_stop : {f : Fault} {p : ℕ} → metadata.read s at ≡ no f p → shown_next (contents.read s at) ≡ Next.No (refusal f p)
+  pub contents_stop : {f : Fault} {p : ℕ} → metadata.read s at ≡ no f p → shown_next (contents.read s at) ≡ Err (refusal f p)
   contents_stop e = contents_ends ∙ ap shown_next (both_stop metadata rows_of s at e)
 
   pub contents_go : {m : Metadata} {next : ℕ} → metadata.read s at ≡ ok (m, next) → shown_next (contents.read s at) ≡ shown_next ((list 4 unlimited 48 second (row m.types)).read s next)

@@ -11,28 +11,7 @@ use Rattle.format.specs.declared.Fault.TheVariants.{Short, Negative, Limit, Extr
 use Rattle.format.specs.Result.{Res, ok, no, bind, pick}
 use Rattle.format.specs.Number.{half}
 use Rattle.format.specs.Format.{Format, number, ruled, both}
-use Rattle.format.specs.Message.{
-  Message,
-  message,
-  content_of,
-  a_login_request,
-  the_login_request,
-  login_request,
-  a_login_response,
-  the_login_response,
-  login_response,
-  an_invocation,
-  the_invocation,
-  invocation,
-  a_response,
-  the_response,
-  response,
-  newest,
-  is_layout,
-  most_message,
-  filled,
-  read_message,
-}
+use Rattle.format.specs.Message.{Message, message, content_of, a_login_request, the_login_request, login_request, a_login_response, the_login_response, login_response, an_invocation, the_invocation, invocation, a_response, the_response, response, newest, is_layout, most_message, filled, read_message}
 use Rattle.format.proofs.Results.{ok_same, spared, bound}
 use Rattle.scan.specs.Shown.{shown_next}
 use Rattle.scan.proofs.Answers.{took}

@@ -1,5 +1,7 @@
 -- Calls of the C interface are calls of the library: the state that is read from the numbers is the one that the last call left, and an answer's low 8 bits are 0
 -- exactly if it is accepted. So what is proved of the library's calls (write/proofs/Calls) holds of them.
+use Rattle.format.specs.declared.Refusal.{Refusal}
+use Rattle.std.specs.Prelude.{Result, Ok, Err}
 use Prim.Native.Nat.{ℕ, ◌+◌, ◌*◌, ◌%◌, ◌^◌, ◌<◌, ◌≤◌}
 use native.Mathlib.Omega.{arith}
 use native.Mathlib.Nat.{mod-eq_of_lt}
@@ -10,10 +12,8 @@ use lib.ListN.{length, get_or, length-append}
 use lib.Dec.{ltb}
 use borrow.Author.Tests.{lt-ltb, ltb-true}
 use Rattle.format.specs.declared.Fault.{Fault}
-use Rattle.format.specs.declared.Answer.{Answer}
-use Rattle.format.specs.declared.Answer.TheVariants.{Is, No}
 use Rattle.format.proofs.Decides.{number_small}
-use Rattle.format.specs.Result.{Res, ok, no, pick, told_answer}
+use Rattle.format.specs.Result.{Res, ok, no, pick, told}
 use Rattle.format.specs.Value.{is_column}
 use Rattle.format.specs.Message.{Message, message, message_bytes, is_kind, GoodMessage, most_columns}
 use Rattle.format.proofs.Results.{no_ok, and_true_both}
@@ -53,12 +53,12 @@ above_whole : (n : ℕ) → n < 2 ^ 56 → above n ≡ n * 2 ^ 8
 above_whole n h = mod-eq_of_lt (omega arith)
 
 -- a packed answer that is accepted
-packed_ok : (a : Answer) (r : ℕ) → r ≡ packed itself (told_answer a) → r % 2 ^ 8 ≡ 0 → (m : ℕ) × (a ≡ Is m) × (r ≡ above m)
-packed_ok (Is m) r e z = (m, refl, e)
-packed_ok (No x) r e z = absurd (refused_not x.fault x.place (ap (λ (n : ℕ). n % 2 ^ 8) (sym e) ∙ z))
+packed_ok : (a : Result ℕ Refusal) (r : ℕ) → r ≡ packed itself (told a) → r % 2 ^ 8 ≡ 0 → (m : ℕ) × (a ≡ Ok m) × (r ≡ above m)
+packed_ok (Ok m) r e z = (m, refl, e)
+packed_ok (Err x) r e z = absurd (refused_not x.fault x.place (ap (λ (n : ℕ). n % 2 ^ 8) (sym e) ∙ z))
 
-ok_packed : (a : Answer) (r n : ℕ) → r ≡ packed itself (told_answer a) → a ≡ Is n → r ≡ above n
-ok_packed a r n e i = e ∙ ap (λ (x : Answer). packed itself (told_answer x)) i
+ok_packed : (a : Result ℕ Refusal) (r n : ℕ) → r ≡ packed itself (told a) → a ≡ Ok n → r ≡ above n
+ok_packed a r n e i = e ∙ ap (λ (x : Result ℕ Refusal). packed itself (told x)) i
 
 -- the state that is read from a state's numbers
 stage_again : (s : Stage) → stage_of (stage_number s) ≡ s
@@ -109,7 +109,7 @@ read_byte ns = go (ltb (get_or ns 5 0) 256) refl
 
 -- a call of the interface that left l is one of the library with this outcome
 pub record Same (o : Outcome) (l : Left) : Type 0 where
-  pub answer : l.answer ≡ packed itself (told_answer o.answer)
+  pub answer : l.answer ≡ packed itself (told o.answer)
   pub state : state_of l.numbers ≡ o.state
 
 abbrev in_library : Outcome → Left → library.Left
@@ -180,7 +180,7 @@ begun s b = came zero (step s (seen zero []) b)
 
 module _ (s : Step) (ss : List Step) (ns types b : List ℕ) (l : Left) (w : Begun s ns types b l) (long : length types ≡ most_columns)
     (known : library.Called s zero types b (in_library (begun s b) l)) where
-  begun_same : (n : ℕ) → (begun s b).answer ≡ Is n → Same (begun s b) l
+  begun_same : (n : ℕ) → (begun s b).answer ≡ Ok n → Same (begun s b) l
   begun_same n e =
       let x = step s (seen zero []) b in
       same_from s zero ns [] b l (omega arith) (λ f p i. absurd (no_ok (sym i ∙ came_ok zero x n e))) w.0
@@ -206,7 +206,7 @@ login_here : (o : Out State) (r : ℕ) (b' : List ℕ) → WroteLogin o r b' →
 login_here o r b' w n m few e = (w.0 ∙ ap (packed itself) e.0 ∙ above_whole n few, w.1 ∙ e.1)
 
 login_there : (o : Out State) (r : ℕ) (b' : List ℕ) → WroteLogin o r b' → (n : ℕ) (m : List ℕ) → (r ≡ n * 2 ^ 8) × (b' ≡ m)
-    → (k : ℕ) × (n * 2 ^ 8 ≡ above k) × (shown_answer o.answer ≡ Is k) × (b' ≡ m)
+    → (k : ℕ) × (n * 2 ^ 8 ≡ above k) × (shown_answer o.answer ≡ Ok k) × (b' ≡ m)
 login_there o r b' w n m to =
     let a = packed_ok (shown_answer o.answer) r (w.0 ∙ ap (packed itself) (sym (told_shown_lem o.answer))) (ap (λ (x : ℕ). x % 2 ^ 8) to.0 ∙ omega arith) in
     (a.0, sym to.0 ∙ a.2, a.1, to.1)

@@ -1,5 +1,6 @@
 -- Values as four numbers in a lent list: the type, the form, and two more by the form. The form is 0 for a value of a fixed size, 1 for bytes that
 -- stand in the message, 2 for a null and 3 for an array. Parts of the message as two. And how a card fits as three.
+use Rattle.std.specs.Prelude.{Option as Maybe, Some, None}
 use Rattle.std.specs.Prelude.{ℕ, ◌+◌, ◌*◌, ◌^◌, ◌&&◌, List, [], ◌∷◌, eqb}
 use Rattle.std.proofs.Math.Option.{Option, some, none}
 use Rattle.format.specs.Result.{Res, ok, no, pick}
@@ -16,6 +17,10 @@ module _ {A : Type 0} where
   abbrev pub lent : (A → List ℕ) → Res A → List ℕ → List ℕ
   lent told (ok a) before = told a
   lent told (no f p) before = before
+
+-- what was found is in numbers already
+abbrev pub found : List ℕ → List ℕ
+found ns = ns
 
 -- a value of a fixed size by its upper and lower 64 bits; a point whose bits are those of a null is told as null
 abbrev pub bits_numbers : ℕ → ℕ → ℕ → List ℕ
@@ -39,6 +44,10 @@ given_numbers (Given.list e n) = t_array ∷ 3 ∷ e ∷ n ∷ []
 -- a part of the message by where it starts and how long it is; a null, which no place and no name is, by 0 and 0
 abbrev pub part_numbers : Option (ℕ × ℕ) → List ℕ
 part_numbers p = (span_in (ok p)).0 ∷ (span_in (ok p)).1 ∷ []
+
+abbrev pub part_in : Maybe (ℕ × ℕ) → Option (ℕ × ℕ)
+part_in (Some p) = some p
+part_in None = none
 
 -- how a card fits: 0, or the reason's number; then 1 and where a column of its type and name stands, or 0 and 0
 abbrev pub place_numbers : Option ℕ → List ℕ

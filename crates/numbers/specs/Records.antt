@@ -1,10 +1,9 @@
 -- The record of each kind of message as a list of numbers, its fields in the order of the wire. A number with a sign is its two's complement of 64
 -- bits, a block of bytes is the number that it is, and a string is where it starts and how many bytes it has.
-use Rattle.std.specs.Prelude.{ℕ, List, [], ◌∷◌}
+use Rattle.std.specs.Prelude.{ℕ, ℤ, List, [], ◌∷◌, Option, Some, None}
 use Rattle.format.specs.Number.{num_at}
 use Rattle.scan.specs.Signed.{unsigned}
 use Rattle.record.specs.declared.Span.{Span}
-use Rattle.record.specs.declared.Edition.{Edition}
 use Rattle.record.specs.declared.LoginRequestRecord.{LoginRequestRecord}
 use Rattle.record.specs.declared.LoginResponseRecord.{LoginResponseRecord}
 use Rattle.record.specs.declared.InvocationRecord.{InvocationRecord}
@@ -34,13 +33,13 @@ there Span.Null = 0
 there (Span.At start size) = 1
 
 -- 1 if a hash version is there, else 0; and the version, or 0
-abbrev pub has_edition : Edition → ℕ
-has_edition Edition.Absent = 0
-has_edition (Edition.Is z) = 1
+abbrev pub has_edition : Option ℤ → ℕ
+has_edition None = 0
+has_edition (Some z) = 1
 
-abbrev pub edition_number : Edition → ℕ
-edition_number Edition.Absent = 0
-edition_number (Edition.Is z) = unsigned 8 z
+abbrev pub edition_number : Option ℤ → ℕ
+edition_number None = 0
+edition_number (Some z) = unsigned 8 z
 
 -- kind 1
 abbrev pub login_request_numbers : LoginRequestRecord → List ℕ

@@ -1,12 +1,11 @@
 -- The writer's state as numbers: its stage's number, then each field in turn, last how many columns; their types stand in memory of their own.
-use Rattle.std.specs.Prelude.{ℕ, ◌≡◌, List, [], ◌∷◌, get_or, ltb, eqb}
+use Rattle.format.specs.declared.Refusal.{Refusal}
+use Rattle.std.specs.Prelude.{ℕ, ◌≡◌, List, [], ◌∷◌, get_or, ltb, eqb, Result, Ok, Err}
 use Rattle.format.specs.Result.{Res, ok, no, pick}
 use Rattle.steps.specs.declared.Stage.{Stage}
 use Rattle.steps.specs.declared.Stage.TheVariants.{Closed, Call, Array, Reply, Table, Row}
 use Rattle.write.specs.declared.State.{State}
 use Rattle.steps.specs.State as definition
-use Rattle.format.specs.declared.Answer.{Answer}
-use Rattle.format.specs.declared.Answer.TheVariants.{Is, No}
 use Rattle.steps.specs.State.{stage_number}
 use Rattle.steps.specs.Plans.{Out}
 use Rattle.steps.specs.Steps.{Step, step}
@@ -41,9 +40,9 @@ numbers_of s =
     stage_number s.stage ∷ s.position ∷ s.count_at ∷ s.count ∷ s.inner_at ∷ s.inner_type ∷ s.inner_count
     ∷ s.table_at ∷ s.rows_at ∷ s.rows ∷ s.columns ∷ []
 
-abbrev pub kept : List ℕ → Answer → State → List ℕ
-kept ns (Is n) s = numbers_of s
-kept ns (No r) s = ns
+abbrev pub kept : List ℕ → Result ℕ Refusal → State → List ℕ
+kept ns (Ok n) s = numbers_of s
+kept ns (Err r) s = ns
 
 abbrev pub listed : List ℕ → Res ℕ → definition.State → List ℕ
 listed ns (ok n) s = numbers_of (shown s)

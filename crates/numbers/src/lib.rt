@@ -1,38 +1,31 @@
 // Answers and the writer's state as numbers, for the C interface, which takes and gives nothing else.
 #![tactic(auto)]
 
+ghost use Rattle.format.specs.Result.{told};
 ghost use Rattle.std.specs.Prelude.{◌≡◌, [], ◌∷◌, ◌+◌, ◌*◌, ◌<◌, ◌≤◌, length};
-ghost use Rattle.format.specs.Result.{told_answer};
-ghost use Rattle.format.specs.Number.{num_at};
 ghost use Rattle.scan.specs.Signed.{unsigned};
-ghost use Rattle.message.specs.Verdict.{told_verdict};
 ghost use Rattle.fields.specs.Told.{told_owned};
-ghost use Rattle.query.specs.Answers.{told_table, told_column, told_cell, told_part, told_argument};
-ghost use Rattle.cards.specs.Reasons.{reason_number, told_place, told_fit};
+ghost use Rattle.query.specs.Answers.{given, told_part, told_argument};
+ghost use Rattle.cards.specs.Reasons.{reason_number, fit_told, told_fit};
 ghost use Rattle.steps.specs.State.{stage_number};
 ghost use Rattle.steps.specs.Steps.{open_table};
 ghost use Rattle.write.specs.Shown.{Opened};
 ghost use Rattle.columns.specs.Entries.{columns_of as entries_with};
-ghost use Rattle.columns.specs.Walks.{Bounded, add_all, put_all, FitsAll};
+ghost use Rattle.columns.specs.Walks.{add_all, put_all, FitsAll};
 ghost use Rattle.numbers.specs.Entries.{entry_at, entries_of};
 ghost use Rattle.numbers.specs.Packed.{above, packed, packed_no, nothing, itself, number_in, rows_of, columns_of, type_of};
 ghost use Rattle.numbers.specs.Stored.{stage_of, byte_of, state_of, numbers_of, kept};
-ghost use Rattle.numbers.specs.Listed.{lent, bits_numbers, cell_numbers, given_numbers, part_numbers, place_numbers, fit_numbers};
+ghost use Rattle.numbers.specs.Listed.{lent, found, bits_numbers, cell_numbers, given_numbers, part_in, part_numbers, fit_numbers};
 ghost use Rattle.numbers.specs.Records.{form, start_of, size_of, there, has_edition, edition_number, login_request_numbers, login_response_numbers, invocation_numbers, response_numbers};
 
 use cards::{Fit, Reason};
 use columns::{Column, Head, Survey};
-use fields::Owned;
-use format::{Answer, Refusal};
-use message::Verdict;
-use query::{Argued, CellAnswer, ColumnAnswer, Part, TableAnswer};
-use record::{
-    Edition, InvocationRecord, InvocationShown, LoginRequestRecord, LoginRequestShown,
-    LoginResponseRecord, LoginResponseShown, ResponseRecord, ResponseShown, Span,
-};
+use fields::Entry;
+use format::Refusal;
+use query::{Argument, ColumnLayout, TableLayout};
+use record::{InvocationRecord, LoginRequestRecord, LoginResponseRecord, ResponseRecord, Span};
 use show::{Cell, Raw};
 use steps::Stage;
-use text::Found;
 use write::{COLUMNS, Outcome, State};
 
 // A place or a number found, above the low 8 bits.
@@ -47,43 +40,41 @@ pub fn refused(refusal: Refusal) -> u64
 {
     let fault = refusal.fault;
     let place = refusal.place;
-    above(place) + format::number_of(fault) as u64
+    above(place) + u8::from(fault) as u64
 }
 
-pub fn pack_owned(answer: Owned) -> u64
+// The answer of a call that has no state, packed.
+pub fn pack_answer(answer: Result<usize, Refusal>) -> u64
+    ensures { result ≡ packed itself (told answer) }
+{
+    match answer {
+        Ok(n) => above(n),
+        Err(refusal) => refused(refusal),
+    }
+}
+
+pub fn pack_owned(answer: Result<(Entry, usize), Refusal>) -> u64
     ensures { result ≡ packed number_in (told_owned answer) }
 {
-    match answer {
-        Owned::By(_, n) => above(n),
-        Owned::No(refusal) => refused(refusal),
-    }
+    pack_answer(answer.map(|(_, n)| n))
 }
 
-pub fn pack_rows(answer: TableAnswer) -> u64
-    ensures { result ≡ packed rows_of (told_table answer) }
+pub fn pack_rows(answer: Result<TableLayout, Refusal>) -> u64
+    ensures { result ≡ packed rows_of (told answer) }
 {
-    match answer {
-        TableAnswer::Is(layout) => above(layout.rows),
-        TableAnswer::No(refusal) => refused(refusal),
-    }
+    pack_answer(answer.map(|layout| layout.rows))
 }
 
-pub fn pack_columns(answer: TableAnswer) -> u64
-    ensures { result ≡ packed columns_of (told_table answer) }
+pub fn pack_columns(answer: Result<TableLayout, Refusal>) -> u64
+    ensures { result ≡ packed columns_of (told answer) }
 {
-    match answer {
-        TableAnswer::Is(layout) => above(layout.columns),
-        TableAnswer::No(refusal) => refused(refusal),
-    }
+    pack_answer(answer.map(|layout| layout.columns))
 }
 
-pub fn pack_type(answer: ColumnAnswer) -> u64
-    ensures { result ≡ packed type_of (told_column answer) }
+pub fn pack_type(answer: Result<ColumnLayout, Refusal>) -> u64
+    ensures { result ≡ packed type_of (told answer) }
 {
-    match answer {
-        ColumnAnswer::Is(layout) => above(layout.wire_type as usize),
-        ColumnAnswer::No(refusal) => refused(refusal),
-    }
+    pack_answer(answer.map(|layout| layout.wire_type as usize))
 }
 
 fn stage_of(n: u64) -> Stage
@@ -160,38 +151,28 @@ pub fn save(numbers: &mut [u64; 11], st: State)
 
 // Packs a step's answer, and keeps the state that it leaves; a refusal leaves the numbers as they were.
 pub fn keep(numbers: &mut [u64; 11], step: Outcome) -> u64
-    ensures { (result ≡ packed itself (told_answer step.answer)) × (numbers.new ≡ kept numbers.old step.answer step.state) }
+    ensures { (result ≡ packed itself (told step.answer)) × (numbers.new ≡ kept numbers.old step.answer step.state) }
 {
     let answer = step.answer;
     let state = step.state;
     match answer {
-        Answer::Is(n) => {
+        Ok(n) => {
             save(numbers, state);
             above(n)
         }
-        Answer::No(refusal) => refused(refusal),
+        Err(refusal) => refused(refusal),
     }
 }
 
-// The answer of a call that has no state, packed.
-pub fn pack_answer(answer: Answer) -> u64
-    ensures { result ≡ packed itself (told_answer answer) }
-{
-    match answer {
-        Answer::Is(n) => above(n),
-        Answer::No(refusal) => refused(refusal),
-    }
-}
-
-// Three numbers of a list as a column: its type, and where its name stands.
-fn column_at(list: &[u64], i: usize) -> Column
-    requires { i + 3 ≤ length list.now }
-    ensures { result ≡ entry_at list.now i }
+// Three numbers as a column: its type, and where its name stands.
+fn column_of(entry: &[u64]) -> Column
+    requires { length entry.now ≡ 3 }
+    ensures { result ≡ entry_at entry.now 0 }
 {
     Column {
-        wire_type: byte_of(list[i]),
-        start: list[i + 1] as usize,
-        size: list[i + 2] as usize,
+        wire_type: byte_of(entry[0]),
+        start: entry[1] as usize,
+        size: entry[2] as usize,
     }
 }
 
@@ -213,14 +194,11 @@ pub fn open_listed(
 
 // What is found of the columns of a list of numbers, behind those of a survey.
 fn survey_listed(s: Survey, list: &[u64], names: &[u8]) -> Survey
-    requires { Bounded s }
     ensures { result ≡ add_all names.now s (entries_of list.now) }
 {
     let mut found = s;
-    let mut i = 0;
-    while 3 <= list.len() - i {
-        found = columns::surveyed(found, column_at(list, i), names);
-        i += 3;
+    for entry in list.chunks_exact(3) {
+        found = columns::surveyed(found, column_of(entry), names);
     }
     found
 }
@@ -237,10 +215,8 @@ fn put_listed(
     ensures { (result ≡ head.step) × (out.exit.now ≡ (put_all names.now (record { out = out.entry.now; types = types.old; walk = head.walk }) (entries_of list.now)).out) × (types.new ≡ (put_all names.now (record { out = out.entry.now; types = types.old; walk = head.walk }) (entries_of list.now)).types) }
 {
     let mut walk = columns::walk_in(head);
-    let mut i = 0;
-    while 3 <= list.len() - i {
-        walk = columns::put_column(out, types, walk, column_at(list, i), names);
-        i += 3;
+    for entry in list.chunks_exact(3) {
+        walk = columns::put_column(out, types, walk, column_of(entry), names);
     }
     columns::step_in(head)
 }
@@ -279,59 +255,59 @@ fn list_cell(c: Cell) -> [u64; 4]
     }
 }
 
-// Lends a cell or an element.
-pub fn lend_cell(list: &mut [u64; 4], answer: CellAnswer) -> u64
-    ensures { (result ≡ packed nothing (told_cell answer)) × (list.new ≡ lent cell_numbers (told_cell answer) list.old) }
+// Lends what was found; a refusal leaves the list as it was.
+pub fn lend<const N: usize>(list: &mut [u64; N], answer: Result<[u64; N], Refusal>) -> u64
+    ensures { (result ≡ packed nothing (told answer.entry)) × (list.new ≡ lent found (told answer.entry) list.old) }
 {
     match answer {
-        CellAnswer::Is(c) => {
-            let found = list_cell(c);
-            *list = found;
+        Ok(numbers) => {
+            *list = numbers;
             0
         }
-        CellAnswer::No(refusal) => refused(refusal),
+        Err(refusal) => refused(refusal),
+    }
+}
+
+// Lends a cell or an element.
+pub fn lend_cell(list: &mut [u64; 4], answer: Result<Cell, Refusal>) -> u64
+    ensures { (result ≡ packed nothing (told answer)) × (list.new ≡ lent cell_numbers (told answer) list.old) }
+{
+    lend(list, answer.map(list_cell))
+}
+
+// The numbers of a parameter.
+fn list_argument(argument: Argument) -> [u64; 4]
+    ensures { result ≡ given_numbers (given argument) }
+{
+    match argument {
+        Argument::Null => four(format::NULL, 2, 0, 0),
+        Argument::One(c) => list_cell(c),
+        Argument::Array(t, n) => four(format::ARRAY, 3, t as u64, n as u64),
     }
 }
 
 // Lends a parameter.
-pub fn lend_argument(list: &mut [u64; 4], answer: Argued) -> u64
+pub fn lend_argument(list: &mut [u64; 4], answer: Result<Argument, Refusal>) -> u64
     ensures { (result ≡ packed nothing (told_argument answer)) × (list.new ≡ lent given_numbers (told_argument answer) list.old) }
 {
-    match answer {
-        Argued::Null => {
-            let found = four(format::NULL, 2, 0, 0);
-            *list = found;
-            0
-        }
-        Argued::One(c) => {
-            let found = list_cell(c);
-            *list = found;
-            0
-        }
-        Argued::Array(t, n) => {
-            let found = four(format::ARRAY, 3, t as u64, n as u64);
-            *list = found;
-            0
-        }
-        Argued::No(refusal) => refused(refusal),
+    lend(list, answer.map(list_argument))
+}
+
+// The numbers of a part of the message.
+fn list_part(part: Option<(usize, usize)>) -> [u64; 2]
+    ensures { result ≡ part_numbers (part_in part) }
+{
+    match part {
+        Some((start, size)) => [start as u64, size as u64],
+        None => [0, 0],
     }
 }
 
 // Lends a part of the message.
-pub fn lend_part(list: &mut [u64; 2], answer: Part) -> u64
+pub fn lend_part(list: &mut [u64; 2], answer: Result<Option<(usize, usize)>, Refusal>) -> u64
     ensures { (result ≡ packed nothing (told_part answer)) × (list.new ≡ lent part_numbers (told_part answer) list.old) }
 {
-    match answer {
-        Part::Is(start, size) => {
-            *list = [start as u64, size as u64];
-            0
-        }
-        Part::Null => {
-            *list = [0, 0];
-            0
-        }
-        Part::No(refusal) => refused(refusal),
-    }
+    lend(list, answer.map(list_part))
 }
 
 fn reason_number(reason: Reason) -> u64
@@ -344,32 +320,22 @@ fn reason_number(reason: Reason) -> u64
     }
 }
 
-// The numbers of a reason, and of where a column stands, if one does.
-fn list_fit(reason: u64, place: Found) -> [u64; 3]
-    ensures { result ≡ reason ∷ place_numbers (told_place place) }
+// The numbers of how a card fits: of a reason, and of where a column stands, if one does.
+fn list_fit(fit: Fit) -> [u64; 3]
+    ensures { result ≡ fit_numbers (fit_told fit) }
 {
-    match place {
-        Found::At(i) => [reason, 1, i as u64],
-        Found::Nothing => [reason, 0, 0],
+    match fit {
+        Fit::Fits => [0, 0, 0],
+        Fit::Stale(reason, Some(i)) => [reason_number(reason), 1, i as u64],
+        Fit::Stale(reason, None) => [reason_number(reason), 0, 0],
     }
 }
 
 // Lends how a card fits.
-pub fn lend_fit(list: &mut [u64; 3], answer: Fit) -> u64
+pub fn lend_fit(list: &mut [u64; 3], answer: Result<Fit, Refusal>) -> u64
     ensures { (result ≡ packed nothing (told_fit answer)) × (list.new ≡ lent fit_numbers (told_fit answer) list.old) }
 {
-    match answer {
-        Fit::Fits => {
-            *list = [0, 0, 0];
-            0
-        }
-        Fit::Stale(reason, place) => {
-            let found = list_fit(reason_number(reason), place);
-            *list = found;
-            0
-        }
-        Fit::No(refusal) => refused(refusal),
-    }
+    lend(list, answer.map(list_fit))
 }
 
 // A number with a sign, by its two's complement of 64 bits.
@@ -383,22 +349,6 @@ fn wide32(z: i32) -> u64
     ensures { result ≡ unsigned 8 z }
 {
     scan::unsigned64(z as i64)
-}
-
-// The number that 4 bytes are.
-fn number4(a: u8, b: u8, c: u8, d: u8) -> u64
-    ensures { (result ≡ a * 16777216 + b * 65536 + c * 256 + d) × (result < 4294967296) }
-{
-    a as u64 * 0x100_0000 + b as u64 * 0x1_0000 + c as u64 * 0x100 + d as u64
-}
-
-// The number that 8 bytes are.
-fn number8(b: [u8; 8]) -> u64
-    ensures { result ≡ num_at 8 b 0 }
-{
-    let upper = number4(b[0], b[1], b[2], b[3]);
-    let lower = number4(b[4], b[5], b[6], b[7]);
-    upper * 0x1_0000_0000 + lower
 }
 
 // A string as numbers: its form, where it starts and how many bytes it has.
@@ -442,22 +392,22 @@ fn there(s: Span) -> u64
 }
 
 // Whether a hash version is there: 1 or 0.
-fn has_edition(e: Edition) -> u64
+fn has_edition(e: Option<i8>) -> u64
     ensures { result ≡ has_edition e }
 {
     match e {
-        Edition::Is(_) => 1,
-        Edition::Absent => 0,
+        Some(_) => 1,
+        None => 0,
     }
 }
 
 // A hash version, or 0.
-fn edition_number(e: Edition) -> u64
+fn edition_number(e: Option<i8>) -> u64
     ensures { result ≡ edition_number e }
 {
     match e {
-        Edition::Is(z) => wide8(z),
-        Edition::Absent => 0,
+        Some(z) => wide8(z),
+        None => 0,
     }
 }
 
@@ -489,7 +439,6 @@ fn list_login_response(r: LoginResponseRecord) -> [u64; 9]
     ensures { result ≡ login_response_numbers r }
 {
     let text = r.build;
-    let leader = r.leader;
     let build = shape_of(text);
     [
         wide8(r.version),
@@ -497,7 +446,7 @@ fn list_login_response(r: LoginResponseRecord) -> [u64; 9]
         wide32(r.host),
         scan::unsigned64(r.connection),
         scan::unsigned64(r.start),
-        number4(leader[0], leader[1], leader[2], leader[3]),
+        u32::from_be_bytes(r.leader) as u64,
         there(text),
         build.start,
         build.size,
@@ -508,13 +457,12 @@ fn list_invocation(r: InvocationRecord) -> [u64; 6]
     ensures { result ≡ invocation_numbers r }
 {
     let text = r.procedure;
-    let client = r.client;
     let procedure = shape_of(text);
     [
         wide8(r.version),
         procedure.start,
         procedure.size,
-        number8(client),
+        u64::from_be_bytes(r.client),
         r.params as u64,
         r.params_at as u64,
     ]
@@ -523,7 +471,6 @@ fn list_invocation(r: InvocationRecord) -> [u64; 6]
 fn list_response(r: ResponseRecord) -> [u64; 17]
     ensures { result ≡ response_numbers r }
 {
-    let client = r.client;
     let status_string = r.status_string;
     let app_string = r.app_string;
     let blob = r.exception;
@@ -532,7 +479,7 @@ fn list_response(r: ResponseRecord) -> [u64; 17]
     let exception = shape_of(blob);
     [
         wide8(r.version),
-        number8(client),
+        u64::from_be_bytes(r.client),
         r.flags as u64,
         wide8(r.status),
         status.form,
@@ -552,62 +499,26 @@ fn list_response(r: ResponseRecord) -> [u64; 17]
 }
 
 // Lends the record of a login request. So it is of the three kinds below.
-pub fn lend_login_request(list: &mut [u64; 9], answer: LoginRequestShown) -> u64
-    ensures { (result ≡ packed nothing (told_verdict answer.verdict)) × (list.new ≡ lent (λ _. login_request_numbers answer.shown) (told_verdict answer.verdict) list.old) }
+pub fn lend_login_request(list: &mut [u64; 9], answer: Result<LoginRequestRecord, Refusal>) -> u64
+    ensures { (result ≡ packed nothing (told answer)) × (list.new ≡ lent login_request_numbers (told answer) list.old) }
 {
-    let verdict = answer.verdict;
-    let shown = answer.shown;
-    match verdict {
-        Verdict::Fine => {
-            let found = list_login_request(shown);
-            *list = found;
-            0
-        }
-        Verdict::No(refusal) => refused(refusal),
-    }
+    lend(list, answer.map(list_login_request))
 }
 
-pub fn lend_login_response(list: &mut [u64; 9], answer: LoginResponseShown) -> u64
-    ensures { (result ≡ packed nothing (told_verdict answer.verdict)) × (list.new ≡ lent (λ _. login_response_numbers answer.shown) (told_verdict answer.verdict) list.old) }
+pub fn lend_login_response(list: &mut [u64; 9], answer: Result<LoginResponseRecord, Refusal>) -> u64
+    ensures { (result ≡ packed nothing (told answer)) × (list.new ≡ lent login_response_numbers (told answer) list.old) }
 {
-    let verdict = answer.verdict;
-    let shown = answer.shown;
-    match verdict {
-        Verdict::Fine => {
-            let found = list_login_response(shown);
-            *list = found;
-            0
-        }
-        Verdict::No(refusal) => refused(refusal),
-    }
+    lend(list, answer.map(list_login_response))
 }
 
-pub fn lend_invocation(list: &mut [u64; 6], answer: InvocationShown) -> u64
-    ensures { (result ≡ packed nothing (told_verdict answer.verdict)) × (list.new ≡ lent (λ _. invocation_numbers answer.shown) (told_verdict answer.verdict) list.old) }
+pub fn lend_invocation(list: &mut [u64; 6], answer: Result<InvocationRecord, Refusal>) -> u64
+    ensures { (result ≡ packed nothing (told answer)) × (list.new ≡ lent invocation_numbers (told answer) list.old) }
 {
-    let verdict = answer.verdict;
-    let shown = answer.shown;
-    match verdict {
-        Verdict::Fine => {
-            let found = list_invocation(shown);
-            *list = found;
-            0
-        }
-        Verdict::No(refusal) => refused(refusal),
-    }
+    lend(list, answer.map(list_invocation))
 }
 
-pub fn lend_response(list: &mut [u64; 17], answer: ResponseShown) -> u64
-    ensures { (result ≡ packed nothing (told_verdict answer.verdict)) × (list.new ≡ lent (λ _. response_numbers answer.shown) (told_verdict answer.verdict) list.old) }
+pub fn lend_response(list: &mut [u64; 17], answer: Result<ResponseRecord, Refusal>) -> u64
+    ensures { (result ≡ packed nothing (told answer)) × (list.new ≡ lent response_numbers (told answer) list.old) }
 {
-    let verdict = answer.verdict;
-    let shown = answer.shown;
-    match verdict {
-        Verdict::Fine => {
-            let found = list_response(shown);
-            *list = found;
-            0
-        }
-        Verdict::No(refusal) => refused(refusal),
-    }
+    lend(list, answer.map(list_response))
 }

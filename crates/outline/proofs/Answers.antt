@@ -5,7 +5,8 @@ use mathlib.Core.Bool.{Bool, true}
 use mathlib.Core.List.{List}
 use lib.ListN.{length}
 use lib.Dec.{leb}
-use Rattle.format.specs.declared.Answer.{Answer}
+use Rattle.std.specs.Prelude.{Result}
+use Rattle.format.specs.declared.Refusal.{Refusal}
 use Rattle.format.specs.declared.Fault.TheVariants.{Geography}
 use Rattle.format.specs.Format.{Verdict, fine}
 use Rattle.format.specs.Message.{unlimited}
@@ -26,14 +27,14 @@ no_limit (add_vertex x y z) st size = refl
 no_limit (close_ring k) st size = refl
 no_limit (finish_area k) st size = refl
 
-answers : (s : Step) (st : State) (size : ℕ) {permitted limits : Bool} {v : Verdict} (k : ℕ) {a : Answer} → let p = plan s st size in
+answers : (s : Step) (st : State) (size : ℕ) {permitted limits : Bool} {v : Verdict} (k : ℕ) {a : Result ℕ Refusal} → let p = plan s st size in
     length p.bytes ≡ k → permitted ≡ p.permitted → v ≡ p.faults → limits ≡ p.limits → a ≡ shown_answer (answer_within (p.at + k) permitted v limits p.at k size) → a ≡ shown_answer (answer_of p size)
 answers s st size k l e f g h = h ∙ rw (e, f, g, ← l, no_limit s st size)
 
-pub begin_answer : (edition internal size : ℕ) {a : Answer} → a ≡ shown_answer (answer_within (0 + area_head) true fine true 0 area_head size) → a ≡ shown_answer (answer_of (plan (begin_area edition internal) (closed 0) size) size)
+pub begin_answer : (edition internal size : ℕ) {a : Result ℕ Refusal} → a ≡ shown_answer (answer_within (0 + area_head) true fine true 0 area_head size) → a ≡ shown_answer (answer_of (plan (begin_area edition internal) (closed 0) size) size)
 begin_answer edition internal size h = answers (begin_area edition internal) (closed 0) size area_head (begun_size edition internal) refl refl refl h
 
-module _ (st : State) (size : ℕ) {permitted : Bool} {a : Answer} where
+module _ (st : State) (size : ℕ) {permitted : Bool} {a : Result ℕ Refusal} where
   pub open_answer : (mark : ℕ) {more : Bool} → permitted ≡ at_stage Area st size → more ≡ leb (st.rings + 1) unlimited
       → a ≡ shown_answer (answer_within (st.position + ring_head) permitted fine more st.position ring_head size) → a ≡ shown_answer (answer_of (plan (open_ring mark) st size) size)
   open_answer mark e f h = answers (open_ring mark) st size ring_head (opened_size mark) e refl f h

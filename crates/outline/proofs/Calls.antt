@@ -5,7 +5,7 @@ use Prim.Native.Nat.{ℕ, ◌≤◌}
 use mathlib.Core.Path.{◌≡◌, refl, sym, ap, ◌∙◌, subst}
 use mathlib.Core.List.{List, [], ◌∷◌, ◌++◌}
 use lib.ListN.{length, take}
-use Rattle.format.specs.declared.Answer.TheVariants.{Is}
+use Rattle.std.specs.Prelude.{Ok}
 use Rattle.format.specs.Result.{ok}
 use Rattle.format.specs.Geography.{Polygon, polygon, read_polygon}
 use Rattle.format.proofs.Results.{ok_same}
@@ -40,18 +40,18 @@ next_position (finish_area k) st size n = refl
 
 module _ (s : Step) (st : State) (b : List ℕ) (l : Left) (called : Stepped s st b l.came l.buffer) where
   -- a call is accepted where its step is
-  goes→accepted : (n : ℕ) → (step s st b).answer ≡ ok n → l.came.answer ≡ Is n
+  goes→accepted : (n : ℕ) → (step s st b).answer ≡ ok n → l.came.answer ≡ Ok n
   goes→accepted n e = ap (λ (o : Outcome). o.answer) called.0 ∙ ap shown_answer e
 
   -- and the steps behind an accepted one go on from what it left
-  accepted→goes : (n : ℕ) → l.came.answer ≡ Is n → (step s st b ≡ record { answer = ok n; state = l.came.state; buffer = l.buffer }) × (l.came.state.position ≡ n)
+  accepted→goes : (n : ℕ) → l.came.answer ≡ Ok n → (step s st b ≡ record { answer = ok n; state = l.came.state; buffer = l.buffer }) × (l.came.state.position ≡ n)
   accepted→goes n e =
       let said : (step s st b).answer ≡ ok n = shown_ok (step s st b).answer (ap (λ (o : Outcome). o.answer) called.0) e in
       let state : l.came.state ≡ (step s st b).state = ap (λ (o : Outcome). o.state) called.0 in
       let next = ap (λ (o : Out State). o.state) (step_ok s st b n said).1 in
       (sym (rw (state, called.1, ← said)), ap (λ (x : State). x.position) (state ∙ next) ∙ next_position s st (length b) n)
 
-  goes_on : (ss : List Step) (n : ℕ) → l.came.answer ≡ Is n → run (s ∷ ss) st b ≡ run ss l.came.state l.buffer
+  goes_on : (ss : List Step) (n : ℕ) → l.came.answer ≡ Ok n → run (s ∷ ss) st b ≡ run ss l.came.state l.buffer
   unfolding run
   goes_on ss n e = ap (λ (o : Out State). after o (run ss)) (accepted→goes n e).0
 
@@ -64,7 +64,7 @@ run→chain s [] st b n b' e l called c =
     let a = goes→accepted s st b l called m.0 m.1 in
     let on = goes_on s st b l called [] m.0 a in
     let here = (accepted→goes s st b l called m.0 a).1 in
-    (a ∙ ap Is (sym here ∙ ok_same (sym (ap (λ (o : Out State). o.answer) on) ∙ e.0)), sym (ap (λ (o : Out State). o.buffer) on) ∙ e.1)
+    (a ∙ ap Ok (sym here ∙ ok_same (sym (ap (λ (o : Out State). o.answer) on) ∙ e.0)), sym (ap (λ (o : Out State). o.buffer) on) ∙ e.1)
 run→chain s (t ∷ ss) st b n b' e l called c =
     let m = first_ok (step s st b) (run (t ∷ ss)) n e.0 in
     let a = goes→accepted s st b l called m.0 m.1 in

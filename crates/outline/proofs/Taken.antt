@@ -7,12 +7,12 @@ use mathlib.Core.List.{List}
 use lib.ListN.{length}
 use lib.Dec.{leb, eqb}
 use borrow.Author.Tests.{leb-true}
+use Rattle.std.specs.Prelude.{Result, Ok, Err}
 use Rattle.format.specs.declared.Refusal.{Refusal}
-use Rattle.format.specs.declared.Answer.{Answer}
-use Rattle.format.specs.declared.Answer.TheVariants.{Is, No}
-use Rattle.format.specs.Result.{Res, ok, no}
+use Rattle.format.specs.Result.{Res, ok}
 use Rattle.format.specs.Message.{unlimited}
 use Rattle.format.proofs.Results.{and_true_both}
+use Rattle.scan.proofs.Answers.{shown_go, shown_stop}
 use Rattle.put.specs.Put.{put}
 use Rattle.steps.specs.Plans.{answer_of, carry, fill_all}
 use Rattle.steps.proofs.Plans.{Accepted, answer_ok}
@@ -24,26 +24,21 @@ use Rattle.outline.specs.State.{area_head, ring_head, stage_number, sound, at_st
 use Rattle.outline.specs.Steps.{Step, plan, step}
 use Rattle.outline.specs.Shown.{Stepped}
 
-pub shown_ok : (r : Res ℕ) {a : Answer} {n : ℕ} → a ≡ shown_answer r → a ≡ Is n → r ≡ ok n
-shown_ok (ok m) e f = cc
-shown_ok (no g p) e f = let z : Is _ ≡ No _ = sym f ∙ e in cc
-
-shown_no : (r : Res ℕ) {a : Answer} {x : Refusal} → a ≡ shown_answer r → a ≡ No x → r ≡ no x.fault x.place
-shown_no (ok m) e f = let z : No _ ≡ Is _ = sym f ∙ e in cc
-shown_no (no g p) e f = let z : No _ ≡ No _ = sym f ∙ e in cc
+pub shown_ok : (r : Res ℕ) {a : Result ℕ Refusal} {n : ℕ} → a ≡ shown_answer r → a ≡ Ok n → r ≡ ok n
+shown_ok = shown_go
 
 module _ (s : Step) (st : State) (b : List ℕ) where
-  pub step_refused : {a : Answer} {x : Refusal} → a ≡ shown_answer (answer_of (plan s st (length b)) (length b)) → a ≡ No x → Stepped s st b (record { answer = a; state = st }) b
+  pub step_refused : {a : Result ℕ Refusal} {x : Refusal} → a ≡ shown_answer (answer_of (plan s st (length b)) (length b)) → a ≡ Err x → Stepped s st b (record { answer = a; state = st }) b
   unfolding step carry
   step_refused {a} {x} e f =
-      let r = shown_no (answer_of (plan s st (length b)) (length b)) e f in
-      (sym (rw r (ap {B = Outcome} (λ (y : Answer). record { answer = y; state = st }) (sym f))), sym (rw r))
+      let r = shown_stop (answer_of (plan s st (length b)) (length b)) e f in
+      (sym (rw r (ap {B = Outcome} (λ (y : Result ℕ Refusal). record { answer = y; state = st }) (sym f))), sym (rw r))
 
-  pub step_accepted : {a : Answer} {n : ℕ} → let p = plan s st (length b) in a ≡ shown_answer (answer_of p (length b)) → a ≡ Is n → Accepted p (length b) n
+  pub step_accepted : {a : Result ℕ Refusal} {n : ℕ} → let p = plan s st (length b) in a ≡ shown_answer (answer_of p (length b)) → a ≡ Ok n → Accepted p (length b) n
   step_accepted {a} {n} e f = answer_ok (plan s st (length b)) (length b) n (shown_ok (answer_of (plan s st (length b)) (length b)) e f)
 
-  pub step_taken : {a : Answer} {n : ℕ} {next : State} {c : List ℕ} → let p = plan s st (length b) in a ≡ shown_answer (answer_of p (length b)) → a ≡ Is n
-      → next ≡ p.next n → c ≡ fill_all p.fills (put b p.at p.bytes) → Stepped s st b (record { answer = Is n; state = next }) c
+  pub step_taken : {a : Result ℕ Refusal} {n : ℕ} {next : State} {c : List ℕ} → let p = plan s st (length b) in a ≡ shown_answer (answer_of p (length b)) → a ≡ Ok n
+      → next ≡ p.next n → c ≡ fill_all p.fills (put b p.at p.bytes) → Stepped s st b (record { answer = Ok n; state = next }) c
   unfolding step carry
   step_taken {a} {n} {next} e f g h =
       let r = shown_ok (answer_of (plan s st (length b)) (length b)) e f in

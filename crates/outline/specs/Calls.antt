@@ -1,9 +1,8 @@
 -- Calls of the functions: that of a begin and those of the steps behind it, each on the state and the buffer that the last one left. Nothing here says that a
 -- call is accepted, and of its arguments no more is said than their types say.
-use Rattle.std.specs.Prelude.{ℕ, ◌<◌, ◌≡◌, List, [], ◌∷◌, ◌++◌, length, take}
+use Rattle.std.specs.Prelude.{ℕ, ◌<◌, ◌≡◌, List, [], ◌∷◌, ◌++◌, length, take, Ok}
 use Rattle.format.specs.Result.{ok}
 use Rattle.format.specs.Geography.{Polygon, polygon, read_polygon}
-use Rattle.format.specs.declared.Answer.TheVariants.{Is}
 use Rattle.steps.specs.Writings.{overlaid}
 use Rattle.outline.specs.declared.Outcome.{Outcome}
 use Rattle.outline.specs.State.{closed}
@@ -23,8 +22,8 @@ Chain (s ∷ ss) l = Held s × (next : Left) × Stepped s l.came.state l.buffer 
 
 -- from a call that left l on each was accepted, and the last answered n and left the buffer b'
 abbrev pub ChainTo : (ss : List Step) (l : Left) → Chain ss l → ℕ → List ℕ → Type 0
-ChainTo [] l c n b' = (l.came.answer ≡ Is n) × (l.buffer ≡ b')
-ChainTo (s ∷ ss) l c n b' = ((m : ℕ) × (l.came.answer ≡ Is m)) × ChainTo ss c.1 c.3 n b'
+ChainTo [] l c n b' = (l.came.answer ≡ Ok n) × (l.buffer ≡ b')
+ChainTo (s ∷ ss) l c n b' = ((m : ℕ) × (l.came.answer ≡ Ok m)) × ChainTo ss c.1 c.3 n b'
 
 -- the calls of a begin and of the steps behind it on a buffer b
 abbrev pub Calls : ℕ → ℕ → List Step → List ℕ → Type 0

@@ -12,7 +12,7 @@ ghost use Rattle.outline.specs.State.{ring_head, closed, area_state, ring_state,
 ghost use Rattle.outline.specs.Steps.{begin_area, open_ring, add_vertex, close_ring, finish_area};
 ghost use Rattle.outline.specs.Shown.{Stepped};
 
-use format::{Answer, Fault, Refusal};
+use format::{Fault, Refusal};
 
 // What is open: nothing, an area, or a ring of it.
 #[derive(Clone, Copy)]
@@ -36,7 +36,7 @@ pub struct State {
 // A step's answer, and the state after it.
 #[derive(Clone, Copy)]
 pub struct Outcome {
-    pub answer: Answer,
+    pub answer: Result<usize, Refusal>,
     pub state: State,
 }
 
@@ -54,10 +54,10 @@ const FEWEST_VERTICES: usize = format::FEWEST_VERTICES as usize;
 pub fn begin(out: &mut [u8], edition: u8, internal: u8) -> Outcome
     ensures { Stepped (begin_area edition internal) (closed 0) out.old result out.new }
 {
-    let a = judge(true, true, true, 0, AREA_HEAD, out.len());
-    let Answer::Is(n) = a else {
+    let answer = judge(true, true, true, 0, AREA_HEAD, out.len());
+    let Ok(n) = answer else {
         return Outcome {
-            answer: a,
+            answer,
             state: nothing_open(0),
         };
     };
@@ -66,7 +66,7 @@ pub fn begin(out: &mut [u8], edition: u8, internal: u8) -> Outcome
     let count = put::number_at(out, third, 0, 1);
     put::number_at(out, count, 0, 4);
     Outcome {
-        answer: a,
+        answer,
         state: between_rings(n, 0),
     }
 }
@@ -79,17 +79,14 @@ pub fn open_ring(out: &mut [u8], st: State, mark: u8) -> Outcome
     let size = out.len();
     let permitted = at_area(st, size);
     let more = write::one_more(st.rings, MOST);
-    let a = judge(permitted, true, more, at, RING_HEAD, size);
-    let Answer::Is(n) = a else {
-        return Outcome {
-            answer: a,
-            state: st,
-        };
+    let answer = judge(permitted, true, more, at, RING_HEAD, size);
+    let Ok(n) = answer else {
+        return Outcome { answer, state: st };
     };
     let count = put::number_at(out, at, mark as u64, 1);
     put::number_at(out, count, 0, 4);
     Outcome {
-        answer: a,
+        answer,
         state: in_ring(n, st.rings + 1, at, 0),
     }
 }
@@ -102,18 +99,15 @@ pub fn add_vertex(out: &mut [u8], st: State, x: u64, y: u64, z: u64) -> Outcome
     let size = out.len();
     let permitted = at_ring(st, size);
     let more = write::one_more(st.vertices, MOST);
-    let a = judge(permitted, true, more, at, format::VERTEX, size);
-    let Answer::Is(n) = a else {
-        return Outcome {
-            answer: a,
-            state: st,
-        };
+    let answer = judge(permitted, true, more, at, format::VERTEX, size);
+    let Ok(n) = answer else {
+        return Outcome { answer, state: st };
     };
     let second = put::number_at(out, at, x, 8);
     let third = put::number_at(out, second, y, 8);
     put::number_at(out, third, z, 8);
     Outcome {
-        answer: a,
+        answer,
         state: in_ring(n, st.rings, st.ring_at, st.vertices + 1),
     }
 }
@@ -127,17 +121,14 @@ pub fn close_ring(out: &mut [u8], st: State, kept: &[u8; format::RING_KEPT]) -> 
     let size = out.len();
     let permitted = at_ring(st, size);
     let enough = FEWEST_VERTICES <= st.vertices;
-    let a = judge(permitted, enough, true, at, format::RING_KEPT, size);
-    let Answer::Is(n) = a else {
-        return Outcome {
-            answer: a,
-            state: st,
-        };
+    let answer = judge(permitted, enough, true, at, format::RING_KEPT, size);
+    let Ok(n) = answer else {
+        return Outcome { answer, state: st };
     };
     put::bytes_at(out, at, block);
     put::number_at(out, st.ring_at + 1, st.vertices as u64, 4);
     Outcome {
-        answer: a,
+        answer,
         state: between_rings(n, st.rings),
     }
 }
@@ -151,24 +142,28 @@ pub fn finish(out: &mut [u8], st: State, kept: &[u8; format::AREA_KEPT]) -> Outc
     let size = out.len();
     let permitted = at_area(st, size);
     let enough = 1 <= st.rings;
-    let a = judge(permitted, enough, true, at, format::AREA_KEPT, size);
-    let Answer::Is(n) = a else {
-        return Outcome {
-            answer: a,
-            state: st,
-        };
+    let answer = judge(permitted, enough, true, at, format::AREA_KEPT, size);
+    let Ok(n) = answer else {
+        return Outcome { answer, state: st };
     };
     put::bytes_at(out, at, block);
     put::number_at(out, 2, holes_of(st.rings), 1);
     put::number_at(out, 3, st.rings as u64, 4);
     Outcome {
-        answer: a,
+        answer,
         state: nothing_open(n),
     }
 }
 
 // The answer of a step that writes so many bytes at a place: 13, 25 for too few rings or vertices, 3 for one too many, then 8.
-fn judge(permitted: bool, enough: bool, more: bool, at: usize, bytes: usize, size: usize) -> Answer
+fn judge(
+    permitted: bool,
+    enough: bool,
+    more: bool,
+    at: usize,
+    bytes: usize,
+    size: usize,
+) -> Result<usize, Refusal>
     requires { (permitted ≡ true → at ≤ size) × (bytes ≤ 38) × (size + 38 < 2 ^ 64) }
     ensures { result ≡ shown_answer (answer_within (at + bytes) permitted (test enough Geography at) more at bytes size) }
 {
@@ -185,13 +180,13 @@ fn judge(permitted: bool, enough: bool, more: bool, at: usize, bytes: usize, siz
     if size < reached {
         return refuse(Fault::Output, reached);
     }
-    Answer::Is(reached)
+    Ok(reached)
 }
 
-fn refuse(fault: Fault, place: usize) -> Answer
+fn refuse(fault: Fault, place: usize) -> Result<usize, Refusal>
     ensures { result ≡ shown_answer (no fault place) }
 {
-    Answer::No(Refusal { fault, place })
+    Err(Refusal { fault, place })
 }
 
 // The number of a stage.

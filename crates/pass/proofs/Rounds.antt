@@ -17,11 +17,10 @@ module _ {A : Type 0} (at-index : ℕ → Index → Index) (r : ℕ → Format A
 
   -- at the i-th of n values that begin at from
   pub record Round (i at : ℕ) : Type 0 where
-    pub few : i ≤ n
     pub left : (all : List A) (end : ℕ) → (rest 0).read s from ≡ ok (all, end) → (others : List A) × ((rest i).read s at ≡ ok (others, end))
 
   pub round_first : Round 0 from
-  round_first = record { few = omega arith; left = λ all end e. (all, e) }
+  round_first = record { left = λ all end e. (all, e) }
 
   pub round_last : {i at : ℕ} → n ≤ i → Round i at → Passes (rest 0) s from at
   unfolding each nothing formats
@@ -46,7 +45,6 @@ module _ {A : Type 0} (at-index : ℕ → Index → Index) (r : ℕ → Format A
   pub round_next : (i : ℕ) {at next : ℕ} → i < n → Round i at → Passes (r i) s at next → Round (i + 1) next
   unfolding formats
   round_next i h w t = record {
-    few = omega arith;
     left = λ all end e.
         let one : n - i ≡ suc (n - (i + 1)) = omega arith in
         let z = rw one at (w.left all end e) in

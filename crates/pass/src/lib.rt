@@ -57,10 +57,8 @@ pub fn pass_cells(s: &[u8], from: usize, types: &[u8]) -> usize
     ensures { Passes (each third 0 (map (value 50 51) types.now)) s.now from result }
 {
     let mut at = from;
-    let mut k = 0;
-    while k < types.len() {
-        at = pass_cell(s, at, types[k]);
-        k += 1;
+    for &t in types {
+        at = pass_cell(s, at, t);
     }
     at
 }
@@ -70,10 +68,8 @@ pub fn pass_values(s: &[u8], from: usize, t: u8, n: usize) -> usize
     ensures { Passes (each second 0 (replicate n (value 27 28 t))) s.now from result }
 {
     let mut at = from;
-    let mut j = 0;
-    while j < n {
+    for _ in 0..n {
         at = pass_value(s, at, t);
-        j += 1;
     }
     at
 }
@@ -119,10 +115,8 @@ pub fn pass_params(s: &[u8], from: usize, n: usize) -> usize
     ensures { Passes (each first 0 (replicate n param)) s.now from result }
 {
     let mut at = from;
-    let mut i = 0;
-    while i < n {
+    for _ in 0..n {
         at = pass_param(s, at);
-        i += 1;
     }
     at
 }

@@ -1,4 +1,5 @@
 -- Values of a list that stand side by side: the i-th stands where those before it end, and a jump by lengths alone comes there.
+use Rattle.std.specs.Prelude.{Ok}
 use Prim.Native.Nat.{ℕ, zero, suc, ◌+◌, ◌≤◌, ◌<◌}
 use mathlib.Core.Path.{◌≡◌, refl, sym, ◌∙◌, ap}
 use mathlib.Core.Bool.{false}
@@ -18,7 +19,6 @@ use Rattle.format.specs.Message.{first, unlimited}
 use Rattle.format.proofs.Results.{ok_same, no_ok}
 use Rattle.format.proofs.Laws.{Lawful, lawful_each, all_replicate}
 use Rattle.format.proofs.Lengths.{lawful_counted}
-use Rattle.scan.specs.declared.Next.{Next}
 use Rattle.scan.specs.Shown.{shown_next}
 use Rattle.places.specs.Stands.{Stands}
 use Rattle.places.specs.Entries.{entry}
@@ -177,10 +177,10 @@ module _ {A : Type 0} {f : Format A} (z : Sized f) (at-index : ℕ → Index →
 
   -- a jump over the first i values ends where they end
   pub jump_lands : {s : List ℕ} {at : ℕ} (n i : ℕ) (l : List A) → i ≤ n → Stands (each at-index 0 (replicate n f)) s at l
-      → shown_next ((each first 0 (replicate i sized)).read s at) ≡ Next.At (at + total f (take i l))
+      → shown_next ((each first 0 (replicate i sized)).read s at) ≡ Ok (at + total f (take i l))
   jump_lands {s} {at} n i l h d =
       let w = jumped 0 0 n i l h d.good in
       let there : Stands (each first 0 (replicate i sized)) s at (bodies (take i l))
       = record { good = w.0; before = d.before; after = w.2.0 ++ d.after; whole = rw (← append_assoc ((each first 0 (replicate i sized)).bytes (bodies (take i l))), w.2.1) d.whole; start = d.start } in
       let law = lawful_each first 0 (replicate i sized) (all_replicate i (lawful_counted false unlimited anything 0 0 (lit< tt))) in
-      ap shown_next (stands_read law there) ∙ ap (λ (x : ℕ). Next.At (at + x)) w.1
+      ap shown_next (stands_read law there) ∙ ap (λ (x : ℕ). Ok (at + x)) w.1

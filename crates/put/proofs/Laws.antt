@@ -3,12 +3,11 @@ use mathlib.Core.Path.{◌≡◌, refl, sym, ap, ap₂, ◌∙◌}
 use mathlib.Core.Bool.{Bool, true, false, ◌||◌}
 use Prim.Native.Nat.{ℕ, zero, suc, ◌+◌, ◌-◌, ◌*◌, ◌<◌, ◌≤◌, ◌^◌, ◌/◌, ◌%◌}
 use native.Mathlib.Nat.{le_of_eq, add_assoc, zero-add, add-zero, le_trans, le-add_right, pow-zero, pow-suc, pow-succ', mul_assoc, add_comm, one-le-pow, mul-add-div_right, mul-add-mod_self_right, div-one, div-div-eq-div-mul}
-use native.Mathlib.Numerals.{add-one}
 use native.Mathlib.Omega.{arith}
 use mathlib.Core.List.{List, [], ◌∷◌, ◌++◌, append_assoc, append-nil}
 use mathlib.Core.Option.{some, none}
 use lib.ListN.{length, take, drop, set, get_or, length-append, length-drop, take-append-drop}
-use lib.Seq.{take_all, take_at, take-length, drop_at, drop-drop, drop-length, length-take-le, set_split, take-take, set-append_left, drop-append-add, drop-cons, take-append-le, take-add, sets-eq, paste, paste-suc, length-paste}
+use lib.Seq.{take_all, take_at, take-length, drop_at, drop-drop, drop-length, length-take-le, set_split, take-take, set-append_left, drop-append-add, drop-cons, take-append-le, take-add, sets-eq, paste}
 use lib.Arith.{digits_div}
 use lib.Pow.{pow-add}
 use lib.Dec.{eqb, lit≤}
@@ -17,7 +16,7 @@ use Rattle.format.specs.Result.{pick}
 use Rattle.format.specs.Number.{num_bytes, null4}
 use Rattle.format.specs.Value.{width_of, t_tinyint, t_smallint, t_integer, t_bigint, t_float, t_timestamp, t_decimal, t_point}
 use Rattle.format.proofs.Numbers.{length-num_bytes}
-use Rattle.put.specs.Put.{put, optional, sized}
+use Rattle.put.specs.Put.{put, sized}
 
 back : (n a : ℕ) → a ≤ n → a + (n - a) ≡ n
 back n a l = omega arith
@@ -84,17 +83,6 @@ pub record Wrote (xs : List ℕ) (n k i rest : ℕ) (ys : List ℕ) : Type 0 whe
   pub left : rest ≡ n / 256 ^ (k - i)
   pub so_far : ys ≡ take i xs ++ (num_bytes (k - i) n ++ drop k xs)
 
-pub wrote_length : (xs : List ℕ) (n k i rest : ℕ) (ys : List ℕ) → Wrote xs n k i rest ys → length ys ≡ length xs
-wrote_length xs n k i rest ys w =
-    let a = length-append (take i xs) (num_bytes (k - i) n ++ drop k xs) in
-    let b = length-append (num_bytes (k - i) n) (drop k xs) in
-    let c = length-num_bytes (k - i) n in
-    let d = length-take-le i xs (le_trans w.inside w.room) in
-    let e = length-drop k xs in
-    let h : i ≤ k = w.inside in
-    let r : k ≤ length xs = w.room in
-    omega (arith, ap length w.so_far)
-
 pub wrote_none : (xs : List ℕ) (n k : ℕ) → k ≤ length xs → Wrote xs n k k n xs
 unfolding num_bytes
 wrote_none xs n k h =
@@ -116,9 +104,6 @@ wrote_more xs n k i rest ys p w =
           ∙ ap (λ (m : ℕ). take (i - 1) xs ++ (m % 256 ∷ (num_bytes (k - i) n ++ drop k xs))) w.left);
     }
 
-pub wrote_all : (xs : List ℕ) (n k i rest : ℕ) (ys : List ℕ) → i ≡ 0 → Wrote xs n k i rest ys → ys ≡ num_bytes k n ++ drop k xs
-wrote_all xs n k i rest ys z w = let s : k - i ≡ k = omega arith in w.so_far ∙ rw (s, z)
-
 -- four bytes, stored one after the other, are a number's
 pub four_stored : (xs : List ℕ) (n : ℕ) → 4 ≤ length xs → set (set (set (set xs 0 (n / 16777216 % 256)) 1 (n / 65536 % 256)) 2 (n / 256 % 256)) 3 (n % 256) ≡ num_bytes 4 n ++ drop 4 xs
 unfolding num_bytes
@@ -129,13 +114,6 @@ four_stored (a ∷ (b ∷ (c ∷ []))) n h = absurd (omega arith)
 four_stored (a ∷ (b ∷ (c ∷ (d ∷ xs)))) n h = ap (λ (m : ℕ). n / 16777216 % 256 ∷ (n / 65536 % 256 ∷ (n / 256 % 256 ∷ (m % 256 ∷ xs)))) (sym (div-one n))
 
 -- a copy, from the first byte to the last
-pub copied_length : (xs s : List ℕ) (i : ℕ) → i ≤ length s → length s ≤ length xs → length (paste xs 0 s i) ≡ length xs
-copied_length xs s i h l = length-paste xs 0 s i (omega arith) h
-
-pub copied_more : (xs s : List ℕ) (i : ℕ) → i < length s → length s ≤ length xs → set (paste xs 0 s i) i (get_or s i 0) ≡ paste xs 0 s (i + 1)
-copied_more xs s i h l =
-    ap (λ (m : ℕ). set (paste xs 0 s i) m (get_or s i 0)) (sym (zero-add i)) ∙ paste-suc xs 0 s i 0 (omega arith) h ∙ ap (paste xs 0 s) (sym (add-one i))
-
 pub copied_all : (xs s : List ℕ) (i : ℕ) → i ≡ length s → paste xs 0 s i ≡ s ++ drop (length s) xs
 copied_all xs s i e = rw (e, take-length, zero-add)
 
@@ -290,7 +268,3 @@ sized_some bs = length-append (num_bytes 4 (length bs)) bs ∙ ap (λ (m : ℕ).
 -- bounds, so that sums in the code fit
 pub width_most : (t : ℕ) → width_of t ≤ 16
 width_most = widths (λ w. w ≤ 16) (lit≤ tt) (lit≤ tt) (lit≤ tt) (lit≤ tt) (lit≤ tt) (lit≤ tt)
-
-pub sized_most : (null : Bool) (bs : List ℕ) → length (sized (optional null bs)) ≤ 4 + length bs
-sized_most true bs = omega (arith, sized_null)
-sized_most false bs = omega (arith, sized_some bs)

@@ -1,5 +1,7 @@
 -- What is written into a buffer.
-use Rattle.std.specs.Prelude.{ℕ, ◌+◌, Bool, List, ◌++◌, length, take, drop}
+use Rattle.std.specs.Prelude as std
+use Rattle.std.specs.Prelude.{ℕ, ◌+◌, Bool, List, ◌++◌, length, take, drop, Some, None}
+use Rattle.std.specs.Borrow.{Bor}
 use Rattle.std.proofs.Math.Option.{Option, some, none}
 use Rattle.format.specs.Result.{pick}
 use Rattle.format.specs.Number.{num_bytes, null4}
@@ -8,7 +10,12 @@ use Rattle.format.specs.Number.{num_bytes, null4}
 unfoldable pub put : List ℕ → ℕ → List ℕ → List ℕ
 put b at bs = take at b ++ (bs ++ drop (at + length bs) b)
 
--- what the code gives as a flag and bytes: null, or the bytes
+-- what the code gives: null, or the bytes
+abbrev pub given : std.Option (Bor (List ℕ)) → Option (List ℕ)
+given None = none
+given (Some s) = some s.now
+
+-- what a caller in C gives as a flag and bytes: null, or the bytes
 abbrev pub optional : Bool → List ℕ → Option (List ℕ)
 optional null bs = pick null none (some bs)
 

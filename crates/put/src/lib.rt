@@ -1,10 +1,10 @@
 // Leaf writers. Each writes into the part of the output that it is lent, from the part's start; the functions at a place lend that part.
 #![tactic(auto)]
 
-ghost use Rattle.std.specs.Prelude.{◌≡◌, ◌+◌, ◌*◌, ◌^◌, ◌≤◌, ◌++◌, length, take, drop};
+ghost use Rattle.std.specs.Prelude.{◌≡◌, ◌+◌, ◌*◌, ◌^◌, ◌<◌, ◌≤◌, ◌++◌, length, take, drop};
 ghost use Rattle.format.specs.Number.{num_bytes};
 ghost use Rattle.format.specs.Value.{width_of};
-ghost use Rattle.put.specs.Put.{put, optional, sized};
+ghost use Rattle.put.specs.Put.{put, given, sized};
 
 // Writes the 4 lowest bytes of a number.
 fn put_four(out: &mut [u8], n: u64)
@@ -32,9 +32,7 @@ fn put_each(out: &mut [u8], n: u64, k: usize)
     ensures { out.new ≡ num_bytes k n ++ drop k out.old }
 {
     let mut rest = n;
-    let mut i = k;
-    while 0 < i {
-        i -= 1;
+    for i in (0..k).rev() {
         out[i] = (rest % 256) as u8;
         rest = rest / 256;
     }
@@ -61,10 +59,8 @@ fn put_few(out: &mut [u8], s: &[u8])
     requires { length s.now ≤ length out.old }
     ensures { out.new ≡ s.now ++ drop (length s.now) out.old }
 {
-    let mut i = 0;
-    while i < s.len() {
+    for i in 0..s.len() {
         out[i] = s[i];
-        i += 1;
     }
 }
 
@@ -102,6 +98,7 @@ pub fn put_bytes(out: &mut [u8], s: &[u8])
         return;
     }
     let last = n - 8;
+    // no `step_by`, which looks twice in each turn whether it is the last
     let mut i = 0;
     while i < last {
         copy_eight(out, s, i);
@@ -125,16 +122,17 @@ pub fn put_fixed(out: &mut [u8], t: u8, upper: u64, lower: u64)
 }
 
 // Writes a length and so many bytes, or -1 for null.
-pub fn put_text(out: &mut [u8], null: bool, s: &[u8])
-    requires { length (sized (optional null s.now)) ≤ length out.old }
-    ensures { out.new ≡ sized (optional null s.now) ++ drop (length (sized (optional null s.now))) out.old }
+pub fn put_text(out: &mut [u8], text: Option<&[u8]>)
+    requires { length (sized (given text)) ≤ length out.old }
+    ensures { out.new ≡ sized (given text.entry) ++ drop (length (sized (given text.entry))) out.old }
 {
-    if null {
-        put_number(out, format::NULL_LENGTH, 4);
-        return;
+    match text {
+        Some(s) => {
+            put_number(out, s.len() as u64, 4);
+            put_bytes(&mut out[4..], s);
+        },
+        None => put_number(out, format::NULL_LENGTH, 4),
     }
-    put_number(out, s.len() as u64, 4);
-    put_bytes(&mut out[4..], s);
 }
 
 // Writes the k bytes of a number at a place, and says where they end.
@@ -164,21 +162,21 @@ pub fn fixed_at(out: &mut [u8], at: usize, t: u8, upper: u64, lower: u64) -> usi
     at + scan::width_of(t)
 }
 
-// How many bytes a length and its bytes have.
-pub fn text_size(null: bool, s: &[u8]) -> usize
-    ensures { result ≡ length (sized (optional null s.now)) }
+// How many bytes a length and its bytes have. The bound leaves room for what a caller adds to it.
+pub fn text_size(text: Option<&[u8]>) -> usize
+    ensures { (result ≡ length (sized (given text.entry))) × (result < 2 ^ 63 + 4) }
 {
-    if null {
-        return 4;
+    match text {
+        Some(s) => 4 + s.len(),
+        None => 4,
     }
-    4 + s.len()
 }
 
 // Writes a length and so many bytes, or -1 for null, at a place, and says where they end.
-pub fn text_at(out: &mut [u8], at: usize, null: bool, s: &[u8]) -> usize
-    requires { at + length (sized (optional null s.now)) ≤ length out.old }
-    ensures { (result ≡ at + length (sized (optional null s.now))) × (out.new ≡ put out.old at (sized (optional null s.now))) }
+pub fn text_at(out: &mut [u8], at: usize, text: Option<&[u8]>) -> usize
+    requires { at + length (sized (given text)) ≤ length out.old }
+    ensures { (result ≡ at + length (sized (given text.entry))) × (out.new ≡ put out.old at (sized (given text.entry))) }
 {
-    put_text(&mut out[at..], null, s);
-    at + text_size(null, s)
+    put_text(&mut out[at..], text);
+    at + text_size(text)
 }

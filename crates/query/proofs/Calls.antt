@@ -1,6 +1,6 @@
 -- What each step over an accepted invocation answers, by what stands at its place.
 use Prim.Native.Nat.{ℕ, ◌+◌, ◌≤◌, ◌<◌, min}
-use mathlib.Core.Path.{◌≡◌, refl, sym, ◌∙◌, ap}
+use mathlib.Core.Path.{◌≡◌, refl, sym, ◌∙◌, ap, ap₂}
 use mathlib.Core.Bool.{Bool, true, false}
 use mathlib.Core.List.{List}
 use lib.ListN.{length, replicate}
@@ -28,7 +28,7 @@ use Rattle.places.proofs.Values.{element_here}
 use Rattle.query.specs.Answers.{Given, given_of, of_param}
 use Rattle.query.specs.Shown.{past_of, cell_in, shown_of}
 use Rattle.query.specs.declared.ShownCell.{ShownCell}
-use Rattle.scan.specs.Shown.{shown_next, shown_number, shown_byte, number_in, byte_in}
+use Rattle.scan.specs.Shown.{shown_next, shown, number_in}
 use Rattle.format.proofs.Texts.{counted_unruled}
 use Rattle.show.specs.declared.Cell.{Cell}
 use Rattle.show.specs.Cells.{cell_of, unruled, shown_as}
@@ -47,7 +47,7 @@ module _ (m : List ℕ) (b : Bytes m) (v : Message) (accepted : read_message 3 m
       let client-is : client ≡ 5 + call_size (the_invocation v.content) = e₁ ∙ rw (counted_unruled false most_bytes utf8 20 21 0 0 m 5 _ named) in
       after_is m 8 client e₂ client-is (omega arith)
 
-  pub params_is : {n : ℕ} → n ≡ number_in (shown_number ((number 2 0).read m counted)) → n ≡ length (params_of v)
+  pub params_is : {n : ℕ} → n ≡ number_in (shown ((number 2 0).read m counted)) → n ≡ length (params_of v)
   params_is f = count_is m 2 23 counted f counted_is (param_count_stands m b v accepted)
 
   pub param_past : (p : ℕ) → length (params_of v) ≤ p → no PastEnd 0 ≡ bind (entry (params_of v) p) (λ q. ok (param_at v p))
@@ -72,43 +72,43 @@ value_shown m l b t at d t' at' same there e = e ∙ rw (same, there, unruled_re
 
 -- the steps over a parameter
 module _ (m : List ℕ) {at : ℕ} {q : Param} (d : Stands param m at q) {t inner : ℕ}
-    (e₁ : t ≡ byte_in (shown_byte ((number 1 0).read m at))) (e₂ : inner ≡ past_of (shown_next ((number 1 0).read m at))) where
+    (e₁ : t ≡ number_in (shown ((number 1 0).read m at))) (e₂ : inner ≡ past_of (shown_next ((number 1 0).read m at))) where
   type_is : t ≡ q.type
   type_is = byte_is m 24 at e₁ refl (type_stands d)
 
   inner_is : inner ≡ at + 1
   inner_is = after_is m 1 at e₂ refl (omega (arith, stands_fits (type_stands d), length-number 1 24 q.type))
 
-  pub null_is : t ≡ 1 → ok Given.nothing ≡ ok (given_of at q.type q.argument)
-  null_is h = sym (ap (λ (a : Argument). ok (given_of at q.type a)) (is_null q.type q.argument (argument_stands d) (sym type_is ∙ h)))
+  pub null_is : t ≡ 1 → Given.nothing ≡ given_of at q.type q.argument
+  null_is h = sym (ap (given_of at q.type) (is_null q.type q.argument (argument_stands d) (sym type_is ∙ h)))
 
-  pub one_is : (t ≡ 1 → ⊥) → (t ≡ 157 → ⊥) → {cell : Cell} → cell ≡ cell_in (shown_as (cell_of t inner) ((unruled t).read m inner)) → ok (Given.value cell) ≡ ok (given_of at q.type q.argument)
+  pub one_is : (t ≡ 1 → ⊥) → (t ≡ 157 → ⊥) → {cell : Cell} → cell ≡ cell_in (shown_as (cell_of t inner) ((unruled t).read m inner)) → Given.value cell ≡ given_of at q.type q.argument
   one_is n k e =
       let w = is_one q.type q.argument (argument_stands d) (λ z. n (type_is ∙ z)) (λ z. k (type_is ∙ z)) in
       let shown = value_shown m 27 28 q.type (at + 1) w.1 t inner type_is inner_is e in
-      ap (λ (c : Cell). ok (Given.value c)) shown ∙ sym (ap (λ (a : Argument). ok (given_of at q.type a)) w.0)
+      ap Given.value shown ∙ sym (ap (given_of at q.type) w.0)
 
   -- an array, after its type
   module _ (h : t ≡ 157) where
     held : Arrayed m at q.argument
     held = arrayed d (sym type_is ∙ h)
 
-    module _ {elem counted : ℕ} (f₁ : elem ≡ byte_in (shown_byte ((number 1 0).read m inner))) (f₂ : counted ≡ past_of (shown_next ((number 1 0).read m inner))) where
+    module _ {elem counted : ℕ} (f₁ : elem ≡ number_in (shown ((number 1 0).read m inner))) (f₂ : counted ≡ past_of (shown_next ((number 1 0).read m inner))) where
       elem_is : elem ≡ held.type
       elem_is = byte_is m 25 inner f₁ inner_is held.typed_by
 
       items_at : counted ≡ at + 1 + 1
       items_at = after_is m 1 inner f₂ inner_is (omega (arith, stands_fits held.typed_by, length-number 1 25 held.type))
 
-      module _ {width n : ℕ} (f₃ : width ≡ width_for elem) (f₄ : n ≡ number_in (shown_number ((number (min width 8) 0).read m counted))) where
+      module _ {width n : ℕ} (f₃ : width ≡ width_for elem) (f₄ : n ≡ number_in (shown ((number (min width 8) 0).read m counted))) where
         width_is : width ≡ width_for held.type
         width_is = f₃ ∙ ap width_for elem_is
 
         n_is : n ≡ length (values_in held.items_in)
-        n_is = count_is m (width_for held.type) 26 counted (f₄ ∙ ap (λ (w : ℕ). number_in (shown_number ((number w 0).read m counted))) (ap (λ (w : ℕ). min w 8) width_is ∙ width_small held.type)) items_at held.list_in.count
+        n_is = count_is m (width_for held.type) 26 counted (f₄ ∙ ap (λ (w : ℕ). number_in (shown ((number w 0).read m counted))) (ap (λ (w : ℕ). min w 8) width_is ∙ width_small held.type)) items_at held.list_in.count
 
-        pub array_is : ok (Given.list elem n) ≡ ok (given_of at q.type q.argument)
-        array_is = ap (λ (x : ℕ). ok (Given.list x n)) elem_is ∙ ap (λ (x : ℕ). ok (Given.list held.type x)) n_is ∙ sym (ap (λ (a : Argument). ok (given_of at q.type a)) held.is)
+        pub array_is : Given.list elem n ≡ given_of at q.type q.argument
+        array_is = ap₂ Given.list elem_is n_is ∙ sym (ap (given_of at q.type) held.is)
 
         pub element_past : (e : ℕ) → n ≤ e → no PastEnd 0 ≡ bind (element_of at q.argument e) (λ z. ok (shown_of z))
         element_past e g =
@@ -138,7 +138,7 @@ module _ (m : List ℕ) {at : ℕ} {q : Param} (d : Stands param m at q) {t inne
             let answer = parts ∙ sym (ap (λ (r : Res Value). bind (bind r (λ v. ok (element_here at ty l e v))) (λ z. ok (shown_of z))) w.1) in
             answer ∙ sym (ap (λ (a : Argument). bind (element_of at a e) (λ z. ok (shown_of z))) held.is)
 
-module _ (m : List ℕ) {at : ℕ} {q : Param} (d : Stands param m at q) {t : ℕ} (e₁ : t ≡ byte_in (shown_byte ((number 1 0).read m at))) where
+module _ (m : List ℕ) {at : ℕ} {q : Param} (d : Stands param m at q) {t : ℕ} (e₁ : t ≡ number_in (shown ((number 1 0).read m at))) where
   -- a parameter that is no array has no elements
   pub no_array : (t ≡ 157 → ⊥) → (e : ℕ) → no WireType at ≡ bind (element_of at q.argument e) (λ z. ok (shown_of z))
   no_array k e = by_type (eqb q.type 1) refl
@@ -151,7 +151,7 @@ module _ (m : List ℕ) {at : ℕ} {q : Param} (d : Stands param m at q) {t : �
       by_type false h = sym (ap (λ (a : Argument). bind (element_of at a e) (λ z. ok (shown_of z))) (is_one q.type q.argument (argument_stands d) (eqb-false q.type 1 h) (λ z. k (same ∙ z))).0)
 
 -- a parameter's own value, and none
-module _ (m : List ℕ) {at : ℕ} {q : Param} (d : Stands param m at q) {t : ℕ} (e₁ : t ≡ byte_in (shown_byte ((number 1 0).read m at))) where
+module _ (m : List ℕ) {at : ℕ} {q : Param} (d : Stands param m at q) {t : ℕ} (e₁ : t ≡ number_in (shown ((number 1 0).read m at))) where
   abbrev Answer : Res ShownCell
   Answer = bind (value_here at q.type q.argument) (λ z. ok (shown_of z))
 

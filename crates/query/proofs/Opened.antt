@@ -8,7 +8,6 @@ use lib.ListN.{length, replicate, get_or}
 use native.Mathlib.Omega.{arith}
 use Rattle.format.specs.declared.Fault.{Fault}
 use Rattle.format.specs.declared.Fault.TheVariants.{PastEnd}
-use Rattle.format.specs.declared.Refusal.{Refusal}
 use Rattle.format.specs.Result.{Res, ok, no, bind}
 use Rattle.format.specs.Number.{Bytes}
 use Rattle.format.specs.Format.{number, each}
@@ -18,9 +17,7 @@ use Rattle.format.proofs.Formats.{lawful_head, lawful_value}
 use Rattle.show.specs.declared.Cell.{Cell}
 use Rattle.show.specs.Cells.{cell_of, unruled, shown_as}
 use Rattle.show.proofs.Values.{unruled_reads}
-use Rattle.scan.specs.Shown.{shown_next, shown_number, number_in}
-use Rattle.message.specs.declared.Verdict.{Verdict}
-use Rattle.message.specs.Verdict.{told_verdict, verdict_of}
+use Rattle.scan.specs.Shown.{shown_next, shown, number_in}
 use Rattle.pass.specs.Passes.{Passes}
 use Rattle.places.specs.Stands.{Stands}
 use Rattle.places.specs.Places.{name_bytes, tables_of, table_at, column_type_at, name_at, row_at}
@@ -48,15 +45,6 @@ module _ {A B : Type 0} where
   pub retold : {f g : Fault} {p q : ℕ} → ◌≡◌ {A = Res A} (no f p) (no g q) → ◌≡◌ {A = Res B} (no f p) (no g q)
   retold {f} {g} {p} {q} e = let fault : f ≡ g = cc in let place : p ≡ q = cc in rw (fault, place)
 
--- an acceptance has a record, and a refusal is the reading's
-pub verdict_fine : (r : Res Message) {v : Verdict} → told_verdict v ≡ verdict_of r → v ≡ Verdict.Fine → (p : Message) × (r ≡ ok p)
-verdict_fine (ok p) e told = (p, refl)
-verdict_fine (no f p) e told = absurd (no_ok (sym e ∙ ap told_verdict told))
-
-pub verdict_no_lem : (r : Res Message) {v : Verdict} {x : Refusal} → told_verdict v ≡ verdict_of r → v ≡ Verdict.No x → r ≡ no x.fault x.place
-verdict_no_lem (ok p) e told = absurd (no_ok (sym (ap told_verdict told) ∙ e))
-verdict_no_lem (no f q) e told = retold (sym e ∙ ap told_verdict told)
-
 module _ {A : Type 0} (kind : ℕ) (m : List ℕ) where
   -- what a refused message and an accepted one are asked
   pub refused : (k : Message → Res A) {f : Fault} {p : ℕ} → read_message kind m ≡ no f p → no f p ≡ bind (read_message kind m) k
@@ -70,7 +58,7 @@ module _ (timed : Bool) (m : List ℕ) (b : Bytes m) (p : Message) (accepted : r
   head_ends : {counted : ℕ} → Passes (head timed) m 5 counted → counted ≡ 5 + head_size timed (the_response p.content)
   head_ends e = e.ends _ _ (stands_read (lawful_head timed) (head_stands timed (response_stands timed m b p accepted)))
 
-  pub tables_is : (counted : ℕ) {n : ℕ} → Passes (head timed) m 5 counted → n ≡ number_in (shown_number ((number 2 0).read m counted)) → n ≡ length (tables_of p)
+  pub tables_is : (counted : ℕ) {n : ℕ} → Passes (head timed) m 5 counted → n ≡ number_in (shown ((number 2 0).read m counted)) → n ≡ length (tables_of p)
   tables_is counted e f = count_is m 2 40 counted f (head_ends e) (table_count_stands timed m b p accepted)
 
   pub table_at_is : (t counted from : ℕ) {at : ℕ} → t < length (tables_of p) → Passes (head timed) m 5 counted

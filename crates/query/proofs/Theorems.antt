@@ -1,5 +1,6 @@
 -- What the definitions of specs/Answers.antt amount to: an answer is decided by what it says, a search finds the first equal name, and a part that is handed
 -- back is a value's body. (The crate `places` has that a cell is the bytes at its place, and is listed there.)
+use Rattle.std.specs.Prelude.{Result, Ok, Err, Option as Maybe, Some, None}
 use Prim.Native.Nat.{ℕ, zero, suc, ◌+◌, ◌<◌}
 use mathlib.Core.Path.{◌≡◌, refl, sym, ◌∙◌, ap, ap₂}
 use mathlib.Core.Bool.{Bool, true, false, false≢true, true≢false}
@@ -11,62 +12,60 @@ use native.Mathlib.Omega.{arith}
 use denote.Ref.{Bor}
 use denote.Slice.{slice_val, shr_slice_vals}
 use Rattle.format.specs.declared.Fault.{Fault}
-use Rattle.format.specs.Result.{Res, ok, no, pick}
+use Rattle.format.specs.declared.Refusal.{Refusal}
+use Rattle.format.specs.Result.{Res, ok, no, pick, told}
 use Rattle.format.specs.Number.{Bytes}
 use Rattle.format.specs.Value.{body}
-use Rattle.format.proofs.Decides.{once, answer}
+use Rattle.format.proofs.Decides.{once, answer, answer_once}
 use Rattle.format.proofs.Results.{ok_same, no_ok}
+use Rattle.show.specs.declared.Cell.{Cell}
 use Rattle.show.specs.Parts.{IsPart}
 use Rattle.places.specs.Places.{tables_of, table_at, params_of, param_at}
 use Rattle.places.specs.Entries.{Here, entry, cell_here, value_here, element_of}
 use Rattle.places.proofs.Calls.{param_stands}
 use Rattle.places.proofs.Values.{cell_stands, value_stands, element_stands}
-use Rattle.query.specs.declared.TableAnswer.{TableAnswer}
 use Rattle.query.specs.declared.ColumnLayout.{ColumnLayout}
-use Rattle.query.specs.declared.ColumnAnswer.{ColumnAnswer}
-use Rattle.query.specs.declared.Placed.{Placed}
-use Rattle.query.specs.declared.Named.{Named}
-use Rattle.query.specs.declared.CellAnswer.{CellAnswer}
-use Rattle.query.specs.declared.Part.{Part}
-use Rattle.query.specs.declared.Argued.{Argued}
-use Rattle.query.specs.Answers.{Given, is_named, first_named, span_in, of_table, of_param, ask_cell_span, ask_parameter_span, ask_element_span, Handed, told_table, told_column, told_placed, told_named, told_cell, told_part, told_argument}
+use Rattle.query.specs.declared.TableLayout.{TableLayout}
+use Rattle.query.specs.declared.Argument.{Argument}
+use Rattle.query.specs.declared.Argument.TheVariants.{Null, One, Array}
+use Rattle.query.specs.Answers.{Given, Part, is_named, first_named, span_in, of_table, of_param, ask_cell_span, ask_parameter_span, ask_element_span, Handed, told_maybe, told_placed, told_part, told_argument}
 use Rattle.query.proofs.Names.{same_yes, same_true}
 use Rattle.query.proofs.Opened.{Told, part_told}
 
 -- ---- two answers that say the same are the same
-pub table_once : (a b : TableAnswer) → told_table a ≡ told_table b → a ≡ b
-table_once = once told_table (answer TableAnswer.Is TableAnswer.No) (elim [ TableAnswer.Is l ↦ refl | TableAnswer.No r ↦ refl ])
+pub table_once : (a b : Result TableLayout Refusal) → told a ≡ told b → a ≡ b
+table_once = answer_once
 
-pub column_once : (a b : ColumnAnswer) → told_column a ≡ told_column b → a ≡ b
-column_once = once told_column (answer ColumnAnswer.Is ColumnAnswer.No) (elim [ ColumnAnswer.Is l ↦ refl | ColumnAnswer.No r ↦ refl ])
+pub column_once : (a b : Result ColumnLayout Refusal) → told a ≡ told b → a ≡ b
+column_once = answer_once
 
-abbrev placed : Option ColumnLayout → Placed
-placed none = Placed.Past
-placed (some l) = Placed.Is l
+module _ {A : Type 0} where
+  abbrev maybe : Option A → Result (Maybe A) Refusal
+  maybe none = Ok None
+  maybe (some a) = Ok (Some a)
 
-pub placed_once : (a b : Placed) → told_placed a ≡ told_placed b → a ≡ b
-placed_once = once told_placed (answer placed Placed.No) (elim [ Placed.Is l ↦ refl | Placed.Past ↦ refl | Placed.No r ↦ refl ])
+  maybe_once : (a b : Result (Maybe A) Refusal) → told_maybe a ≡ told_maybe b → a ≡ b
+  maybe_once = once told_maybe (answer maybe Err) (elim [ Ok (Some a) ↦ refl | Ok None ↦ refl | Err r ↦ refl ])
 
-pub named_once : (a b : Named) → told_named a ≡ told_named b → a ≡ b
-named_once = once told_named (answer (λ v. Named.At v.0 v.1) Named.No) (elim [ Named.At i l ↦ refl | Named.No r ↦ refl ])
+pub placed_once : (a b : Result (Maybe ColumnLayout) Refusal) → told_placed a ≡ told_placed b → a ≡ b
+placed_once = maybe_once
 
-pub cell_once : (a b : CellAnswer) → told_cell a ≡ told_cell b → a ≡ b
-cell_once = once told_cell (answer CellAnswer.Is CellAnswer.No) (elim [ CellAnswer.Is c ↦ refl | CellAnswer.No r ↦ refl ])
+pub named_once : (a b : Result (ℕ × ColumnLayout) Refusal) → told a ≡ told b → a ≡ b
+named_once = answer_once
 
-abbrev spanned : Option (ℕ × ℕ) → Part
-spanned none = Part.Null
-spanned (some p) = Part.Is p.0 p.1
+pub cell_once : (a b : Result Cell Refusal) → told a ≡ told b → a ≡ b
+cell_once = answer_once
 
 pub part_once : (a b : Part) → told_part a ≡ told_part b → a ≡ b
-part_once = once told_part (answer spanned Part.No) (elim [ Part.Is start size ↦ refl | Part.Null ↦ refl | Part.No r ↦ refl ])
+part_once = maybe_once
 
-abbrev argued : Given → Argued
-argued Given.nothing = Argued.Null
-argued (Given.value c) = Argued.One c
-argued (Given.list t n) = Argued.Array t n
+abbrev argued : Given → Argument
+argued Given.nothing = Null
+argued (Given.value c) = One c
+argued (Given.list t n) = Array t n
 
-pub argument_once : (a b : Argued) → told_argument a ≡ told_argument b → a ≡ b
-argument_once = once told_argument (answer argued Argued.No) (elim [ Argued.Null ↦ refl | Argued.One c ↦ refl | Argued.Array t n ↦ refl | Argued.No r ↦ refl ])
+pub argument_once : (a b : Result Argument Refusal) → told_argument a ≡ told_argument b → a ≡ b
+argument_once = once told_argument (answer (λ g. Ok (argued g)) Err) (elim [ Ok Null ↦ refl | Ok (One c) ↦ refl | Ok (Array t n) ↦ refl | Err r ↦ refl ])
 
 -- ---- a search finds the first equal name, and fails only where there is none
 module _ (name : List ℕ) where

@@ -11,7 +11,7 @@ use Rattle.format.specs.Format.{Format, Index, number, nothing, each}
 use Rattle.format.specs.Message.{first, Table, metadata, row, table, second, third}
 use Rattle.format.proofs.Laws.{lawful_number, lawful_each, all_map, length-each}
 use Rattle.format.proofs.Formats.{lawful_value}
-use Rattle.scan.specs.Shown.{shown_next, shown_number, shown_byte, number_in, byte_in}
+use Rattle.scan.specs.Shown.{shown_next, shown, number_in}
 use Rattle.scan.proofs.Params.{number_fields}
 use Rattle.pass.specs.Passes.{Passes}
 use Rattle.places.specs.Stands.{Stands}
@@ -48,10 +48,10 @@ module _ (m : List ℕ) where
       over_is z first 1 1 (a ∷ []) p e same (omega arith) alone ∙ rw add-zero
 
   -- the number there
-  pub count_is : (k field p : ℕ) {r q n : ℕ} → r ≡ number_in (shown_number ((number k 0).read m p)) → p ≡ q → Stands (number k field) m q n → r ≡ n
+  pub count_is : (k field p : ℕ) {r q n : ℕ} → r ≡ number_in (shown ((number k 0).read m p)) → p ≡ q → Stands (number k field) m q n → r ≡ n
   count_is k field p {r} {q} e same d = e ∙ rw (same, ← number_fields m q k field, stands_read (lawful_number k field) d)
 
-  pub byte_is : (field p : ℕ) {r q n : ℕ} → r ≡ byte_in (shown_byte ((number 1 0).read m p)) → p ≡ q → Stands (number 1 field) m q n → r ≡ n
+  pub byte_is : (field p : ℕ) {r q n : ℕ} → r ≡ number_in (shown ((number 1 0).read m p)) → p ≡ q → Stands (number 1 field) m q n → r ≡ n
   byte_is field p {r} {q} e same d = e ∙ rw (same, ← number_fields m q 1 field, stands_read (lawful_number 1 field) d)
 
 -- the layout of a table, step by step
@@ -65,13 +65,13 @@ module _ (m : List ℕ) {at : ℕ} {b : Table} (d : Stands table m at b) where
       → «end» ≡ past_of (shown_next ((each first 0 (replicate 1 sized)).read m at))
       → inner ≡ past_of (shown_next ((number 4 0).read m at))
       → described ≡ past_of (shown_next ((number 4 0).read m inner))
-      → status ≡ byte_in (shown_byte ((number 1 0).read m described))
+      → status ≡ number_in (shown ((number 1 0).read m described))
       → counted ≡ past_of (shown_next ((number 1 0).read m described))
-      → columns ≡ number_in (shown_number ((number 2 0).read m counted))
+      → columns ≡ number_in (shown ((number 2 0).read m counted))
       → types ≡ past_of (shown_next ((number 2 0).read m counted))
       → names ≡ past_of (shown_next ((number columns 0).read m types))
       → row_count ≡ past_of (shown_next ((each first 0 (replicate 1 sized)).read m inner))
-      → rows ≡ number_in (shown_number ((number 4 0).read m row_count))
+      → rows ≡ number_in (shown ((number 4 0).read m row_count))
       → first-row ≡ past_of (shown_next ((number 4 0).read m row_count))
       → ◌≡◌ {A = TableLayout} (record { status = status; columns = columns; rows = rows; at = at; «end» = «end»; types = types; names = names; first_row = first-row }) (layout_of at b)
   unfolding total
@@ -102,7 +102,7 @@ module _ (m : List ℕ) {at : ℕ} {b : Table} (d : Stands table m at b) (k c : 
 
   pub spot_is : (types rows : ℕ) {type_at wire-type row_start cells next : ℕ} → types ≡ column_type_at at b.metadata 0 → rows ≡ row_at at b 0
       → type_at ≡ past_of (shown_next ((number c 0).read m types))
-      → wire-type ≡ byte_in (shown_byte ((number 1 0).read m type_at))
+      → wire-type ≡ number_in (shown ((number 1 0).read m type_at))
       → row_start ≡ past_of (shown_next ((each first 0 (replicate k sized)).read m rows))
       → cells ≡ past_of (shown_next ((number 4 0).read m row_start))
       → Passes (each third 0 (map (value 50 51) (take c (drop types m)))) m cells next
@@ -141,9 +141,9 @@ module _ (m : List ℕ) {at : ℕ} {b : Table} (d : Stands table m at b) (c : �
 
   pub column_is : (types names : ℕ) {type_at wire-type named name-length next : ℕ} → types ≡ column_type_at at b.metadata 0 → names ≡ name_at at b.metadata 0
       → type_at ≡ past_of (shown_next ((number c 0).read m types))
-      → wire-type ≡ byte_in (shown_byte ((number 1 0).read m type_at))
+      → wire-type ≡ number_in (shown ((number 1 0).read m type_at))
       → named ≡ past_of (shown_next ((each first 0 (replicate c sized)).read m names))
-      → name-length ≡ number_in (shown_number ((number 4 0).read m named))
+      → name-length ≡ number_in (shown ((number 4 0).read m named))
       → next ≡ past_of (shown_next ((number 4 0).read m named))
       → ok (record { wire_type = wire-type; type_at = type_at; name = next; name_length = name-length }) ≡ column_of at b c
   unfolding total

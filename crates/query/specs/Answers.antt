@@ -1,8 +1,9 @@
 -- What each question about a message is answered with: the message's own refusal, then the question's. `ask..` are the questions and `told..` what
 -- the code's answers say: the paper's fault and place (Result.antt has its number), or the values.
-use Rattle.std.specs.Prelude.{ℕ, ◌+◌, Bool, true, false, ◌&&◌, List, [], ◌∷◌, ◌≡◌, length, eqb}
+use Rattle.std.specs.Prelude.{ℕ, ◌+◌, Bool, true, false, ◌&&◌, List, [], ◌∷◌, ◌≡◌, length, eqb, Result, Ok, Err, Option as Maybe, Some, None}
 use Rattle.std.proofs.Math.Option.{Option, some, none}
 use Rattle.std.specs.Borrow.{Bor}
+use Rattle.format.specs.declared.Refusal.{Refusal}
 use Rattle.format.specs.declared.Fault.TheVariants.{WireType, NoColumn}
 use Rattle.format.specs.Result.{Res, ok, no, bind, pick}
 use Rattle.format.specs.Value.{value as value_format}
@@ -14,14 +15,9 @@ use Rattle.show.specs.Parts.{IsPart}
 use Rattle.places.specs.Places.{tables_of, table_at, column_type_at, name_at, name_bytes, row_at, params_of, param_at, argument_at}
 use Rattle.places.specs.Entries.{entry, Here, cell_here, value_here, values_in, element_of}
 use Rattle.query.specs.declared.TableLayout.{TableLayout}
-use Rattle.query.specs.declared.TableAnswer.{TableAnswer}
 use Rattle.query.specs.declared.ColumnLayout.{ColumnLayout}
-use Rattle.query.specs.declared.ColumnAnswer.{ColumnAnswer}
-use Rattle.query.specs.declared.Placed.{Placed}
-use Rattle.query.specs.declared.Named.{Named}
-use Rattle.query.specs.declared.CellAnswer.{CellAnswer}
-use Rattle.query.specs.declared.Part.{Part}
-use Rattle.query.specs.declared.Argued.{Argued}
+use Rattle.query.specs.declared.Argument.{Argument as Argued}
+use Rattle.query.specs.declared.Argument.TheVariants.{Null, One, Array}
 
 module _ {A : Type 0} where
   -- what is there, if anything is
@@ -163,37 +159,32 @@ abbrev pub ask_element_span : List ℕ → ℕ → ℕ → Res (Option (ℕ × �
 ask_element_span m p e = of_param m p (λ at q. bind (element_of at q.argument e) (λ h. part_of h.type_at (shown_here h)))
 
 -- ---- the answers
-abbrev pub told_table : TableAnswer → Res TableLayout
-told_table (TableAnswer.Is a) = ok a
-told_table (TableAnswer.No r) = no r.fault r.place
+module _ {A : Type 0} where
+  -- what an answer says whose value may be missing
+  abbrev pub told_maybe : Result (Maybe A) Refusal → Res (Option A)
+  told_maybe (Ok (Some a)) = ok (some a)
+  told_maybe (Ok None) = ok none
+  told_maybe (Err r) = no r.fault r.place
 
-abbrev pub told_column : ColumnAnswer → Res ColumnLayout
-told_column (ColumnAnswer.Is a) = ok a
-told_column (ColumnAnswer.No r) = no r.fault r.place
+-- a column's layout, if its table has the column
+abbrev pub told_placed : Result (Maybe ColumnLayout) Refusal → Res (Option ColumnLayout)
+told_placed = told_maybe
 
-abbrev pub told_placed : Placed → Res (Option ColumnLayout)
-told_placed (Placed.Is a) = ok (some a)
-told_placed Placed.Past = ok none
-told_placed (Placed.No r) = no r.fault r.place
-
-abbrev pub told_named : Named → Res (ℕ × ColumnLayout)
-told_named (Named.At i a) = ok (i, a)
-told_named (Named.No r) = no r.fault r.place
-
-abbrev pub told_cell : CellAnswer → Res Cell
-told_cell (CellAnswer.Is a) = ok a
-told_cell (CellAnswer.No r) = no r.fault r.place
+-- where a part starts and how long it is, or null
+abbrev pub Part : Type 0
+Part = Result (Maybe (ℕ × ℕ)) Refusal
 
 abbrev pub told_part : Part → Res (Option (ℕ × ℕ))
-told_part (Part.Is start size) = ok (some (start, size))
-told_part Part.Null = ok none
-told_part (Part.No r) = no r.fault r.place
+told_part = told_maybe
 
-abbrev pub told_argument : Argued → Res Given
-told_argument Argued.Null = ok Given.nothing
-told_argument (Argued.One c) = ok (Given.value c)
-told_argument (Argued.Array t n) = ok (Given.list t n)
-told_argument (Argued.No r) = no r.fault r.place
+abbrev pub given : Argued → Given
+given Null = Given.nothing
+given (One c) = Given.value c
+given (Array t n) = Given.list t n
+
+abbrev pub told_argument : Result Argued Refusal → Res Given
+told_argument (Ok a) = ok (given a)
+told_argument (Err r) = no r.fault r.place
 
 -- a text or binary value handed back: its answer says its span, and the slice beside it is that part of the message itself
 pub record Handed (m : Bor (List ℕ)) (span : Res (Option (ℕ × ℕ))) (answer : Part) (part : Bor (List ℕ)) : Type 0 where

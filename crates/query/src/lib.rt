@@ -6,23 +6,21 @@
 ghost use Rattle.std.specs.Prelude.{◌≡◌, false, List, map, ℕ, ◌+◌, ◌<◌, ◌≤◌, min, length, replicate, take, drop, eqb};
 ghost use Rattle.std.proofs.Math.Option.{Option};
 ghost use Rattle.format.specs.declared.Fault.TheVariants.{WireType};
-ghost use Rattle.format.specs.Result.{ok, bind, pick, told_answer};
+ghost use Rattle.format.specs.Result.{ok, bind, pick, told};
 ghost use Rattle.format.specs.Format.{number, each, counted};
 ghost use Rattle.format.specs.Value.{string, anything, ascii, value, t_tinyint};
 ghost use Rattle.format.specs.Message.{first, third, unlimited, Message, read_message, response_layout, head, Table, table, Param, param};
-ghost use Rattle.scan.specs.Shown.{shown_next, shown_number, number_in, refusal};
+ghost use Rattle.scan.specs.Shown.{shown, shown_next, number_in, refusal};
 ghost use Rattle.show.specs.Cells.{cell_of, unruled, shown_as};
 ghost use Rattle.pass.specs.Passes.{Passes};
 ghost use Rattle.places.specs.Stands.{Stands};
 ghost use Rattle.places.specs.Places.{tables_of, table_at, column_type_at, name_at, row_at, params_of, param_at};
 ghost use Rattle.places.specs.Entries.{entry, cell_here, value_here, element_of};
-ghost use Rattle.query.specs.Shown.{past_of, cell_in, spot_of, shown_of, told_spot, told_found};
-ghost use Rattle.query.specs.Answers.{perhaps, of_table, of_param, layout_of, column_of, first_named, named_of, part_of, IsTold, given_of, ask_tables, ask_table, ask_column, ask_placed, ask_position, ask_named, ask_column_name, ask_cell, ask_cell_span, ask_cell_place, ask_parameter, ask_parameter_span, ask_element, ask_element_span, told_table, told_column, told_placed, told_named, told_cell, told_part, told_argument};
+ghost use Rattle.query.specs.Shown.{past_of, cell_in, spot_of, shown_of};
+ghost use Rattle.query.specs.Answers.{perhaps, of_table, of_param, layout_of, column_of, first_named, named_of, part_of, IsTold, given, given_of, ask_tables, ask_table, ask_column, ask_placed, ask_position, ask_named, ask_column_name, ask_cell, ask_cell_span, ask_cell_place, ask_parameter, ask_parameter_span, ask_element, ask_element_span, told_placed, told_part, told_argument};
 
-use format::{Answer, Fault, Refusal};
-use message::Verdict;
-use scan::{Body, Next};
-use show::{Raw, Shown};
+use format::{Fault, Refusal};
+use show::Raw;
 
 // ---- What the questions are answered with.
 
@@ -41,13 +39,6 @@ pub struct TableLayout {
     pub first_row: usize,
 }
 
-// A table's layout.
-#[derive(Drop)]
-pub enum TableAnswer {
-    Is(TableLayout),
-    No(Refusal),
-}
-
 // What a column says of itself: its type and where that stands, where its name starts and how long it is.
 #[derive(Clone, Copy)]
 pub struct ColumnLayout {
@@ -57,70 +48,22 @@ pub struct ColumnLayout {
     pub name_length: usize,
 }
 
-// A column's layout.
-#[derive(Drop)]
-pub enum ColumnAnswer {
-    Is(ColumnLayout),
-    No(Refusal),
-}
-
-// A column's layout, or that its table has fewer columns.
-#[derive(Drop)]
-pub enum Placed {
-    Is(ColumnLayout),
-    Past,
-    No(Refusal),
-}
-
-// The position of a column, and its layout.
-#[derive(Drop)]
-pub enum Named {
-    At(usize, ColumnLayout),
-    No(Refusal),
-}
-
-// A cell, shown by its column's type.
-#[derive(Drop)]
-pub enum CellAnswer {
-    Is(show::Cell),
-    No(Refusal),
-}
-
-// A part of the message: where it starts and how long it is; or null.
-#[derive(Clone, Copy)]
-pub enum Part {
-    Is(usize, usize),
-    Null,
-    No(Refusal),
-}
-
 // A parameter: null, a value, or an array by its elements' type and their number.
 #[derive(Drop)]
-pub enum Argued {
+pub enum Argument {
     Null,
     One(show::Cell),
     Array(u8, usize),
-    No(Refusal),
 }
 
 // ---- Steps over an accepted message. None of their readings can fail there, and what stands for a refusal is never used.
 
-// Where a reading ended that can't fail.
-fn past(a: Next) -> usize
-    ensures { result ≡ past_of a }
-{
-    match a {
-        Next::At(next) => next,
-        Next::No(_) => 0,
-    }
-}
-
-fn cell_in(a: Shown) -> show::Cell
+fn cell_in(a: Result<(show::Cell, usize), Refusal>) -> show::Cell
     ensures { result ≡ cell_in a }
 {
     match a {
-        Shown::Is(cell, _) => cell,
-        Shown::No(_) => show::Cell::NullText,
+        Ok((cell, _)) => cell,
+        Err(_) => show::Cell::NullText,
     }
 }
 
@@ -128,12 +71,12 @@ fn cell_in(a: Shown) -> show::Cell
 fn after(m: &[u8], at: usize, n: usize) -> usize
     ensures { result ≡ past_of (shown_next ((number n 0).read m.now at)) }
 {
-    past(scan::skip_fixed(m, at, n))
+    scan::skip_fixed(m, at, n).unwrap_or(0)
 }
 
 // The count of k bytes that is there.
 fn count_at(m: &[u8], at: usize, k: usize) -> usize
-    ensures { result ≡ number_in (shown_number ((number (min k 8) 0).read m.now at)) }
+    ensures { result ≡ number_in (shown ((number (min k 8) 0).read m.now at)) }
 {
     scan::number_at(m, at, k) as usize
 }
@@ -145,38 +88,38 @@ fn value_at(m: &[u8], at: usize, t: u8) -> show::Cell
 }
 
 // Past a thing that begins with its length, by that alone.
-fn skip_sized(s: &[u8], at: usize) -> Next
+fn skip_sized(s: &[u8], at: usize) -> Result<usize, Refusal>
     ensures { result ≡ shown_next ((counted false unlimited anything 0 0).read s.now at) }
 {
-    scan::body_end(scan::read_body(s, at, false, format::UNLIMITED))
+    let (_, end) = scan::read_span(s, at, format::UNLIMITED)?;
+    Ok(end)
 }
 
 // Past n things that begin with their length, by their lengths alone.
-fn jump(s: &[u8], from: usize, n: usize) -> Next
+fn jump(s: &[u8], from: usize, n: usize) -> Result<usize, Refusal>
     ensures { result ≡ shown_next ((each first 0 (replicate n (counted false unlimited anything 0 0))).read s.now from) }
 {
     let mut at = from;
-    let mut i = 0;
-    while i < n {
-        let step = skip_sized(s, at);
-        let Next::At(next) = step else {
-            return Next::No(scan::next_refusal(step));
-        };
-        at = next;
-        i += 1;
+    for _ in 0..n {
+        at = skip_sized(s, at)?;
     }
-    Next::At(at)
+    Ok(at)
 }
 
 // Past n things that begin with their length and are there.
 fn over(m: &[u8], at: usize, n: usize) -> usize
     ensures { result ≡ past_of (shown_next ((each first 0 (replicate n (counted false unlimited anything 0 0))).read m.now at)) }
 {
-    past(jump(m, at, n))
+    jump(m, at, n).unwrap_or(0)
 }
 
 const PAST_END: Refusal = Refusal {
     fault: Fault::PastEnd,
+    place: 0,
+};
+
+const NO_COLUMN: Refusal = Refusal {
+    fault: Fault::NoColumn,
     place: 0,
 };
 
@@ -198,19 +141,16 @@ fn tables_counted(m: &[u8], timed: bool) -> usize
     pass::pass_head(m, 5, timed)
 }
 
-fn count_tables(m: &[u8], timed: bool) -> Answer
-    ensures { told_answer result ≡ bind (read_message (response_layout timed) m.now) (λ p. ok (length (tables_of p))) }
+fn count_tables(m: &[u8], timed: bool) -> Result<usize, Refusal>
+    ensures { told result ≡ bind (read_message (response_layout timed) m.now) (λ p. ok (length (tables_of p))) }
 {
-    let verdict = message::accept_layout(format::response_layout(timed), m);
-    match verdict {
-        Verdict::No(r) => Answer::No(r),
-        Verdict::Fine => Answer::Is(count_at(m, tables_counted(m, timed), 2)),
-    }
+    message::accept_layout(format::response_layout(timed), m)?;
+    Ok(count_at(m, tables_counted(m, timed), 2))
 }
 
 // How many tables a response has.
-pub fn tables(m: &[u8]) -> Answer
-    ensures { told_answer result ≡ ask_tables m.now }
+pub fn tables(m: &[u8]) -> Result<usize, Refusal>
+    ensures { told result ≡ ask_tables m.now }
 {
     count_tables(m, true)
 }
@@ -243,31 +183,28 @@ fn layout_at(m: &[u8], at: usize) -> TableLayout
 }
 
 // Table t of an accepted response.
-fn table_in(m: &[u8], timed: bool, t: usize) -> TableAnswer
-    ensures { (p : Message) → read_message (response_layout timed) m.now ≡ ok p → told_table result ≡ bind (entry (tables_of p) t) (λ b. ok (layout_of (table_at timed p t) b)) }
+fn table_in(m: &[u8], timed: bool, t: usize) -> Result<TableLayout, Refusal>
+    ensures { (p : Message) → read_message (response_layout timed) m.now ≡ ok p → told result ≡ bind (entry (tables_of p) t) (λ b. ok (layout_of (table_at timed p t) b)) }
 {
     let counted = tables_counted(m, timed);
     if count_at(m, counted, 2) <= t {
-        return TableAnswer::No(PAST_END);
+        return Err(PAST_END);
     }
     let first = after(m, counted, 2);
-    TableAnswer::Is(layout_at(m, over(m, first, t)))
+    Ok(layout_at(m, over(m, first, t)))
 }
 
 // What table t of a response says of itself, with its round trip or without.
-pub fn find_table(m: &[u8], timed: bool, t: usize) -> TableAnswer
-    ensures { told_table result ≡ of_table timed m.now t (λ at b. ok (layout_of at b)) }
+pub fn find_table(m: &[u8], timed: bool, t: usize) -> Result<TableLayout, Refusal>
+    ensures { told result ≡ of_table timed m.now t (λ at b. ok (layout_of at b)) }
 {
-    let verdict = message::accept_layout(format::response_layout(timed), m);
-    match verdict {
-        Verdict::No(r) => TableAnswer::No(r),
-        Verdict::Fine => table_in(m, timed, t),
-    }
+    message::accept_layout(format::response_layout(timed), m)?;
+    table_in(m, timed, t)
 }
 
 // What table t of a response says of itself, and where it and its parts stand.
-pub fn table(m: &[u8], t: usize) -> TableAnswer
-    ensures { told_table result ≡ ask_table m.now t }
+pub fn table(m: &[u8], t: usize) -> Result<TableLayout, Refusal>
+    ensures { told result ≡ ask_table m.now t }
 {
     find_table(m, true, t)
 }
@@ -293,129 +230,98 @@ pub fn column_at(m: &[u8], types: usize, names: usize, c: usize) -> ColumnLayout
 }
 
 // What column c of table t says of itself, or that the table has fewer; of a response with its round trip or without.
-pub fn find_placed(m: &[u8], timed: bool, t: usize, c: usize) -> Placed
+pub fn find_placed(
+    m: &[u8],
+    timed: bool,
+    t: usize,
+    c: usize,
+) -> Result<Option<ColumnLayout>, Refusal>
     ensures { told_placed result ≡ of_table timed m.now t (λ at b. ok (perhaps (column_of at b c))) }
 {
-    let answer = find_table(m, timed, t);
-    match answer {
-        TableAnswer::No(r) => Placed::No(r),
-        TableAnswer::Is(layout) => {
-            if layout.columns <= c {
-                Placed::Past
-            } else {
-                Placed::Is(column_at(m, layout.types, layout.names, c))
-            }
-        }
+    let layout = find_table(m, timed, t)?;
+    if layout.columns <= c {
+        Ok(None)
+    } else {
+        Ok(Some(column_at(m, layout.types, layout.names, c)))
     }
 }
 
 // What column c of table t says of itself, or that the table has fewer.
-pub fn placed_column(m: &[u8], t: usize, c: usize) -> Placed
+pub fn placed_column(m: &[u8], t: usize, c: usize) -> Result<Option<ColumnLayout>, Refusal>
     ensures { told_placed result ≡ ask_placed m.now t c }
 {
     find_placed(m, true, t, c)
 }
 
 // What column c of table t says of itself.
-pub fn column(m: &[u8], t: usize, c: usize) -> ColumnAnswer
-    ensures { told_column result ≡ ask_column m.now t c }
+pub fn column(m: &[u8], t: usize, c: usize) -> Result<ColumnLayout, Refusal>
+    ensures { told result ≡ ask_column m.now t c }
 {
-    let placed = placed_column(m, t, c);
-    match placed {
-        Placed::No(r) => ColumnAnswer::No(r),
-        Placed::Past => ColumnAnswer::No(PAST_END),
-        Placed::Is(layout) => ColumnAnswer::Is(layout),
-    }
+    placed_column(m, t, c)?.ok_or(PAST_END)
 }
 
 // Where the bytes of a column's name stand, without their length, and how many they are.
-pub fn column_name(m: &[u8], t: usize, c: usize) -> Part
+pub fn column_name(m: &[u8], t: usize, c: usize) -> Result<Option<(usize, usize)>, Refusal>
     ensures { told_part result ≡ ask_column_name m.now t c }
 {
-    let answer = column(m, t, c);
-    match answer {
-        ColumnAnswer::No(r) => Part::No(r),
-        ColumnAnswer::Is(layout) => Part::Is(layout.name, layout.name_length),
-    }
+    let layout = column(m, t, c)?;
+    Ok(Some((layout.name, layout.name_length)))
 }
 
 // The first of some names, from a place on, that is equal to a name: of its length, and then byte by byte from the last to the first, as names of one
 // family begin alike.
-fn search(m: &[u8], from: usize, count: usize, name: &[u8]) -> Answer
+fn search(m: &[u8], from: usize, count: usize, name: &[u8]) -> Result<usize, Refusal>
     ensures { (names : List (Option (List ℕ))) → Stands (each third 0 (replicate count (string false ascii 46 47))) m.now from names
-        → told_answer result ≡ first_named name.now names 0 }
+        → told result ≡ first_named name.now names 0 }
 {
     let mut at = from;
-    let mut i = 0;
-    'columns: while i < count {
-        let body = scan::read_body(m, at, false, format::UNLIMITED);
-        let Body::Is(start, end) = body else {
-            return Answer::No(Refusal {
-                fault: Fault::NoColumn,
-                place: 0,
-            });
+    'columns: for i in 0..count {
+        let Ok((start, end)) = scan::read_span(m, at, format::UNLIMITED) else {
+            return Err(NO_COLUMN);
         };
+        at = end;
         if end - start != name.len() {
-            at = end;
-            i += 1;
             continue 'columns;
         }
-        let mut rest = name.len();
-        'bytes: loop {
-            if rest == 0 {
-                break 'columns;
-            }
-            let last = rest - 1;
+        for last in (0..name.len()).rev() {
             if m[start + last] != name[last] {
-                break 'bytes;
+                continue 'columns;
             }
-            rest = last;
         }
-        at = end;
-        i += 1;
+        return Ok(i);
     }
-    if i < count {
-        Answer::Is(i)
-    } else {
-        Answer::No(Refusal {
-            fault: Fault::NoColumn,
-            place: 0,
-        })
-    }
+    Err(NO_COLUMN)
 }
 
 // The position of the first column of table t whose name is equal, bytes compared exactly.
-pub fn find_column(m: &[u8], t: usize, name: &[u8]) -> Answer
-    ensures { told_answer result ≡ ask_position m.now t name.now }
+pub fn find_column(m: &[u8], t: usize, name: &[u8]) -> Result<usize, Refusal>
+    ensures { told result ≡ ask_position m.now t name.now }
 {
-    let answer = find_table(m, true, t);
-    match answer {
-        TableAnswer::No(r) => Answer::No(r),
-        TableAnswer::Is(layout) => search(m, layout.names, layout.columns, name),
-    }
+    let layout = find_table(m, true, t)?;
+    search(m, layout.names, layout.columns, name)
 }
 
 // The first column of a name in a table, by where its types and names begin.
-fn named_in(m: &[u8], types: usize, names: usize, count: usize, name: &[u8]) -> Named
+fn named_in(
+    m: &[u8],
+    types: usize,
+    names: usize,
+    count: usize,
+    name: &[u8],
+) -> Result<(usize, ColumnLayout), Refusal>
     ensures { (at : ℕ) (b : Table) → Stands table m.now at b → types ≡ column_type_at at b.metadata 0 → names ≡ name_at at b.metadata 0
-        → count ≡ length b.metadata.types → told_named result ≡ named_of at b name.now }
+        → count ≡ length b.metadata.types → told result ≡ named_of at b name.now }
 {
-    let found = search(m, names, count, name);
-    match found {
-        Answer::No(r) => Named::No(r),
-        Answer::Is(c) => Named::At(c, column_at(m, types, names, c)),
-    }
+    let c = search(m, names, count, name)?;
+    Ok((c, column_at(m, types, names, c)))
 }
 
 // The first column of table t whose name is equal: its position and what it says of itself.
-pub fn named_column(m: &[u8], t: usize, name: &[u8]) -> Named
-    ensures { told_named result ≡ ask_named m.now t name.now }
+pub fn named_column(m: &[u8], t: usize, name: &[u8]) -> Result<(usize, ColumnLayout), Refusal>
+    ensures { told result ≡ ask_named m.now t name.now }
 {
-    let answer = find_table(m, true, t);
-    match answer {
-        TableAnswer::No(r) => Named::No(r),
-        TableAnswer::Is(layout) => named_in(m, layout.types, layout.names, layout.columns, name),
-    }
+    let layout = find_table(m, true, t)?;
+    named_in(m, layout.types, layout.names, layout.columns, name)
 }
 
 // ---- Cells. A cell that was found is kept with the place of its column's type, where a wrong question is refused.
@@ -455,28 +361,16 @@ fn spot_at(m: &[u8], types: usize, rows: usize, k: usize, c: usize) -> Spot
     }
 }
 
-// A cell's spot, or a refusal.
-#[derive(Drop)]
-enum FoundSpot {
-    Is(Spot),
-    No(Refusal),
-}
-
-fn find_spot(m: &[u8], timed: bool, t: usize, k: usize, c: usize) -> FoundSpot
-    ensures { told_spot result ≡ of_table timed m.now t (λ at b. bind (cell_here at b k c) (λ h. ok (spot_of h))) }
+fn find_spot(m: &[u8], timed: bool, t: usize, k: usize, c: usize) -> Result<Spot, Refusal>
+    ensures { told result ≡ of_table timed m.now t (λ at b. bind (cell_here at b k c) (λ h. ok (spot_of h))) }
 {
-    let answer = find_table(m, timed, t);
-    match answer {
-        TableAnswer::No(r) => FoundSpot::No(r),
-        TableAnswer::Is(layout) => {
-            if layout.rows <= k {
-                FoundSpot::No(PAST_END)
-            } else if layout.columns <= c {
-                FoundSpot::No(PAST_END)
-            } else {
-                FoundSpot::Is(spot_at(m, layout.types, layout.first_row, k, c))
-            }
-        }
+    let layout = find_table(m, timed, t)?;
+    if layout.rows <= k {
+        Err(PAST_END)
+    } else if layout.columns <= c {
+        Err(PAST_END)
+    } else {
+        Ok(spot_at(m, layout.types, layout.first_row, k, c))
     }
 }
 
@@ -487,128 +381,81 @@ struct ShownCell {
     type_at: usize,
 }
 
-// A cell and its column's type, or a refusal.
-#[derive(Drop)]
-enum FoundCell {
-    Is(ShownCell),
-    No(Refusal),
-}
-
-fn find_cell(m: &[u8], timed: bool, t: usize, k: usize, c: usize) -> FoundCell
-    ensures { told_found result ≡ of_table timed m.now t (λ at b. bind (cell_here at b k c) (λ h. ok (shown_of h))) }
+fn find_cell(m: &[u8], timed: bool, t: usize, k: usize, c: usize) -> Result<ShownCell, Refusal>
+    ensures { told result ≡ of_table timed m.now t (λ at b. bind (cell_here at b k c) (λ h. ok (shown_of h))) }
 {
-    let found = find_spot(m, timed, t, k, c);
-    match found {
-        FoundSpot::No(r) => FoundCell::No(r),
-        FoundSpot::Is(spot) => {
-            let cell = value_at(m, spot.at, spot.wire_type);
-            FoundCell::Is(ShownCell {
-                cell,
-                type_at: spot.type_at,
-            })
-        }
-    }
-}
-
-// The cell that was found.
-fn cell_of(found: FoundCell) -> CellAnswer
-    ensures { told_cell result ≡ bind (told_found found) (λ s. ok s.cell) }
-{
-    match found {
-        FoundCell::No(r) => CellAnswer::No(r),
-        FoundCell::Is(shown) => {
-            let cell = shown.cell;
-            CellAnswer::Is(cell)
-        }
-    }
+    let spot = find_spot(m, timed, t, k, c)?;
+    let cell = value_at(m, spot.at, spot.wire_type);
+    Ok(ShownCell {
+        cell,
+        type_at: spot.type_at,
+    })
 }
 
 // The part of the message that a cell is, if it is text, bytes or a geography.
-fn part_of(cell: show::Cell, place: usize) -> Part
-    ensures { told_part result ≡ part_of place cell }
+fn part_of(shown: ShownCell) -> Result<Option<(usize, usize)>, Refusal>
+    ensures { told_part result ≡ part_of shown.type_at shown.cell }
 {
-    let raw = show::raw_of(cell);
-    match raw {
-        Raw::Body(_, start, size) => Part::Is(start, size),
-        Raw::Null(_) => Part::Null,
-        Raw::Bits(_, _, _) => Part::No(wrong_type(place)),
-    }
-}
-
-// The part of the message that a found cell is.
-fn span_of(found: FoundCell) -> Part
-    ensures { told_part result ≡ bind (told_found found) (λ s. part_of s.type_at s.cell) }
-{
-    match found {
-        FoundCell::No(r) => Part::No(r),
-        FoundCell::Is(shown) => {
-            let cell = shown.cell;
-            part_of(cell, shown.type_at)
-        }
+    match show::raw_of(shown.cell) {
+        Raw::Body(_, start, size) => Ok(Some((start, size))),
+        Raw::Null(_) => Ok(None),
+        Raw::Bits(_, _, _) => Err(wrong_type(shown.type_at)),
     }
 }
 
 // The part of the message that a span tells, itself, or as much of it as there is; for null and a refusal the empty part at the message's start.
-pub fn part_at(m: &[u8], span: Part) -> &[u8]
+pub fn part_at(m: &[u8], span: Result<Option<(usize, usize)>, Refusal>) -> &[u8]
     ensures { IsTold m.entry (told_part span) result }
 {
-    let Part::Is(start, size) = span else {
+    let Ok(Some((start, size))) = span else {
         return show::body_at(m, 0, 0);
     };
     show::body_at(m, start, size)
 }
 
 // The cell at row k and column c of table t.
-pub fn cell(m: &[u8], t: usize, k: usize, c: usize) -> CellAnswer
-    ensures { told_cell result ≡ ask_cell m.now t k c }
+pub fn cell(m: &[u8], t: usize, k: usize, c: usize) -> Result<show::Cell, Refusal>
+    ensures { told result ≡ ask_cell m.now t k c }
 {
-    cell_of(find_cell(m, true, t, k, c))
+    Ok(find_cell(m, true, t, k, c)?.cell)
 }
 
 // Where the bytes of a text or binary cell stand, or that it is null.
-pub fn cell_span(m: &[u8], t: usize, k: usize, c: usize) -> Part
+pub fn cell_span(m: &[u8], t: usize, k: usize, c: usize) -> Result<Option<(usize, usize)>, Refusal>
     ensures { told_part result ≡ ask_cell_span m.now t k c }
 {
-    span_of(find_cell(m, true, t, k, c))
+    part_of(find_cell(m, true, t, k, c)?)
 }
 
 // Where the bytes of a cell stand, whatever its type, and how many they are: of a text or binary cell its length field and its body.
-pub fn cell_place(m: &[u8], t: usize, k: usize, c: usize) -> Part
+pub fn cell_place(m: &[u8], t: usize, k: usize, c: usize) -> Result<Option<(usize, usize)>, Refusal>
     ensures { told_part result ≡ ask_cell_place m.now t k c }
 {
-    let found = find_spot(m, true, t, k, c);
-    match found {
-        FoundSpot::No(r) => Part::No(r),
-        FoundSpot::Is(spot) => {
-            let end = pass::pass_value(m, spot.at, spot.wire_type);
-            Part::Is(spot.at, end - spot.at)
-        }
-    }
+    let spot = find_spot(m, true, t, k, c)?;
+    let end = pass::pass_value(m, spot.at, spot.wire_type);
+    Ok(Some((spot.at, end - spot.at)))
 }
 
 // ---- Parameters, and the elements of those that are arrays.
 
 // The place of parameter p of an accepted invocation.
-fn param_in(m: &[u8], p: usize) -> Answer
-    ensures { (v : Message) → read_message 3 m.now ≡ ok v → told_answer result ≡ bind (entry (params_of v) p) (λ q. ok (param_at v p)) }
+fn param_in(m: &[u8], p: usize) -> Result<usize, Refusal>
+    ensures { (v : Message) → read_message 3 m.now ≡ ok v → told result ≡ bind (entry (params_of v) p) (λ q. ok (param_at v p)) }
 {
-    let client = past(scan::skip_body(m, 5, false));
+    let client = scan::skip_body(m, 5, false).unwrap_or(0);
     let counted = after(m, client, 8);
     if count_at(m, counted, 2) <= p {
-        return Answer::No(PAST_END);
+        return Err(PAST_END);
     }
     let first = after(m, counted, 2);
-    Answer::Is(pass::pass_params(m, first, p))
+    Ok(pass::pass_params(m, first, p))
 }
 
-fn find_param(m: &[u8], p: usize) -> Answer
-    ensures { told_answer result ≡ of_param m.now p (λ at q. ok at) }
+fn find_param(m: &[u8], p: usize) -> Result<usize, Refusal>
+    ensures { told result ≡ of_param m.now p (λ at q. ok at) }
 {
-    let verdict = message::accept(3, m);
-    match verdict {
-        Verdict::No(r) => Answer::No(r),
-        Verdict::Fine => param_in(m, p),
-    }
+    message::accept(3, m)?;
+    param_in(m, p)
 }
 
 // How many bytes the count of an array's elements has.
@@ -619,104 +466,95 @@ fn count_width(t: u8) -> usize
 }
 
 // The parameter at a place.
-fn argument_at(m: &[u8], at: usize) -> Argued
-    ensures { (q : Param) → Stands param m.now at q → told_argument result ≡ ok (given_of at q.type q.argument) }
+fn argument_at(m: &[u8], at: usize) -> Argument
+    ensures { (q : Param) → Stands param m.now at q → given result ≡ given_of at q.type q.argument }
 {
     let t = scan::byte_at(m, at);
     let inner = after(m, at, 1);
     if t == format::NULL {
-        return Argued::Null;
+        return Argument::Null;
     }
     if t != format::ARRAY {
-        return Argued::One(value_at(m, inner, t));
+        return Argument::One(value_at(m, inner, t));
     }
     let e = scan::byte_at(m, inner);
     let counted = after(m, inner, 1);
-    Argued::Array(e, count_at(m, counted, count_width(e)))
+    Argument::Array(e, count_at(m, counted, count_width(e)))
 }
 
 // Parameter p of an invocation, shown.
-pub fn parameter(m: &[u8], p: usize) -> Argued
+pub fn parameter(m: &[u8], p: usize) -> Result<Argument, Refusal>
     ensures { told_argument result ≡ ask_parameter m.now p }
 {
-    let place = find_param(m, p);
-    match place {
-        Answer::No(r) => Argued::No(r),
-        Answer::Is(at) => argument_at(m, at),
-    }
+    let at = find_param(m, p)?;
+    Ok(argument_at(m, at))
 }
 
 // The value that a parameter at a place is, and where its type stands.
-fn one_at(m: &[u8], at: usize) -> FoundCell
-    ensures { (q : Param) → Stands param m.now at q → told_found result ≡ bind (value_here at q.type q.argument) (λ h. ok (shown_of h)) }
+fn one_at(m: &[u8], at: usize) -> Result<ShownCell, Refusal>
+    ensures { (q : Param) → Stands param m.now at q → told result ≡ bind (value_here at q.type q.argument) (λ h. ok (shown_of h)) }
 {
     let t = scan::byte_at(m, at);
     if t == format::NULL {
-        return FoundCell::No(wrong_type(at));
+        return Err(wrong_type(at));
     }
     if t == format::ARRAY {
-        return FoundCell::No(wrong_type(at));
+        return Err(wrong_type(at));
     }
     let cell = value_at(m, after(m, at, 1), t);
-    FoundCell::Is(ShownCell { cell, type_at: at })
+    Ok(ShownCell { cell, type_at: at })
 }
 
-fn find_value(m: &[u8], p: usize) -> FoundCell
-    ensures { told_found result ≡ of_param m.now p (λ at q. bind (value_here at q.type q.argument) (λ h. ok (shown_of h))) }
+fn find_value(m: &[u8], p: usize) -> Result<ShownCell, Refusal>
+    ensures { told result ≡ of_param m.now p (λ at q. bind (value_here at q.type q.argument) (λ h. ok (shown_of h))) }
 {
-    let place = find_param(m, p);
-    match place {
-        Answer::No(r) => FoundCell::No(r),
-        Answer::Is(at) => one_at(m, at),
-    }
+    let at = find_param(m, p)?;
+    one_at(m, at)
 }
 
 // Where the bytes of a text or binary parameter stand, or that it is null.
-pub fn parameter_span(m: &[u8], p: usize) -> Part
+pub fn parameter_span(m: &[u8], p: usize) -> Result<Option<(usize, usize)>, Refusal>
     ensures { told_part result ≡ ask_parameter_span m.now p }
 {
-    span_of(find_value(m, p))
+    part_of(find_value(m, p)?)
 }
 
 // The element of an array at a place, and where the elements' type stands.
-fn element_at(m: &[u8], at: usize, e: usize) -> FoundCell
-    ensures { (q : Param) → Stands param m.now at q → told_found result ≡ bind (element_of at q.argument e) (λ h. ok (shown_of h)) }
+fn element_at(m: &[u8], at: usize, e: usize) -> Result<ShownCell, Refusal>
+    ensures { (q : Param) → Stands param m.now at q → told result ≡ bind (element_of at q.argument e) (λ h. ok (shown_of h)) }
 {
     if scan::byte_at(m, at) != format::ARRAY {
-        return FoundCell::No(wrong_type(at));
+        return Err(wrong_type(at));
     }
     let type_at = after(m, at, 1);
     let t = scan::byte_at(m, type_at);
     let counted = after(m, type_at, 1);
     let width = count_width(t);
     if count_at(m, counted, width) <= e {
-        return FoundCell::No(PAST_END);
+        return Err(PAST_END);
     }
     let first = after(m, counted, width);
     let cell = value_at(m, pass::pass_values(m, first, t, e), t);
-    FoundCell::Is(ShownCell { cell, type_at })
+    Ok(ShownCell { cell, type_at })
 }
 
-fn find_element(m: &[u8], p: usize, e: usize) -> FoundCell
-    ensures { told_found result ≡ of_param m.now p (λ at q. bind (element_of at q.argument e) (λ h. ok (shown_of h))) }
+fn find_element(m: &[u8], p: usize, e: usize) -> Result<ShownCell, Refusal>
+    ensures { told result ≡ of_param m.now p (λ at q. bind (element_of at q.argument e) (λ h. ok (shown_of h))) }
 {
-    let place = find_param(m, p);
-    match place {
-        Answer::No(r) => FoundCell::No(r),
-        Answer::Is(at) => element_at(m, at, e),
-    }
+    let at = find_param(m, p)?;
+    element_at(m, at, e)
 }
 
 // Element e of the array that parameter p is, shown.
-pub fn element(m: &[u8], p: usize, e: usize) -> CellAnswer
-    ensures { told_cell result ≡ ask_element m.now p e }
+pub fn element(m: &[u8], p: usize, e: usize) -> Result<show::Cell, Refusal>
+    ensures { told result ≡ ask_element m.now p e }
 {
-    cell_of(find_element(m, p, e))
+    Ok(find_element(m, p, e)?.cell)
 }
 
 // Where the bytes of a text or binary element stand, or that it is null.
-pub fn element_span(m: &[u8], p: usize, e: usize) -> Part
+pub fn element_span(m: &[u8], p: usize, e: usize) -> Result<Option<(usize, usize)>, Refusal>
     ensures { told_part result ≡ ask_element_span m.now p e }
 {
-    span_of(find_element(m, p, e))
+    part_of(find_element(m, p, e)?)
 }

@@ -1,4 +1,5 @@
 -- Readings that are plainly fine: a number that fits, a counted body or a null, a body that is no null's, and a number of 16 bytes that passes its rule.
+use Rattle.std.specs.Prelude.{Ok, Some, None}
 use Prim.Native.Nat.{ℕ, ◌+◌, ◌*◌, ◌-◌, ◌^◌, ◌<◌, ◌≤◌}
 use mathlib.Core.Path.{◌≡◌, refl, sym, ◌∙◌, ap, subst}
 use mathlib.Core.Bool.{Bool, true, false}
@@ -16,17 +17,13 @@ use Rattle.format.specs.Format.{number, ruled, counted, Verdict, fine, judged}
 use Rattle.format.specs.Value.{most_bytes, not_empty, anything, ascii, string, value, width_of}
 use Rattle.format.specs.Message.{unlimited}
 use Rattle.format.specs.Text.{utf8_from, utf8}
-use Rattle.text.specs.declared.Found.{Found}
-use Rattle.text.specs.Shown.{shown_at}
+use Rattle.text.specs.Shown.{Found, shown_at}
 use Rattle.text.proofs.Finds.{finds_texts}
-use Rattle.scan.specs.declared.Body.{Body}
-use Rattle.scan.specs.declared.Next.{Next}
-use Rattle.scan.specs.Shown.{shown_next, shown_body}
+use Rattle.scan.specs.Shown.{shown_next, shown_span}
 use Rattle.scan.proofs.Counted.{null_body, whole, some_fine}
 use Rattle.scan.proofs.Steps.{ruled_go}
 use Rattle.scan.proofs.Sixteen.{num_at_split}
 use Rattle.scan.proofs.Values.{plain_ends}
-use Rattle.quick.specs.declared.Sure.{Sure}
 use Rattle.quick.specs.Past.{Past, PastBody, SureBody, most_value, plain_of}
 
 module _ (s : List ℕ) (at : ℕ) where
@@ -49,11 +46,11 @@ module _ (s : List ℕ) (at : ℕ) where
       Known : Bool → Type 0
       Known t = (at + 4 ≤ length s) × (pick t 0 n ≤ most_bytes) × (r ≡ at + 4 + pick t 0 n)
 
-      by_test : (t : Bool) → eqb n null4 ≡ t → Known t → (at ≤ r) × (r ≤ at + most_value) × (r ≤ length s → shown_next ((counted true most_bytes rule 0 0).read s at) ≡ Next.At r)
+      by_test : (t : Bool) → eqb n null4 ≡ t → Known t → (at ≤ r) × (r ≤ at + most_value) × (r ≤ length s → shown_next ((counted true most_bytes rule 0 0).read s at) ≡ Ok r)
       by_test true e known =
           let place : r ≡ at + 4 = omega (arith, known.2) in
           let read = null_body true most_bytes rule 0 0 s at n (at + 4) (number_reads 4 known.0) e in
-          (omega arith, omega arith, λ h. ap shown_next read ∙ ap Next.At (sym place))
+          (omega arith, omega arith, λ h. ap shown_next read ∙ ap Ok (sym place))
       by_test false e known =
           let place : r ≡ at + 4 + n = known.2 in
           let few : n ≤ most_bytes = known.1 in (
@@ -62,14 +59,14 @@ module _ (s : List ℕ) (at : ℕ) where
             λ h.
                 let room : leb (at + 4 + n) (length s) ≡ true = le-leb (at + 4 + n) (length s) (omega arith) in
                 let read = whole true most_bytes rule 0 0 s at n (at + 4) (number_reads 4 known.0) e (omega arith) few room in
-                ap shown_next read.0 ∙ ap (λ (v : Verdict). shown_next (judged v (take n (drop (at + 4) s), at + 4 + n) at)) (fit h place) ∙ ap Next.At (sym place),
+                ap shown_next read.0 ∙ ap (λ (v : Verdict). shown_next (judged v (take n (drop (at + 4) s), at + 4 + n) at)) (fit h place) ∙ ap Ok (sym place),
           )
 
   pub string_past : (r : ℕ) → PastBody s at r → Past s at ((string true anything 0 0).read s at) r
   string_past r is = body_past anything r is (λ h e. refl)
 
   -- a text whose bytes were looked at and none of which tears it
-  pub text_past : (r : ℕ) → PastBody s at r → at + 4 ≤ r → {found : Found} → found ≡ shown_at (utf8_from 0 0 (take (r - (at + 4)) (drop (at + 4) s))) → found ≡ Found.Nothing
+  pub text_past : (r : ℕ) → PastBody s at r → at + 4 ≤ r → {found : Found} → found ≡ shown_at (utf8_from 0 0 (take (r - (at + 4)) (drop (at + 4) s))) → found ≡ None
       → Past s at ((string true utf8 0 0).read s at) r
   text_past r is after {found} e none = body_past utf8 r is (λ h place.
       let size : r - (at + 4) ≡ num_at 4 s at = omega arith in
@@ -93,7 +90,7 @@ module _ (s : List ℕ) (at : ℕ) where
     width : plain_of t ≡ width_of t
     width = rw (ne_eqb t 22 (other 22 refl), ne_eqb t 26 (other 26 refl))
 
-    pub plain_reads : at + plain_of t ≤ length s → shown_next ((value 0 0 t).read s at) ≡ Next.At (at + plain_of t)
+    pub plain_reads : at + plain_of t ≤ length s → shown_next ((value 0 0 t).read s at) ≡ Ok (at + plain_of t)
     plain_reads h =
         sym (plain_ends s at t (other 9 refl) (other 25 refl) (other 27 refl) (other 22 refl) (other 26 refl))
         ∙ ap (λ (k : ℕ). shown_next ((number k 0).read s at)) (sym width) ∙ ap shown_next (number_reads (plain_of t) h)
@@ -102,7 +99,7 @@ module _ (s : List ℕ) (at : ℕ) where
   plain_past t k is there small far =
       let plain : 0 < plain_of t = omega (arith, is) in
       let same : at + plain_of t ≡ at + k = ap (λ (n : ℕ). at + n) is in
-      (omega arith, omega arith, λ h. plain_reads t plain (omega (arith, is)) ∙ ap Next.At same)
+      (omega arith, omega arith, λ h. plain_reads t plain (omega (arith, is)) ∙ ap Ok same)
 
 -- a counted body that fits and whose bytes its rule permits, whatever its limit
 module _ (s : List ℕ) (at end : ℕ) (place : end ≡ at + 4 + num_at 4 s at) (fit : end ≤ length s) where
@@ -115,17 +112,17 @@ module _ (s : List ℕ) (at end : ℕ) (place : end ≡ at + 4 + num_at 4 s at) 
       let read = whole false limit rule l b s at n (at + 4) (number_reads s at 4 (omega arith)) refl (omega arith) few room in
       read.0 ∙ ap (λ (v : Verdict). judged v (bs, at + 4 + n) at) permits ∙ ap (λ (p : ℕ). ok (some bs, p)) (sym place)
 
-module _ (s : List ℕ) (at most : ℕ) {b : Sure} {start end : ℕ} (is : SureBody s at most b) (told : b ≡ Sure.Is start end) where
+module _ (s : List ℕ) (at most : ℕ) {start end : ℕ} {b : _} (is : SureBody s at most b) (told : b ≡ Some (start, end)) where
   -- what is known of a body that surely is one
-  pub sure : SureBody s at most (Sure.Is start end)
+  pub sure : SureBody s at most (Some (start, end))
   sure = subst (SureBody s at most) told is
 
-  pub room_reads : most ≤ unlimited → Body.Is start end ≡ shown_body at ((counted false unlimited anything 0 0).read s at)
+  pub room_reads : most ≤ unlimited → Ok (start, end) ≡ shown_span at ((counted false unlimited anything 0 0).read s at)
   room_reads few =
       let read = counted_reads s at end sure.1 sure.3 unlimited anything 0 0 (omega (arith, sure.2)) (omega arith) refl in
-      ap (λ (p : ℕ). Body.Is p end) sure.0 ∙ sym (ap (shown_body at) read)
+      ap (λ (p : ℕ). Ok (p, end)) sure.0 ∙ sym (ap (shown_span at) read)
 
-  pub name_reads : most ≤ most_bytes → ascii (take (end - start) (drop start s)) ≡ fine → shown_next ((string false ascii 46 47).read s at) ≡ Next.At end
+  pub name_reads : most ≤ most_bytes → ascii (take (end - start) (drop start s)) ≡ fine → shown_next ((string false ascii 46 47).read s at) ≡ Ok end
   name_reads few permits =
       let size : end - start ≡ num_at 4 s at = omega (arith, sure.0, sure.1) in
       let same = ap (λ (p : ℕ). ascii (take (end - start) (drop p s))) (sym sure.0) ∙ permits in

@@ -1,14 +1,13 @@
 -- What the quick functions promise of the place that they answer. 0 promises nothing: scan is asked then.
-use Rattle.std.specs.Prelude.{ℕ, ◌+◌, ◌*◌, ◌-◌, ◌^◌, ◌<◌, ◌≤◌, ◌≡◌, Bool, true, List, map, length, replicate, eqb}
+use Rattle.format.specs.declared.Refusal.{Refusal}
+use Rattle.std.specs.Prelude.{ℕ, ◌+◌, ◌*◌, ◌-◌, ◌^◌, ◌<◌, ◌≤◌, ◌≡◌, Bool, true, List, map, length, replicate, eqb, Result, Ok, Option, Some, None}
 use Rattle.format.specs.Result.{Res, pick}
 use Rattle.format.specs.Number.{num_at, null4}
 use Rattle.format.specs.Format.{Format, each}
 use Rattle.format.specs.Value.{value, width_of, most_bytes, t_decimal, t_point}
 use Rattle.format.specs.Message.{second, third, row, most_columns}
-use Rattle.scan.specs.declared.Next.{Next}
 use Rattle.scan.specs.Shown.{shown_next}
 use Rattle.quick.specs.declared.Run.{Run}
-use Rattle.quick.specs.declared.Sure.{Sure}
 
 -- the most bytes that a value has
 abbrev pub most_value : ℕ
@@ -21,20 +20,20 @@ Low at = at + most_value < 2 ^ 64
 module _ {A : Type 0} where
   -- a reading that starts at a place ends at r, if r is in the room; where it isn't, the room's end tells
   abbrev pub Past : List ℕ → ℕ → Res (A × ℕ) → ℕ → Type 0
-  Past s at x r = 0 < r → (at ≤ r) × (r ≤ at + most_value) × (r ≤ length s → shown_next x ≡ Next.At r)
+  Past s at x r = 0 < r → (at ≤ r) × (r ≤ at + most_value) × (r ≤ length s → shown_next x ≡ Ok r)
 
 module _ {A : Type 0} where
   -- a reading that ends at r, if r is in the room; and one that ends at r
   abbrev pub Within : List ℕ → Res (A × ℕ) → ℕ → Type 0
-  Within s x r = 0 < r → r ≤ length s → shown_next x ≡ Next.At r
+  Within s x r = 0 < r → r ≤ length s → shown_next x ≡ Ok r
 
   abbrev pub Surely : Res (A × ℕ) → ℕ → Type 0
-  Surely x r = 0 < r → shown_next x ≡ Next.At r
+  Surely x r = 0 < r → shown_next x ≡ Ok r
 
 -- a counted body of at most so many bytes, which fits
-abbrev pub SureBody : List ℕ → ℕ → ℕ → Sure → Type 0
-SureBody s at most (Sure.Is start end) = (start ≡ at + 4) × (end ≡ at + 4 + num_at 4 s at) × (num_at 4 s at ≤ most) × (end ≤ length s)
-SureBody s at most Sure.Not = Unit
+abbrev pub SureBody : List ℕ → ℕ → ℕ → Option (ℕ × ℕ) → Type 0
+SureBody s at most (Some (start, end)) = (start ≡ at + 4) × (end ≡ at + 4 + num_at 4 s at) × (num_at 4 s at ≤ most) × (end ≤ length s)
+SureBody s at most None = Unit
 
 -- how many bytes follow a length
 abbrev pub size_of : ℕ → ℕ
@@ -54,7 +53,7 @@ most_plain = 8 * most_columns
 
 -- a row of these types: any r bytes are its cells
 abbrev pub PlainRow : List ℕ → ℕ → Type 0
-PlainRow types r = 0 < r → (s : List ℕ) (at : ℕ) → at + r ≤ length s → shown_next ((each third 0 (map (value 50 51) types)).read s at) ≡ Next.At (at + r)
+PlainRow types r = 0 < r → (s : List ℕ) (at : ℕ) → at + r ≤ length s → shown_next ((each third 0 (map (value 50 51) types)).read s at) ≡ Ok (at + r)
 
 -- whether a row of so many bytes stands at a place
 abbrev pub RowOf : List ℕ → ℕ → ℕ → Bool → Type 0
@@ -62,12 +61,14 @@ RowOf s at plain t = t ≡ true → (at + (4 + plain) ≤ length s) × (num_at 4
 
 module _ {A : Type 0} (f : Format A) (s : List ℕ) where
   -- where n readings by one format end
-  abbrev pub Ends : ℕ → ℕ → Next
+  abbrev pub Ends : ℕ → ℕ → Result ℕ Refusal
   Ends n at = shown_next ((each second 0 (replicate n f)).read s at)
 
-  -- after some of n readings, those that are left end where all do
-  abbrev pub RunOf : ℕ → ℕ → Run → Type 0
-  RunOf from n r = (r.passed ≤ n) × (Ends (n - r.passed) r.at ≡ Ends n from)
+-- after some of n readings, those that are left end where all do: so for any readings of which one fewer ends alike from where a step comes to
+abbrev pub RunBy : (ℕ → ℕ → Type 0) → ℕ → ℕ → Run → Type 0
+RunBy steps from n r =
+    (r.passed ≤ n)
+    × ((ends : ℕ → ℕ → Result ℕ Refusal) → ((k at next : ℕ) → steps at next → 0 < next → ends k next ≡ ends (k + 1) at) → ends (n - r.passed) r.at ≡ ends n from)
 
 -- the same of rows of so many bytes, whatever their types, if any such bytes are their cells
 abbrev pub PlainRun : List ℕ → ℕ → ℕ → ℕ → Run → Type 0

@@ -10,11 +10,10 @@ ghost use Rattle.format.specs.Format.{each, number, ruled, counted};
 ghost use Rattle.format.specs.Text.{utf8};
 ghost use Rattle.format.specs.Value.{value, string, ascii, anything, not_empty, decimal_fine, point_fine};
 ghost use Rattle.format.specs.Message.{second, third, row, most_columns, unlimited};
-ghost use Rattle.scan.specs.Shown.{shown_next, shown_body};
-ghost use Rattle.quick.specs.Past.{Low, Past, PastBody, PlainRow, PlainRun, RowOf, RunOf, SureBody, Surely, Within, most_plain, plain_of, size_of};
+ghost use Rattle.scan.specs.Shown.{shown_next, shown_span};
+ghost use Rattle.quick.specs.Past.{Low, Past, PastBody, PlainRow, PlainRun, RowOf, RunBy, SureBody, Surely, Within, most_plain, plain_of, size_of};
 
-use scan::{Body, Next};
-use text::Found;
+use format::Refusal;
 
 // A byte as a number.
 fn wide(b: u8) -> u64
@@ -28,57 +27,46 @@ pub fn four(s: &[u8], at: usize) -> u64
     requires { at + 4 ≤ length s.now }
     ensures { (result ≡ num_at 4 s.now at) × (result < 4294967296) }
 {
-    let a = wide(s[at]);
-    let b = wide(s[at + 1]);
-    let c = wide(s[at + 2]);
-    let d = wide(s[at + 3]);
-    a * 16777216 + (b * 65536 + (c * 256 + d))
-}
-
-// A counted body that surely is one: where it starts and where it ends.
-#[derive(Drop)]
-enum Sure {
-    Is(usize, usize),
-    Not,
+    u32::from_be_bytes([s[at], s[at + 1], s[at + 2], s[at + 3]]) as u64
 }
 
 // The counted body of at most so many bytes whose length stands at a place, if it fits. It is no null's. The limit is far below the least length that has a
 // sign: for a test of the sign by itself the compiler would read the length byte by byte.
-fn sure_body(s: &[u8], at: usize, most: u64) -> Sure
+fn sure_body(s: &[u8], at: usize, most: u64) -> Option<(usize, usize)>
     ensures { SureBody s.now at most result }
 {
     if s.len() < at {
-        return Sure::Not;
+        return None;
     }
     if s.len() - at < 4 {
-        return Sure::Not;
+        return None;
     }
     let n = four(s, at);
     if most < n {
-        return Sure::Not;
+        return None;
     }
     let start = at + 4;
     if s.len() - start < n as usize {
-        return Sure::Not;
+        return None;
     }
-    Sure::Is(start, start + n as usize)
+    Some((start, start + n as usize))
 }
 
 // The room of a table or of its metadata. None that is longer than a message fits one, so that scan only has to say what is refused.
-pub fn read_room(s: &[u8], at: usize) -> Body
-    ensures { result ≡ shown_body at ((counted false unlimited anything 0 0).read s.now at) }
+pub fn read_room(s: &[u8], at: usize) -> Result<(usize, usize), Refusal>
+    ensures { result ≡ shown_span at ((counted false unlimited anything 0 0).read s.now at) }
 {
-    let Sure::Is(start, end) = sure_body(s, at, format::MOST_MESSAGE) else {
-        return scan::read_body(s, at, false, format::UNLIMITED);
-    };
-    Body::Is(start, end)
+    match sure_body(s, at, format::MOST_MESSAGE) {
+        Some(span) => Ok(span),
+        None => scan::read_span(s, at, format::UNLIMITED),
+    }
 }
 
 // Past a column's name.
 fn past_name(s: &[u8], at: usize) -> usize
     ensures { Surely ((string false ascii 46 47).read s.now at) result }
 {
-    let Sure::Is(start, end) = sure_body(s, at, format::MOST_BYTES) else {
+    let Some((start, end)) = sure_body(s, at, format::MOST_BYTES) else {
         return 0;
     };
     if text::is_surely_name(&s[start..end]) {
@@ -95,30 +83,29 @@ struct Run {
     at: usize,
 }
 
-// Past as many of n names as are surely fine.
-fn past_names(s: &[u8], from: usize, n: usize) -> Run
-    ensures { RunOf (string false ascii 46 47) s.now from n result }
+// Past as many of n names or rows as are surely fine, by a step past one, which is 0 where it isn't sure.
+fn past_each<F: Fn(usize) -> usize>(past: F, from: usize, n: usize) -> Run
+    requires { F.IsAlwaysCallable past }
+    ensures { RunBy (F.post past) from n result }
 {
     let mut at = from;
-    let mut i = 0;
-    while i < n {
-        let past = past_name(s, at);
-        if past == 0 {
-            return Run { passed: i, at: at };
+    for i in 0..n {
+        let next = past(at);
+        if next == 0 {
+            return Run { passed: i, at };
         }
-        at = past;
-        i += 1;
+        at = next;
     }
-    Run { passed: i, at: at }
+    Run { passed: n, at }
 }
 
 // Past n names: scan says what is refused of one that isn't surely fine.
-pub fn skip_names(s: &[u8], from: usize, n: usize) -> Next
+pub fn skip_names(s: &[u8], from: usize, n: usize) -> Result<usize, Refusal>
     ensures { result ≡ shown_next ((each third 0 (replicate n (string false ascii 46 47))).read s.now from) }
 {
-    let run = past_names(s, from, n);
+    let run = past_each(|at| past_name(s, at), from, n);
     if run.passed == n {
-        return Next::At(run.at);
+        return Ok(run.at);
     }
     scan::skip_names(s, run.at, n - run.passed)
 }
@@ -157,10 +144,10 @@ fn past_text(s: &[u8], at: usize) -> usize
     if s.len() < end {
         return 0;
     }
-    let Found::Nothing = text::torn(&s[at + 4..end]) else {
-        return 0;
-    };
-    end
+    match text::torn(&s[at + 4..end]) {
+        None => end,
+        Some(_) => 0,
+    }
 }
 
 // Past a geography, which isn't empty.
@@ -257,76 +244,57 @@ fn past_value(s: &[u8], at: usize, t: u8) -> usize
     }
 }
 
+// The types of a table's columns, so few that no place in a row overflows.
+#[derive(Clone, Copy)]
+struct Types<'a> {
+    bytes: &'a [u8],
+    ghost few: { length bytes.now ≤ most_columns },
+}
+
 // Where a row's last cell ends, in a room or past it.
-fn past_cells(s: &[u8], from: usize, types: &[u8]) -> usize
-    requires { (from ≤ length s.now) × (length types.now ≤ most_columns) }
-    ensures { Within s.now ((each third 0 (map (value 50 51) types.now)).read s.now from) result }
+fn past_cells(s: &[u8], from: usize, types: Types) -> usize
+    requires { from ≤ length s.now }
+    ensures { Within s.now ((each third 0 (map (value 50 51) types.entry.bytes.now)).read s.now from) result }
 {
     let mut at = from;
-    let mut i = 0;
-    while i < types.len() {
-        let past = past_value(s, at, types[i]);
+    for &t in types.bytes {
+        let past = past_value(s, at, t);
         if past == 0 {
             return 0;
         }
         at = past;
-        i += 1;
     }
     at
 }
 
 // Past a row that is surely fine.
-fn past_row(s: &[u8], at: usize, types: &[u8]) -> usize
-    requires { length types.now ≤ most_columns }
-    ensures { Surely ((row types.now).read s.now at) result }
+fn past_row(s: &[u8], at: usize, types: Types) -> usize
+    ensures { Surely ((row types.entry.bytes.now).read s.now at) result }
 {
-    let Sure::Is(start, end) = sure_body(s, at, format::MOST_ROW) else {
+    let Some((start, end)) = sure_body(s, at, format::MOST_ROW) else {
         return 0;
     };
     let past = past_cells(&s[..end], start, types);
     if past == end { end } else { 0 }
 }
 
-// Past as many of n rows as are surely fine.
-fn past_rows(s: &[u8], from: usize, types: &[u8], n: usize) -> Run
-    requires { length types.now ≤ most_columns }
-    ensures { RunOf (row types.now) s.now from n result }
-{
-    let mut at = from;
-    let mut i = 0;
-    while i < n {
-        let past = past_row(s, at, types);
-        if past == 0 {
-            return Run { passed: i, at: at };
-        }
-        at = past;
-        i += 1;
-    }
-    Run { passed: i, at: at }
-}
-
 // Past n rows of any columns: scan looks at a row that isn't surely fine.
-fn skip_ruled(s: &[u8], from: usize, types: &[u8], n: usize) -> Next
-    requires { length types.now ≤ most_columns }
-    ensures { result ≡ shown_next ((each second 0 (replicate n (row types.now))).read s.now from) }
+fn skip_ruled(s: &[u8], from: usize, types: Types, n: usize) -> Result<usize, Refusal>
+    ensures { result ≡ shown_next ((each second 0 (replicate n (row types.entry.bytes.now))).read s.now from) }
 {
     let mut at = from;
     let mut i = 0;
     while i < n {
-        let run = past_rows(s, at, types, n - i);
+        let run = past_each(|at| past_row(s, at, types), at, n - i);
         i = i + run.passed;
         at = run.at;
         if i == n {
-            return Next::At(at);
+            return Ok(at);
         }
-        let step = scan::skip_row(s, at, types);
-        let Next::At(next) = step else {
-            return Next::No(scan::next_refusal(step));
-        };
-        at = next;
+        at = scan::skip_row(s, at, types.bytes)?;
         i += 1;
     }
-    Next::At(at)
+    Ok(at)
 }
 
 // How many bytes a value has whose type has one size and no rule; 0 for any other.
@@ -343,19 +311,16 @@ fn plain_of(t: u8) -> usize
 }
 
 // How many bytes the cells of a row have if every column's type has one size and no rule; else 0.
-fn plain_row(types: &[u8]) -> usize
-    requires { length types.now ≤ most_columns }
-    ensures { PlainRow types.now result × (result ≤ most_plain) }
+fn plain_row(types: Types) -> usize
+    ensures { PlainRow types.entry.bytes.now result × (result ≤ most_plain) }
 {
     let mut sum = 0;
-    let mut i = 0;
-    while i < types.len() {
-        let width = plain_of(types[i]);
+    for &t in types.bytes {
+        let width = plain_of(t);
         if width == 0 {
             return 0;
         }
-        sum = sum + width;
-        i += 1;
+        sum += width;
     }
     sum
 }
@@ -380,34 +345,33 @@ fn plain_rows(s: &[u8], from: usize, n: usize, plain: usize) -> Run
     ensures { PlainRun s.now from n plain result }
 {
     let mut at = from;
-    let mut i = 0;
-    while i < n {
+    for i in 0..n {
         if !is_plain(s, at, plain) {
-            return Run { passed: i, at: at };
+            return Run { passed: i, at };
         }
-        at = at + (4 + plain);
-        i += 1;
+        at += 4 + plain;
     }
-    Run { passed: i, at: at }
+    Run { passed: n, at }
 }
 
 // Past n rows. Where there are none, no type is looked at. As skip_ruled has two callers it stays a function of its own, in which the compiler keeps all places in registers.
-pub fn skip_rows(s: &[u8], from: usize, types: &[u8], n: usize) -> Next
+pub fn skip_rows(s: &[u8], from: usize, types: &[u8], n: usize) -> Result<usize, Refusal>
     ensures { result ≡ shown_next ((each second 0 (replicate n (row types.now))).read s.now from) }
 {
     if format::MOST_COLUMNS < types.len() as u64 {
         return scan::skip_rows(s, from, types, n);
     }
     if n == 0 {
-        return Next::At(from);
+        return Ok(from);
     }
+    let types = Types { bytes: types };
     let plain = plain_row(types);
     if plain == 0 {
         return skip_ruled(s, from, types, n);
     }
     let run = plain_rows(s, from, n, plain);
     if run.passed == n {
-        return Next::At(run.at);
+        return Ok(run.at);
     }
     skip_ruled(s, run.at, types, n - run.passed)
 }

@@ -1,4 +1,8 @@
 -- What the code reads of an accepted message is its record, kind by kind.
+use Rattle.record.specs.declared.Field.{Field}
+use Rattle.std.specs.Prelude.{Some, None}
+use Rattle.std.specs.Prelude as std
+use Rattle.std.specs.Prelude.{Result, Ok, Err}
 use Prim.Native.Nat.{ℕ, ◌+◌, ◌%◌, min}
 use mathlib.Core.Path.{◌≡◌, refl, sym, ◌∙◌, ap, ap₂, subst}
 use mathlib.Core.Bool.{Bool, true, false}
@@ -10,14 +14,13 @@ use lib.IntN.{ℤ}
 use native.Mathlib.Omega.{arith}
 use Rattle.format.specs.declared.Fault.TheVariants.{Flags}
 use Rattle.format.specs.declared.Refusal.{Refusal}
-use Rattle.format.specs.Result.{Res, ok}
+use Rattle.format.specs.Result.{Res, ok, no, told}
 use Rattle.format.specs.Format.{Format, number, block, both, present, nothing}
 use Rattle.format.specs.Text.{utf8}
 use Rattle.format.specs.Message as wire
 use Rattle.format.specs.Message.{Message, Server, content_of, read_message, login_request, login_response, server, no_server, invocation, response_layout, response, head, app_stated, tripped, flag_byte, after_flags, text, edition, flagged, most_items, first, param, table}
 use Rattle.format.proofs.Results.{ok_same}
-use Rattle.message.specs.declared.Verdict.{Verdict}
-use Rattle.message.specs.Verdict.{told_verdict, verdict_of}
+use Rattle.message.specs.Verdict.{verdict_of}
 use Rattle.message.proofs.Accepted.{verdict_go, verdict_stop}
 use Rattle.scan.specs.Signed.{signed}
 use Rattle.places.specs.Places.{after_text, after_note, after_number, trip_size}
@@ -26,8 +29,6 @@ use Rattle.places.proofs.Contents.{content_response}
 use Rattle.places.proofs.Replies.{tabled}
 use Rattle.places.proofs.Calls.{call_1, call_2}
 use Rattle.record.specs.declared.Span.{Span}
-use Rattle.record.specs.declared.Edition.{Edition}
-use Rattle.record.specs.declared.Num.{Num}
 use Rattle.record.specs.declared.Noted.{Noted}
 use Rattle.record.specs.declared.LoginRequestRecord.{LoginRequestRecord}
 use Rattle.record.specs.declared.ResponseRecord.{ResponseRecord}
@@ -39,19 +40,19 @@ use Rattle.record.proofs.Holds.{HoldsNote}
 use Rattle.record.proofs.Says.{number_says, text_says, list_says, trip_says, notice, number_both, ruled_both, block_both, text_both, noted_both, said}
 
 -- ---- an answer's record
-module _ {A : Type 0} (show : Message → A) (d : A) (w : Res Message) (v : Verdict) where
-  pub fine_record : (x : A) → told_verdict v ≡ verdict_of w → v ≡ Verdict.Fine → ((r : Message) → w ≡ ok r → x ≡ show r) → x ≡ record_in show d w
-  fine_record x e fine says = let g = verdict_go w e fine in says g.0 g.1 ∙ sym (ap (record_in show d) g.1)
+module _ {A : Type 0} (show : Message → A) (w : Res Message) {v : Result Unit Refusal} (e : told v ≡ verdict_of w) where
+  pub fine_record : (x : A) → v ≡ Ok tt → ((r : Message) → w ≡ ok r → x ≡ show r) → ok x ≡ record_in show w
+  fine_record x fine says = let g = verdict_go w e fine in ap ok (says g.0 g.1) ∙ sym (ap (record_in show) g.1)
 
-  pub refused_record : {q : Refusal} → told_verdict v ≡ verdict_of w → v ≡ Verdict.No q → d ≡ record_in show d w
-  refused_record e bad = sym (ap (record_in show d) (verdict_stop w e bad refl))
+  pub refused_record : {q : Refusal} → v ≡ Err q → no q.fault q.place ≡ record_in show w
+  refused_record bad = sym (ap (record_in show) (verdict_stop w e bad))
 
 -- ---- kind 1: from the service on
 abbrev pub Rest : Option ℕ → Format (Option (List ℕ) × (Option (List ℕ) × List ℕ))
 Rest h = both (text 4 5) (λ s. both (text 6 7) (λ u. block (wire.hash_size h) 8))
 
-module _ (m : List ℕ) (v : ℕ) (version : number_at m 4 1 ≡ record { n = v; next = 5 }) where
-  login_put : (at size : ℕ) (e : Edition) (s u : Option (List ℕ)) (bs : List ℕ)
+module _ (m : List ℕ) (v : ℕ) (version : number_at m 4 1 ≡ record { value = v; next = 5 }) where
+  login_put : (at size : ℕ) (e : (std.Option ℤ)) (s u : Option (List ℕ)) (bs : List ℕ)
       → text_at m at false ≡ spot (span_of at s) (after_text at s) → text_at m (after_text at s) false ≡ spot (span_of (after_text at s) u) (after_text (after_text at s) u) → length bs ≡ size
       → login_at m at v e size ≡ record {
         version = signed 1 v;
@@ -63,7 +64,7 @@ module _ (m : List ℕ) (v : ℕ) (version : number_at m 4 1 ≡ record { n = v;
   login_put at size e s u bs p q r = rw (p, q, r)
 
   -- from the service on
-  login_rest : (at : ℕ) (e : Edition) (h : Option ℕ) (a : Option (List ℕ) × (Option (List ℕ) × List ℕ)) (end : ℕ)
+  login_rest : (at : ℕ) (e : (std.Option ℤ)) (h : Option ℕ) (a : Option (List ℕ) × (Option (List ℕ) × List ℕ)) (end : ℕ)
       → (both (text 4 5) (λ s. both (text 6 7) (λ u. block (wire.hash_size h) 8))).read m at ≡ ok (a, end)
       → login_at m at v e (wire.hash_size h) ≡ record {
         version = signed 1 v;
@@ -88,13 +89,13 @@ module _ (m : List ℕ) (v : ℕ) (version : number_at m 4 1 ≡ record { n = v;
       let p = into_parts m some _ (edition 3) 5 h mid first in
       let n = number_says m 5 1 3 p.0 mid (ruled_part m _ _ (number 1 3) 5 p.0 mid p.1) in
       let read : (Rest (some p.0)).read m 6 ≡ ok (a, end) = ap₂ (λ (x : Option ℕ) (y : ℕ). (Rest x).read m y) p.2 (sym n.1) ∙ rest in
-      rw (version, is, n.0) (login_rest 6 (Edition.Is (signed 1 p.0)) (some p.0) a end read ∙ ap (put a) p.2)
+      rw (version, is, n.0) (login_rest 6 (Some (signed 1 p.0)) (some p.0) a end read ∙ ap (put a) p.2)
   by_version false is h mid a end first rest =
       let same = ok_same first in
       let gone : none ≡ h = ap (λ (w : Option ℕ × ℕ). w.0) same in
       let at : 5 ≡ mid = ap (λ (w : Option ℕ × ℕ). w.1) same in
       let read : (Rest none).read m 5 ≡ ok (a, end) = ap₂ (λ (x : Option ℕ) (y : ℕ). (Rest x).read m y) gone at ∙ rest in
-      rw (version, is) (login_rest 5 Edition.Absent none a end read ∙ ap (put a) gone)
+      rw (version, is) (login_rest 5 None none a end read ∙ ap (put a) gone)
 
   login_says : (l : wire.LoginRequest) (end : ℕ) → (login_request v).read m 5 ≡ ok (l, end) → login_request_at m ≡ login_request_of v l
   unfolding login_request
@@ -111,7 +112,7 @@ login_request_says m r e =
     login_says m r.version t.version p.0 (length m) p.1 ∙ ap (λ (c : wire.Content). login_request_of r.version (wire.the_login_request c)) p.2
 
 -- ---- kind 2
-module _ (m : List ℕ) (v : ℕ) (version : number_at m 4 1 ≡ record { n = v; next = 5 }) where
+module _ (m : List ℕ) (v : ℕ) (version : number_at m 4 1 ≡ record { value = v; next = 5 }) where
   server_says : (r : ℕ) (x : Server) (end : ℕ) → server.read m 6 ≡ ok (x, end) → server_at m v r ≡ login_response_of v r (some x)
   unfolding server
   server_says r x end e =
@@ -124,7 +125,7 @@ module _ (m : List ℕ) (v : ℕ) (version : number_at m 4 1 ≡ record { n = v;
       let q₅ = text_says m 30 false utf8 15 16 a.1.1.1.1 end q₄.1 in
       rw (q₁.0, q₂.0, q₃.0, q₄.0, q₅.0) (ap (λ (y : Server). login_response_of v r (some y)) p.2)
 
-  by_result : (t : Bool) (r : ℕ) → number_at m 5 1 ≡ record { n = r; next = 6 } → eqb r 0 ≡ t → (o : Option Server) (end : ℕ) → (present t no_server server).read m 6 ≡ ok (o, end) → login_response_at m ≡ login_response_of v r o
+  by_result : (t : Bool) (r : ℕ) → number_at m 5 1 ≡ record { value = r; next = 6 } → eqb r 0 ≡ t → (o : Option Server) (end : ℕ) → (present t no_server server).read m 6 ≡ ok (o, end) → login_response_at m ≡ login_response_of v r o
   unfolding present nothing
   by_result true r first is o end e =
       let p = into_parts m some _ server 6 o end e in
@@ -148,7 +149,7 @@ login_response_says m r e =
     ∙ ap (λ (c : wire.Content). login_response_of r.version (wire.the_login_response c).result (wire.the_login_response c).server) p.2
 
 -- ---- kind 3
-call_says : (m : List ℕ) (v : ℕ) → number_at m 4 1 ≡ record { n = v; next = 5 } → (l : wire.Invocation) (end : ℕ) → invocation.read m 5 ≡ ok (l, end) → invocation_at m ≡ invocation_of v l
+call_says : (m : List ℕ) (v : ℕ) → number_at m 4 1 ≡ record { value = v; next = 5 } → (l : wire.Invocation) (end : ℕ) → invocation.read m 5 ≡ ok (l, end) → invocation_at m ≡ invocation_of v l
 unfolding invocation
 call_says m v version l end e =
     let p = into_parts m _ _ (both (text 20 21) call_1) 5 l end e in
@@ -183,12 +184,12 @@ trip_small false = refl
 
 module _ (timed : Bool) (m : List ℕ) where
   pub record Replied (l : wire.Response) : Type 0 where
-    pub client : (block_at m 5 ≡ record { bytes = l.head.client; next = 13 }) × (take (length l.head.client) (drop 5 m) ≡ l.head.client)
-    pub flags : number_at m 13 1 ≡ record { n = l.head.flags; next = 14 }
+    pub client : (block_at m 5 ≡ record { value = l.head.client; next = 13 }) × (take (length l.head.client) (drop 5 m) ≡ l.head.client)
+    pub flags : number_at m 13 1 ≡ record { value = l.head.flags; next = 14 }
     pub status : (noted_at m 14 1 (flagged 32 l.head.flags) true ≡ notice l.head.status 15 l.head.status_string) × HoldsNote m (note_of 15 l.head.status_string) l.head.status_string
     pub app : (noted_at m (app_at l) 1 (flagged 128 l.head.flags) true ≡ notice l.head.app_status (app_at l + 1) l.head.app_string) × HoldsNote m (note_of (app_at l + 1) l.head.app_string) l.head.app_string
     pub trip : (noted_at m (trip_at l) (trip_size timed) (flagged 64 l.head.flags) false ≡ notice (get_or l.head.round_trip 0) (exception_at l) l.head.exception) × HoldsNote m (note_of (exception_at l) l.head.exception) l.head.exception
-    pub tables : number_at m (after_note (exception_at l) l.head.exception) 2 ≡ record { n = length l.tables; next = after_note (exception_at l) l.head.exception + 2 }
+    pub tables : number_at m (after_note (exception_at l) l.head.exception) 2 ≡ record { value = length l.tables; next = after_note (exception_at l) l.head.exception + 2 }
 
   pub replied : (l : wire.Response) (end : ℕ) → (response timed).read m 5 ≡ ok (l, end) → Replied l
   unfolding response head
@@ -210,7 +211,7 @@ module _ (timed : Bool) (m : List ℕ) where
       (record { client = (c.0, c.2); flags = f.0; status = (s.0, s.2); app = (b.0, b.2); trip = (r.0, r.2); tables = rw (← r.1) n }))
 
   -- what the code finds there is the record
-  pub reply_is : (version flags size : ℕ) (client : List ℕ) (f g h : Bool) (a b c : Noted) (k : Num) (v x y z : ℤ)
+  pub reply_is : (version flags size : ℕ) (client : List ℕ) (f g h : Bool) (a b c : Noted) (k : (Field ℕ)) (v x y z : ℤ)
       → size ≡ trip_size timed → f ≡ flagged 32 flags → g ≡ flagged 128 flags → h ≡ flagged 64 flags
       → a ≡ noted_at m 14 1 f true → b ≡ noted_at m a.next 1 g true → c ≡ noted_at m b.next (min size 8) h false → k ≡ number_at m c.next 2
       → v ≡ signed 1 version → x ≡ signed 1 a.number → y ≡ signed 1 b.number → z ≡ signed 4 c.number
@@ -225,7 +226,7 @@ module _ (timed : Bool) (m : List ℕ) where
         app_string = b.span;
         round_trip = z;
         exception = c.span;
-        tables = k.n;
+        tables = k.value;
         tables_at = k.next;
       }) (response_of version l)
   reply_is version flags size client f g h a b c k v x y z w f₁ f₂ f₃ p₁ p₂ p₃ p₄ q₁ q₂ q₃ q₄ l end e is same =
@@ -241,9 +242,9 @@ module _ (timed : Bool) (m : List ℕ) where
 
 -- the response of an accepted message, and what the code finds of its version, flags and client data
 pub response_read : (timed : Bool) (m : List ℕ) (r : Message) → read_message (response_layout timed) m ≡ ok r
-    → (l : wire.Response) × ((response timed).read m 5 ≡ ok (l, length m)) × (l ≡ wire.the_response r.content) × ((number_at m 4 1).n ≡ r.version)
+    → (l : wire.Response) × ((response timed).read m 5 ≡ ok (l, length m)) × (l ≡ wire.the_response r.content) × ((number_at m 4 1).value ≡ r.version)
 response_read timed m r e =
     let t = said (response_layout timed) m r e in
     let read = ap (λ (f : Format wire.Content). f.read m 5) (sym (content_response timed r.version)) ∙ t.content in
     let p = into_parts m wire.a_response _ (response timed) 5 r.content (length m) read in
-    (p.0, p.1, ap wire.the_response p.2, ap (λ (x : Num). x.n) t.version)
+    (p.0, p.1, ap wire.the_response p.2, ap (λ (x : (Field ℕ)). x.value) t.version)

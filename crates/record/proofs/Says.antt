@@ -1,4 +1,5 @@
 -- What the code finds at the places of an accepted reading's parts.
+use Rattle.record.specs.declared.Field.{Field}
 use Prim.Native.Nat.{ℕ, ◌+◌}
 use mathlib.Core.Path.{◌≡◌, refl, sym, ◌∙◌, ap, subst}
 use mathlib.Core.Bool.{Bool, true, false}
@@ -20,7 +21,6 @@ use Rattle.scan.proofs.Answers.{took}
 use Rattle.places.specs.Places.{after_text, after_note, after_number, trip_size}
 use Rattle.places.proofs.Readings.{both_parts, into_parts, ruled_part, each_length, block_held, text_ends}
 use Rattle.places.proofs.Contents.{content_read}
-use Rattle.record.specs.declared.Num.{Num}
 use Rattle.record.specs.declared.Noted.{Noted}
 use Rattle.record.specs.Spans.{span_of, note_of}
 use Rattle.record.specs.Peeks.{num_in, spot_in, block_in, number_at, text_at, note_at, block_at, noted_at}
@@ -29,13 +29,13 @@ use Rattle.record.proofs.Fields.{spot, note_absent, note_there}
 
 -- ---- what the code finds
 module _ (s : List ℕ) (at : ℕ) where
-  pub number_says : (k field n next : ℕ) → (number k field).read s at ≡ ok (n, next) → (number_at s at k ≡ record { n = n; next = at + k }) × (next ≡ at + k)
+  pub number_says : (k field n next : ℕ) → (number k field).read s at ≡ ok (n, next) → (number_at s at k ≡ record { value = n; next = at + k }) × (next ≡ at + k)
   unfolding number_at number
   number_says k field n next e =
       let t = took k field s at n next e in
       (ap (num_in at) (e ∙ ap (λ (m : ℕ). ok (n, m)) t.place), t.place)
 
-  pub block_says : (field : ℕ) (bs : List ℕ) (next : ℕ) → (block 8 field).read s at ≡ ok (bs, next) → (block_at s at ≡ record { bytes = bs; next = at + 8 }) × (next ≡ at + 8)
+  pub block_says : (field : ℕ) (bs : List ℕ) (next : ℕ) → (block 8 field).read s at ≡ ok (bs, next) → (block_at s at ≡ record { value = bs; next = at + 8 }) × (next ≡ at + 8)
   unfolding block_at block
   block_says field bs next e =
       let far : at + 8 ≡ next = ap (λ (w : List ℕ × ℕ). w.1) (ok_same (passed (leb (at + 8) (length s)) _ _ e).1) in
@@ -71,14 +71,14 @@ module _ (s : List ℕ) (at : ℕ) where
 
   module _ {A : Type 0} (most field : ℕ) (ix : ℕ → Index → Index) (f : Format A) where
     -- a count, and so many values
-    pub list_says : (l : List A) (next : ℕ) → (list 2 most field ix f).read s at ≡ ok (l, next) → number_at s at 2 ≡ record { n = length l; next = at + 2 }
+    pub list_says : (l : List A) (next : ℕ) → (list 2 most field ix f).read s at ≡ ok (l, next) → number_at s at 2 ≡ record { value = length l; next = at + 2 }
     unfolding list
     list_says l next e =
         let p = into_parts s (λ v. v.1) _ (both _ (λ n. each ix 0 (replicate n f))) at l next e in
         let q = both_parts s _ (λ n. each ix 0 (replicate n f)) at p.0 next p.1 in
         let c = ruled_part s _ _ (number 2 field) at p.0.0 q.0 (ruled_part s _ _ _ at p.0.0 q.0 q.1) in
         let size : p.0.0 ≡ length l = sym (each_length s ix 0 (replicate p.0.0 f) q.0 p.0.1 next q.2 ∙ length-replicate p.0.0 f) ∙ ap length p.2 in
-        (number_says 2 field p.0.0 q.0 c).0 ∙ ap (λ (n : ℕ). record { n = n; next = at + 2 }) size
+        (number_says 2 field p.0.0 q.0 c).0 ∙ ap (λ (n : ℕ). record { value = n; next = at + 2 }) size
 
 -- ---- a number, and the string after it
 abbrev pub notice : ℕ → ℕ → Option (Option (List ℕ)) → Noted
@@ -95,16 +95,16 @@ module _ (s : List ℕ) (at : ℕ) where
       (rw (n.0, t.0), t.1, note_held s (at + k) there nullable rule l b v.1 next rest)
 
   -- the round trip, which is a number of 0 bytes where there is none
-  no_number : number_at s at 0 ≡ record { n = 0; next = at }
+  no_number : number_at s at 0 ≡ record { value = 0; next = at }
   unfolding number_at number num_at
   no_number = by_room (leb (at + 0) (length s))
     where
-      by_room : (t : Bool) → num_in at (pick t (ok (0, at + 0)) (no Short at)) ≡ record { n = 0; next = at }
+      by_room : (t : Bool) → num_in at (pick t (ok (0, at + 0)) (no Short at)) ≡ record { value = 0; next = at }
       by_room true = rw (add-zero at)
       by_room false = refl
 
-  abbrev maybe : Option ℕ → Num
-  maybe o = record { n = get_or o 0; next = after_number 4 at o }
+  abbrev maybe : Option ℕ → (Field ℕ)
+  maybe o = record { value = get_or o 0; next = after_number 4 at o }
 
   maybe_says : (timed : Bool) (o : Option ℕ) (next : ℕ) → (trip timed).read s at ≡ ok (o, next) → (number_at s at (trip_size timed) ≡ maybe o) × (next ≡ after_number 4 at o)
   unfolding present nothing
@@ -131,21 +131,21 @@ module _ (s : List ℕ) (at : ℕ) where
 -- ---- a field, and what follows it
 module _ {B : Type 0} (s : List ℕ) (at : ℕ) where
   pub number_both : (k field : ℕ) (g : ℕ → Format B) (v : ℕ × B) (next : ℕ) → (both (number k field) g).read s at ≡ ok (v, next)
-      → (number_at s at k ≡ record { n = v.0; next = at + k }) × ((g v.0).read s (at + k) ≡ ok (v.1, next))
+      → (number_at s at k ≡ record { value = v.0; next = at + k }) × ((g v.0).read s (at + k) ≡ ok (v.1, next))
   number_both k field g v next e =
       let q = both_parts s (number k field) g at v next e in
       let t = number_says s at k field v.0 q.0 q.1 in
       (t.0, ap (λ (p : ℕ). (g v.0).read s p) (sym t.1) ∙ q.2)
 
   pub ruled_both : (test : ℕ → Bool) (fault : Fault) (k field : ℕ) (g : ℕ → Format B) (v : ℕ × B) (next : ℕ) → (both (ruled test fault (number k field)) g).read s at ≡ ok (v, next)
-      → (number_at s at k ≡ record { n = v.0; next = at + k }) × ((g v.0).read s (at + k) ≡ ok (v.1, next))
+      → (number_at s at k ≡ record { value = v.0; next = at + k }) × ((g v.0).read s (at + k) ≡ ok (v.1, next))
   ruled_both test fault k field g v next e =
       let q = both_parts s (ruled test fault (number k field)) g at v next e in
       let t = number_says s at k field v.0 q.0 (ruled_part s test fault (number k field) at v.0 q.0 q.1) in
       (t.0, ap (λ (p : ℕ). (g v.0).read s p) (sym t.1) ∙ q.2)
 
   pub block_both : (field : ℕ) (g : List ℕ → Format B) (v : List ℕ × B) (next : ℕ) → (both (block 8 field) g).read s at ≡ ok (v, next)
-      → (block_at s at ≡ record { bytes = v.0; next = at + 8 }) × ((g v.0).read s (at + 8) ≡ ok (v.1, next)) × (take (length v.0) (drop at s) ≡ v.0)
+      → (block_at s at ≡ record { value = v.0; next = at + 8 }) × ((g v.0).read s (at + 8) ≡ ok (v.1, next)) × (take (length v.0) (drop at s) ≡ v.0)
   block_both field g v next e =
       let q = both_parts s (block 8 field) g at v next e in
       let t = block_says s at field v.0 q.0 q.1 in
@@ -168,7 +168,7 @@ module _ {B : Type 0} (s : List ℕ) (at : ℕ) where
 
 -- ---- the whole message
 pub record Said (kind : ℕ) (m : List ℕ) (r : Message) : Type 0 where
-  pub version : number_at m 4 1 ≡ record { n = r.version; next = 5 }
+  pub version : number_at m 4 1 ≡ record { value = r.version; next = 5 }
   pub content : (content_of kind r.version).read m 5 ≡ ok (r.content, length m)
 
 pub said : (kind : ℕ) (m : List ℕ) (r : Message) → read_message kind m ≡ ok r → Said kind m r

@@ -1,15 +1,15 @@
 -- What each kind of message is shown as, by its record alone: numbers with their signs, blocks as they are, strings by their places.
 -- A message's version stands at 4, and what follows it at 5.
-use Rattle.std.specs.Prelude.{ℕ, ◌+◌, length, replicate}
+use Rattle.std.specs.Prelude as std
+use Rattle.std.specs.Prelude.{ℕ, ℤ, ◌+◌, length, replicate, Some, None}
 use Rattle.std.proofs.Math.Option.{Option, some, none, get_or}
 use Rattle.format.specs.Number.{num_bytes}
-use Rattle.format.specs.Result.{Res, ok, no}
+use Rattle.format.specs.Result.{Res, ok, bind}
 use Rattle.format.specs.Message as wire
 use Rattle.format.specs.Message.{Message, Server}
 use Rattle.scan.specs.Signed.{signed}
 use Rattle.places.specs.Places.{after_text, after_note, after_number}
 use Rattle.record.specs.declared.Span.{Span}
-use Rattle.record.specs.declared.Edition.{Edition}
 use Rattle.record.specs.declared.LoginRequestRecord.{LoginRequestRecord}
 use Rattle.record.specs.declared.LoginResponseRecord.{LoginResponseRecord}
 use Rattle.record.specs.declared.InvocationRecord.{InvocationRecord}
@@ -17,15 +17,14 @@ use Rattle.record.specs.declared.ResponseRecord.{ResponseRecord}
 use Rattle.record.specs.Spans.{span_of, note_of}
 
 module _ {A : Type 0} where
-  -- the record of a message that is accepted; of one that is not, the record given
-  abbrev pub record_in : (Message → A) → A → Res Message → A
-  record_in show d (ok r) = show r
-  record_in show d (no f p) = d
+  -- the record of a message that is accepted, or why it is not
+  abbrev pub record_in : (Message → A) → Res Message → Res A
+  record_in show read = bind read (λ r. ok (show r))
 
 -- kind 1
-abbrev pub edition_of : Option ℕ → Edition
-edition_of none = Edition.Absent
-edition_of (some n) = Edition.Is (signed 1 n)
+abbrev pub edition_of : Option ℕ → std.Option ℤ
+edition_of none = None
+edition_of (some n) = Some (signed 1 n)
 
 abbrev pub login_request_of : ℕ → wire.LoginRequest → LoginRequestRecord
 login_request_of version l =
@@ -39,11 +38,8 @@ login_request_of version l =
       hash = Span.At (after_text user l.user) (length l.hash);
     }
 
-abbrev pub no_login_request : LoginRequestRecord
-no_login_request = record { version = signed 1 0; hash_version = Edition.Absent; service = Span.Absent; user = Span.Absent; hash = Span.Absent }
-
-abbrev pub shown_login_request : Res Message → LoginRequestRecord
-shown_login_request = record_in (λ r. login_request_of r.version (wire.the_login_request r.content)) no_login_request
+abbrev pub shown_login_request : Res Message → Res LoginRequestRecord
+shown_login_request = record_in (λ r. login_request_of r.version (wire.the_login_request r.content))
 
 -- kind 2: what only follows a result of 0 is 0 or absent else
 abbrev pub login_response_of : ℕ → ℕ → Option Server → LoginResponseRecord
@@ -66,8 +62,8 @@ login_response_of version result (some v) = record {
   build = span_of 30 v.build;
 }
 
-abbrev pub shown_login_response : Res Message → LoginResponseRecord
-shown_login_response = record_in (λ r. login_response_of r.version (wire.the_login_response r.content).result (wire.the_login_response r.content).server) (login_response_of 0 0 none)
+abbrev pub shown_login_response : Res Message → Res LoginResponseRecord
+shown_login_response = record_in (λ r. login_response_of r.version (wire.the_login_response r.content).result (wire.the_login_response r.content).server)
 
 -- kind 3, with the number of its parameters and where they begin
 abbrev pub invocation_of : ℕ → wire.Invocation → InvocationRecord
@@ -81,11 +77,8 @@ invocation_of version l =
       params_at = client + 10;
     }
 
-abbrev pub no_invocation : InvocationRecord
-no_invocation = record { version = signed 1 0; procedure = Span.Absent; client = replicate 8 0; params = 0; params_at = 0 }
-
-abbrev pub shown_invocation : Res Message → InvocationRecord
-shown_invocation = record_in (λ r. invocation_of r.version (wire.the_invocation r.content)) no_invocation
+abbrev pub shown_invocation : Res Message → Res InvocationRecord
+shown_invocation = record_in (λ r. invocation_of r.version (wire.the_invocation r.content))
 
 -- kind 4, with the number of its tables and where they begin; a round trip that isn't there is shown as 0
 abbrev pub response_of : ℕ → wire.Response → ResponseRecord
@@ -109,20 +102,5 @@ response_of version l =
       tables_at = tables + 2;
     }
 
-abbrev pub no_response : ResponseRecord
-no_response = record {
-  version = signed 1 0;
-  client = replicate 8 0;
-  flags = 0;
-  status = signed 1 0;
-  status_string = Span.Absent;
-  app_status = signed 1 0;
-  app_string = Span.Absent;
-  round_trip = signed 4 0;
-  exception = Span.Absent;
-  tables = 0;
-  tables_at = 0;
-}
-
-abbrev pub shown_response : Res Message → ResponseRecord
-shown_response = record_in (λ r. response_of r.version (wire.the_response r.content)) no_response
+abbrev pub shown_response : Res Message → Res ResponseRecord
+shown_response = record_in (λ r. response_of r.version (wire.the_response r.content))

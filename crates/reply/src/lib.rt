@@ -6,7 +6,7 @@ ghost use Rattle.format.specs.Result.{pick};
 ghost use Rattle.format.specs.Format.{fine};
 ghost use Rattle.format.specs.Text.{utf8};
 ghost use Rattle.format.specs.Value.{anything};
-ghost use Rattle.put.specs.Put.{put, optional};
+ghost use Rattle.put.specs.Put.{put, given};
 ghost use Rattle.steps.specs.Plans.{answer_of};
 ghost use Rattle.steps.specs.Arguments.{text_fault, null_text_fault};
 ghost use Rattle.steps.specs.Steps.{answer_at, plan, begin_reply, finish_reply};
@@ -14,9 +14,9 @@ ghost use Rattle.write.specs.Shown.{zero, seen, shown_answer, Stepped};
 ghost use Rattle.write.specs.Shared.{verdict_of};
 ghost use Rattle.reply.specs.Opening.{opening_of, begin_fault, begin_size, let_in, status_part, app_part, exception_part, front_bytes, middle_bytes, end_bytes, begin_bytes};
 
-use format::{APP_STRING, Answer, EXCEPTION, Fault, STATUS_STRING};
+use format::{APP_STRING, EXCEPTION, Fault, Refusal, STATUS_STRING};
 use steps::Stage;
-use write::{Check, Outcome, State};
+use write::{Outcome, State};
 
 // What a response says before its table count, beside its client data and its strings; its numbers without a sign.
 #[derive(Clone, Copy)]
@@ -24,9 +24,7 @@ pub struct Head {
     pub version: u8,
     pub flags: u8,
     pub status: u8,
-    pub status_null: bool,
     pub app_status: u8,
-    pub app_null: bool,
     pub round_trip: u32,
 }
 
@@ -35,80 +33,71 @@ pub fn begin_reply(
     out: &mut [u8],
     h: Head,
     client: &[u8; 8],
-    status: &[u8],
-    app: &[u8],
+    status: Option<&[u8]>,
+    app: Option<&[u8]>,
     exception: &[u8],
 ) -> Outcome
-    ensures { Stepped (begin_reply h.version (opening_of h client.now status.now app.now exception.now)) zero [] out.old result out.new }
+    ensures { Stepped (begin_reply h.version (opening_of h client.now (given status.entry) (given app.entry) exception.now)) zero [] out.old result out.new }
 {
     // as a slice, so that its length is known from here on
     let data: &[u8] = client;
-    let a = ask_begin(h, status, app, exception, out.len());
-    let Answer::Is(n) = a else {
+    let answer = ask_begin(h, status, app, exception, out.len());
+    let Ok(n) = answer else {
         let none = write::nothing_open();
         return Outcome {
-            answer: a,
+            answer,
             state: none,
         };
     };
     put_opening(out, h, data, status, app, exception);
-    let next = write::begun(Stage::Reply, n);
-    Outcome {
-        answer: a,
-        state: next,
-    }
+    let state = write::begun(Stage::Reply, n);
+    Outcome { answer, state }
 }
 
 // Finishes the response: its length and its table count are filled.
 pub fn finish_reply(out: &mut [u8], st: State) -> Outcome
     ensures { Stepped finish_reply st [] out.old result out.new }
 {
-    let a = ask_finish_reply(st, out.len());
-    let Answer::Is(n) = a else {
-        return Outcome {
-            answer: a,
-            state: st,
-        };
+    let answer = ask_finish_reply(st, out.len());
+    let Ok(n) = answer else {
+        return Outcome { answer, state: st };
     };
     put::number_at(out, 0, (st.position - 4) as u64, 4);
     put::number_at(out, st.count_at, st.count as u64, 2);
-    let next = write::finished(n);
-    Outcome {
-        answer: a,
-        state: next,
-    }
+    let state = write::finished(n);
+    Outcome { answer, state }
 }
 
 // What a begin is answered, in a buffer of so many bytes. It doesn't depend on the client data.
-fn ask_begin(h: Head, status: &[u8], app: &[u8], exception: &[u8], size: usize) -> Answer
-    ensures { result ≡ shown_answer (answer_at true (begin_fault h status.now app.now exception.now) true 0 (begin_size h status.now app.now exception.now) size) }
+fn ask_begin(
+    h: Head,
+    status: Option<&[u8]>,
+    app: Option<&[u8]>,
+    exception: &[u8],
+    size: usize,
+) -> Result<usize, Refusal>
+    ensures { result ≡ shown_answer (answer_at true (begin_fault h (given status.entry) (given app.entry) exception.now) true 0 (begin_size h (given status.entry) (given app.entry) exception.now) size) }
 {
-    let fault = opening_fault(h, status, app, exception);
-    let Check::Fine = fault else {
-        return write::judge(true, fault, true, 0, 0, size);
-    };
-    let first = let_in_size(
-        scan::has_flag(h.flags, STATUS_STRING),
-        h.status_null,
-        status,
-    );
-    let second = let_in_size(scan::has_flag(h.flags, APP_STRING), h.app_null, app);
-    let third = let_in_size(scan::has_flag(h.flags, EXCEPTION), false, exception);
-    write::judge(true, fault, true, 0, 22 + (first + (second + third)), size)
+    opening_fault(h, status, app, exception)?;
+    let first = let_in_size(scan::has_flag(h.flags, STATUS_STRING), status);
+    let second = let_in_size(scan::has_flag(h.flags, APP_STRING), app);
+    let third = let_in_size(scan::has_flag(h.flags, EXCEPTION), Some(exception));
+    write::judge(true, Ok(()), true, 0, 22 + (first + (second + third)), size)
 }
 
 // What is wrong with the fields before the table count, in wire order.
-fn opening_fault(h: Head, status: &[u8], app: &[u8], exception: &[u8]) -> Check
-    ensures { verdict_of result ≡ begin_fault h status.now app.now exception.now }
+fn opening_fault(
+    h: Head,
+    status: Option<&[u8]>,
+    app: Option<&[u8]>,
+    exception: &[u8],
+) -> Result<(), Refusal>
+    ensures { verdict_of result ≡ begin_fault h (given status.entry) (given app.entry) exception.now }
 {
     let edition = write::test(h.version <= 1, Fault::Version, 0);
     let flags = write::test(h.flags % STATUS_STRING == 0, Fault::Flags, 0);
-    let first = let_in_fault(
-        scan::has_flag(h.flags, STATUS_STRING),
-        h.status_null,
-        status,
-    );
-    let second = let_in_fault(scan::has_flag(h.flags, APP_STRING), h.app_null, app);
+    let first = let_in_fault(scan::has_flag(h.flags, STATUS_STRING), status);
+    let second = let_in_fault(scan::has_flag(h.flags, APP_STRING), app);
     let third = exception_fault(scan::has_flag(h.flags, EXCEPTION), exception);
     write::also(
         edition,
@@ -117,9 +106,16 @@ fn opening_fault(h: Head, status: &[u8], app: &[u8], exception: &[u8]) -> Check
 }
 
 // Writes all fields before the table count and the count's zeros, from the buffer's start.
-fn put_opening(out: &mut [u8], h: Head, client: &[u8], status: &[u8], app: &[u8], exception: &[u8])
-    requires { (length client.now ≡ 8) × (begin_size h status.now app.now exception.now ≤ length out.old) }
-    ensures { out.new ≡ put out.old 0 (begin_bytes h client.now status.now app.now exception.now) }
+fn put_opening(
+    out: &mut [u8],
+    h: Head,
+    client: &[u8],
+    status: Option<&[u8]>,
+    app: Option<&[u8]>,
+    exception: &[u8],
+)
+    requires { (length client.now ≡ 8) × (begin_size h (given status) (given app) exception.now ≤ length out.old) }
+    ensures { out.new ≡ put out.old 0 (begin_bytes h client.now (given status.entry) (given app.entry) exception.now) }
 {
     let middle = front_at(out, h, client);
     let last = middle_at(out, middle, h, status, app);
@@ -139,25 +135,13 @@ fn front_at(out: &mut [u8], h: Head, client: &[u8]) -> usize
 }
 
 // Writes the fields from the status string to the application string.
-fn middle_at(out: &mut [u8], at: usize, h: Head, status: &[u8], app: &[u8]) -> usize
-    requires { at + (length (status_part h status.now) + (1 + length (app_part h app.now))) ≤ length out.old }
-    ensures { (result ≡ at + (length (status_part h status.now) + (1 + length (app_part h app.now)))) × (out.new ≡ put out.old at (middle_bytes h status.now app.now)) }
+fn middle_at(out: &mut [u8], at: usize, h: Head, status: Option<&[u8]>, app: Option<&[u8]>) -> usize
+    requires { at + (length (status_part h (given status)) + (1 + length (app_part h (given app)))) ≤ length out.old }
+    ensures { (result ≡ at + (length (status_part h (given status.entry)) + (1 + length (app_part h (given app.entry))))) × (out.new ≡ put out.old at (middle_bytes h (given status.entry) (given app.entry))) }
 {
-    let first = let_in_at(
-        out,
-        at,
-        scan::has_flag(h.flags, STATUS_STRING),
-        h.status_null,
-        status,
-    );
+    let first = let_in_at(out, at, scan::has_flag(h.flags, STATUS_STRING), status);
     let second = put::number_at(out, first, h.app_status as u64, 1);
-    let_in_at(
-        out,
-        second,
-        scan::has_flag(h.flags, APP_STRING),
-        h.app_null,
-        app,
-    )
+    let_in_at(out, second, scan::has_flag(h.flags, APP_STRING), app)
 }
 
 // Writes the fields from the round trip on; the table count holds zeros.
@@ -170,57 +154,56 @@ fn end_at(out: &mut [u8], at: usize, h: Head, exception: &[u8]) -> usize
         out,
         first,
         scan::has_flag(h.flags, EXCEPTION),
-        false,
-        exception,
+        Some(exception),
     );
     put::number_at(out, second, 0, 2)
 }
 
 // What is wrong with a text that its flag lets in.
-fn let_in_fault(there: bool, null: bool, s: &[u8]) -> Check
-    ensures { verdict_of result ≡ pick there (null_text_fault utf8 0 (optional null s.now)) fine }
+fn let_in_fault(there: bool, text: Option<&[u8]>) -> Result<(), Refusal>
+    ensures { verdict_of result ≡ pick there (null_text_fault utf8 0 (given text.entry)) fine }
 {
     if !there {
-        return Check::Fine;
+        return Ok(());
     }
-    write::null_text_fault(0, null, s)
+    write::null_text_fault(0, text)
 }
 
 // What is wrong with an exception that its flag lets in.
-fn exception_fault(there: bool, s: &[u8]) -> Check
+fn exception_fault(there: bool, s: &[u8]) -> Result<(), Refusal>
     ensures { verdict_of result ≡ pick there (text_fault anything 0 s.now) fine }
 {
     if !there {
-        return Check::Fine;
+        return Ok(());
     }
     write::bytes_fault(0, s)
 }
 
 // How many bytes such a string has, with its length.
-fn let_in_size(there: bool, null: bool, s: &[u8]) -> usize
-    ensures { result ≡ length (let_in there null s.now) }
+fn let_in_size(there: bool, text: Option<&[u8]>) -> usize
+    ensures { result ≡ length (let_in there (given text.entry)) }
 {
     if !there {
         return 0;
     }
-    put::text_size(null, s)
+    put::text_size(text)
 }
 
 // Writes such a string at a place, and says where it ends.
-fn let_in_at(out: &mut [u8], at: usize, there: bool, null: bool, s: &[u8]) -> usize
-    requires { at + length (let_in there null s.now) ≤ length out.old }
-    ensures { (result ≡ at + length (let_in there null s.now)) × (out.new ≡ put out.old at (let_in there null s.now)) }
+fn let_in_at(out: &mut [u8], at: usize, there: bool, text: Option<&[u8]>) -> usize
+    requires { at + length (let_in there (given text)) ≤ length out.old }
+    ensures { (result ≡ at + length (let_in there (given text.entry))) × (out.new ≡ put out.old at (let_in there (given text.entry))) }
 {
     if !there {
         return at;
     }
-    put::text_at(out, at, null, s)
+    put::text_at(out, at, text)
 }
 
 // What finishing is answered, in a buffer of so many bytes.
-fn ask_finish_reply(st: State, size: usize) -> Answer
+fn ask_finish_reply(st: State, size: usize) -> Result<usize, Refusal>
     ensures { result ≡ shown_answer (answer_of (plan finish_reply (seen st []) size) size) }
 {
     let permitted = write::at_reply(st, size);
-    write::judge(permitted, Check::Fine, true, st.position, 0, size)
+    write::judge(permitted, Ok(()), true, st.position, 0, size)
 }

@@ -9,6 +9,8 @@ use lib.ListN.{length, take, get_or, length-take, get_or-eq_default}
 use lib.Seq.{get_or-take}
 use lib.Dec.{leb, eqb}
 use borrow.Author.Tests.{leb-true, ltb-true, le-leb, lt-leb}
+use Rattle.std.specs.Prelude.{Result}
+use Rattle.format.specs.declared.Refusal.{Refusal}
 use Rattle.format.specs.declared.Fault.TheVariants.{WireType}
 use Rattle.format.specs.Result.{pick}
 use Rattle.format.specs.Format.{Verdict, fine}
@@ -17,7 +19,6 @@ use Rattle.format.specs.Message.{most_columns, most_row}
 use Rattle.format.proofs.Numbers.{length-num_bytes}
 use Rattle.format.proofs.Results.{and_true_both}
 use Rattle.put.specs.Put.{sized}
-use Rattle.format.specs.declared.Answer.{Answer}
 use Rattle.steps.specs.declared.Stage.TheVariants.{Row}
 use Rattle.write.specs.declared.State.{State as Code}
 use Rattle.steps.specs.State.{State, at_stage}
@@ -32,7 +33,7 @@ use Rattle.write.proofs.Taken.{answered}
 use Rattle.rows.specs.Asked.{cell_answer}
 
 -- the answer is the plan's, if the value's fault is, and its size where it has no fault
-cell_answer_lem : (st : State) (size t : ℕ) (v : Value) {fault : Verdict} {k : ℕ} {a : Answer} → fault ≡ value_fault st.position t v
+cell_answer_lem : (st : State) (size t : ℕ) (v : Value) {fault : Verdict} {k : ℕ} {a : Result ℕ Refusal} → fault ≡ value_fault st.position t v
     → (value_fault st.position t v ≡ fine → k ≡ length ((value 50 51 t).bytes v)) → a ≡ shown_answer (cell_answer st t fault k size) → a ≡ shown_answer (answer_of (plan (cell t v) st size) size)
 cell_answer_lem st size t v {fault} {k} e l g =
     let kind = test (eqb t (get_or st.outer.types st.inner.count 0)) WireType st.position in
@@ -46,11 +47,11 @@ fixed_size p t n e = ap length (fixed_bytes p 50 51 t n e) ∙ length-num_bytes 
 pub body_size : (p t : ℕ) (b : Option (List ℕ)) → value_fault p t (body b) ≡ fine → length ((value 50 51 t).bytes (body b)) ≡ length (sized b)
 body_size p t b e = ap length (body_bytes_lem p 50 51 t b e)
 
-pub fixed_answer : (st : State) (size t n : ℕ) {fault : Verdict} {k : ℕ} {a : Answer} → fault ≡ value_fault st.position t (fixed n) → k ≡ width_of t
+pub fixed_answer : (st : State) (size t n : ℕ) {fault : Verdict} {k : ℕ} {a : Result ℕ Refusal} → fault ≡ value_fault st.position t (fixed n) → k ≡ width_of t
     → a ≡ shown_answer (cell_answer st t fault k size) → a ≡ shown_answer (answer_of (plan (cell t (fixed n)) st size) size)
 fixed_answer st size t n e l g = cell_answer_lem st size t (fixed n) e (λ f. l ∙ sym (fixed_size st.position t n f)) g
 
-pub body_answer : (st : State) (size t : ℕ) (b : Option (List ℕ)) {fault : Verdict} {k : ℕ} {a : Answer} → fault ≡ value_fault st.position t (body b) → k ≡ length (sized b)
+pub body_answer : (st : State) (size t : ℕ) (b : Option (List ℕ)) {fault : Verdict} {k : ℕ} {a : Result ℕ Refusal} → fault ≡ value_fault st.position t (body b) → k ≡ length (sized b)
     → a ≡ shown_answer (cell_answer st t fault k size) → a ≡ shown_answer (answer_of (plan (cell t (body b)) st size) size)
 body_answer st size t b e l g = cell_answer_lem st size t (body b) e (λ f. l ∙ sym (body_size st.position t b f)) g
 

@@ -3,16 +3,16 @@
 
 ghost use Rattle.std.specs.Prelude.{◌≡◌, ◌+◌, ◌*◌, ◌^◌, get_or};
 ghost use Rattle.format.specs.Value.{fixed, body};
-ghost use Rattle.put.specs.Put.{optional};
+ghost use Rattle.put.specs.Put.{given};
 ghost use Rattle.steps.specs.Plans.{answer_of};
 ghost use Rattle.steps.specs.Steps.{plan, open_row, cell, close_row, close_table};
 ghost use Rattle.write.specs.Shown.{seen, types_in, shown_answer, Stepped};
 ghost use Rattle.write.specs.Shared.{verdict_of};
 ghost use Rattle.rows.specs.Asked.{cell_answer};
 
-use format::{Answer, Fault};
+use format::{Fault, Refusal};
 use steps::Stage;
-use write::{COLUMNS, Check, Outcome, State};
+use write::{COLUMNS, Outcome, State};
 
 // Opens a row; its length holds zeros until it is closed.
 pub fn open_row(out: &mut [u8], st: State, types: &[u8; COLUMNS]) -> Outcome
@@ -20,19 +20,13 @@ pub fn open_row(out: &mut [u8], st: State, types: &[u8; COLUMNS]) -> Outcome
 {
     // as a slice, so that its length is known from here on
     let lent: &[u8] = types;
-    let a = ask_open_row(st, types, out.len());
-    let Answer::Is(n) = a else {
-        return Outcome {
-            answer: a,
-            state: st,
-        };
+    let answer = ask_open_row(st, types, out.len());
+    let Ok(n) = answer else {
+        return Outcome { answer, state: st };
     };
     put::number_at(out, st.position, 0, 4);
-    let next = write::in_table(st, Stage::Row, n, st.position, 0, st.rows + 1);
-    Outcome {
-        answer: a,
-        state: next,
-    }
+    let state = write::in_table(st, Stage::Row, n, st.position, 0, st.rows + 1);
+    Outcome { answer, state }
 }
 
 // Writes a cell of a fixed size: its value by its upper and lower 64 bits.
@@ -49,19 +43,13 @@ pub fn fixed_cell(
     // as a slice, so that its length is known from here on
     let lent: &[u8] = types;
     let fault = write::fixed_fault(st.position, t, upper, lower);
-    let a = ask_cell(st, types, t, fault, scan::width_of(t), out.len());
-    let Answer::Is(n) = a else {
-        return Outcome {
-            answer: a,
-            state: st,
-        };
+    let answer = ask_cell(st, types, t, fault, scan::width_of(t), out.len());
+    let Ok(n) = answer else {
+        return Outcome { answer, state: st };
     };
     put::fixed_at(out, st.position, t, upper, lower);
-    let next = write::in_table(st, Stage::Row, n, st.inner_at, st.inner_count + 1, st.rows);
-    Outcome {
-        answer: a,
-        state: next,
-    }
+    let state = write::in_table(st, Stage::Row, n, st.inner_at, st.inner_count + 1, st.rows);
+    Outcome { answer, state }
 }
 
 // Writes a text or binary cell: its bytes, or null.
@@ -70,27 +58,20 @@ pub fn body_cell(
     st: State,
     types: &[u8; COLUMNS],
     t: u8,
-    null: bool,
-    s: &[u8],
+    text: Option<&[u8]>,
 ) -> Outcome
-    ensures { Stepped (cell t (body (optional null s.now))) st types.now out.old result out.new }
+    ensures { Stepped (cell t (body (given text.entry))) st types.now out.old result out.new }
 {
     // as a slice, so that its length is known from here on
     let lent: &[u8] = types;
-    let fault = write::body_fault(st.position, t, null, s);
-    let a = ask_cell(st, types, t, fault, put::text_size(null, s), out.len());
-    let Answer::Is(n) = a else {
-        return Outcome {
-            answer: a,
-            state: st,
-        };
+    let fault = write::body_fault(st.position, t, text);
+    let answer = ask_cell(st, types, t, fault, put::text_size(text), out.len());
+    let Ok(n) = answer else {
+        return Outcome { answer, state: st };
     };
-    put::text_at(out, st.position, null, s);
-    let next = write::in_table(st, Stage::Row, n, st.inner_at, st.inner_count + 1, st.rows);
-    Outcome {
-        answer: a,
-        state: next,
-    }
+    put::text_at(out, st.position, text);
+    let state = write::in_table(st, Stage::Row, n, st.inner_at, st.inner_count + 1, st.rows);
+    Outcome { answer, state }
 }
 
 // Closes the open row, which has a cell for each column, and fills its length.
@@ -99,12 +80,9 @@ pub fn close_row(out: &mut [u8], st: State, types: &[u8; COLUMNS]) -> Outcome
 {
     // as a slice, so that its length is known from here on
     let lent: &[u8] = types;
-    let a = ask_close_row(st, types, out.len());
-    let Answer::Is(n) = a else {
-        return Outcome {
-            answer: a,
-            state: st,
-        };
+    let answer = ask_close_row(st, types, out.len());
+    let Ok(n) = answer else {
+        return Outcome { answer, state: st };
     };
     put::number_at(
         out,
@@ -112,23 +90,17 @@ pub fn close_row(out: &mut [u8], st: State, types: &[u8; COLUMNS]) -> Outcome
         (st.position - (st.inner_at + 4)) as u64,
         4,
     );
-    let next = write::in_table(st, Stage::Table, n, 0, 0, st.rows);
-    Outcome {
-        answer: a,
-        state: next,
-    }
+    let state = write::in_table(st, Stage::Table, n, 0, 0, st.rows);
+    Outcome { answer, state }
 }
 
 // Closes the open table, and fills its length and its row count.
 pub fn close_table(out: &mut [u8], st: State, types: &[u8; COLUMNS]) -> Outcome
     ensures { Stepped close_table st types.now out.old result out.new }
 {
-    let a = ask_close_table(st, types, out.len());
-    let Answer::Is(n) = a else {
-        return Outcome {
-            answer: a,
-            state: st,
-        };
+    let answer = ask_close_table(st, types, out.len());
+    let Ok(n) = answer else {
+        return Outcome { answer, state: st };
     };
     put::number_at(
         out,
@@ -137,23 +109,20 @@ pub fn close_table(out: &mut [u8], st: State, types: &[u8; COLUMNS]) -> Outcome
         4,
     );
     put::number_at(out, st.rows_at, st.rows as u64, 4);
-    let next = write::between(st, Stage::Reply, n, st.count);
-    Outcome {
-        answer: a,
-        state: next,
-    }
+    let state = write::between(st, Stage::Reply, n, st.count);
+    Outcome { answer, state }
 }
 
 // What each step is answered, in a buffer of so many bytes.
-fn ask_open_row(st: State, types: &[u8; COLUMNS], size: usize) -> Answer
+fn ask_open_row(st: State, types: &[u8; COLUMNS], size: usize) -> Result<usize, Refusal>
     ensures { result ≡ shown_answer (answer_of (plan open_row (seen st types.now) size) size) }
 {
     let permitted = write::at_table(st, types, size);
     let more = write::one_more(st.rows, write::MOST_ROWS);
-    write::judge(permitted, Check::Fine, more, st.position, 4, size)
+    write::judge(permitted, Ok(()), more, st.position, 4, size)
 }
 
-fn ask_close_row(st: State, types: &[u8; COLUMNS], size: usize) -> Answer
+fn ask_close_row(st: State, types: &[u8; COLUMNS], size: usize) -> Result<usize, Refusal>
     ensures { result ≡ shown_answer (answer_of (plan close_row (seen st types.now) size) size) }
 {
     // as a slice, so that its length is known from here on
@@ -162,14 +131,14 @@ fn ask_close_row(st: State, types: &[u8; COLUMNS], size: usize) -> Answer
     let full = st.inner_count == write::columns_seen(st.columns);
     let permitted = write::both(in_row, full);
     let keeps = write::row_keeps(st.inner_at, st.position, 0);
-    write::judge(permitted, Check::Fine, keeps, st.position, 0, size)
+    write::judge(permitted, Ok(()), keeps, st.position, 0, size)
 }
 
-fn ask_close_table(st: State, types: &[u8; COLUMNS], size: usize) -> Answer
+fn ask_close_table(st: State, types: &[u8; COLUMNS], size: usize) -> Result<usize, Refusal>
     ensures { result ≡ shown_answer (answer_of (plan close_table (seen st types.now) size) size) }
 {
     let permitted = write::at_table(st, types, size);
-    write::judge(permitted, Check::Fine, true, st.position, 0, size)
+    write::judge(permitted, Ok(()), true, st.position, 0, size)
 }
 
 // What a cell is answered, by what is wrong with its value and by how many bytes it has.
@@ -177,10 +146,10 @@ pub fn ask_cell(
     st: State,
     types: &[u8; COLUMNS],
     t: u8,
-    fault: Check,
+    fault: Result<(), Refusal>,
     bytes: usize,
     size: usize,
-) -> Answer
+) -> Result<usize, Refusal>
     ensures { result ≡ shown_answer (cell_answer (seen st types.now) t (verdict_of fault) bytes size) }
 {
     // as a slice, so that its length is known from here on

@@ -11,22 +11,18 @@ use native.Mathlib.Omega.{arith}
 use borrow.Author.Tests.{ltb-false}
 use Rattle.format.specs.declared.Fault.TheVariants.{Short, Negative, Limit}
 use Rattle.format.specs.declared.Refusal.{Refusal}
+use Rattle.std.specs.Prelude.{Result, Ok}
 use Rattle.format.specs.Result.{Res, ok, no, pick}
 use Rattle.format.specs.Number.{half, null4}
 use Rattle.format.specs.Format.{number, counted, Verdict, fine, bad, judged}
 use Rattle.format.proofs.Results.{bound, spared, ok_same, no_ok}
 use Rattle.scan.specs.declared.Body.{Body}
-use Rattle.scan.specs.Shown.{shown_body, refusal}
+use Rattle.scan.specs.Shown.{shown_body}
 
-pub body_null : (at : ℕ) (r : Res (Option (List ℕ) × ℕ)) {b : Body} {next : ℕ} → b ≡ shown_body at r → b ≡ Body.Null next → r ≡ ok (none, next)
+pub body_null : (at : ℕ) (r : Res (Option (List ℕ) × ℕ)) {a : Result Body Refusal} {next : ℕ} → a ≡ shown_body at r → a ≡ Ok (Body.Null next) → r ≡ ok (none, next)
 body_null at (ok (none, next)) e told = ap (λ (n : ℕ). ok (none, n)) (cc)
 body_null at (ok (some bs, next)) e told = absurd (let z : ◌≡◌ {A = ℕ} 0 1 = cc in omega arith)
 body_null at (no f p) e told = absurd (let z : ◌≡◌ {A = ℕ} 0 1 = cc in omega arith)
-
-pub body_none : (at : ℕ) (r : Res (Option (List ℕ) × ℕ)) {b : Body} {x : Refusal} → b ≡ shown_body at r → b ≡ Body.No x → r ≡ no x.fault x.place
-body_none at (ok (none, next)) e told = absurd (let z : ◌≡◌ {A = ℕ} 0 1 = cc in omega arith)
-body_none at (ok (some bs, next)) e told = absurd (let z : ◌≡◌ {A = ℕ} 0 1 = cc in omega arith)
-body_none at (no f p) {x = x} e told = let same : x ≡ refusal f p = cc in rw same
 
 -- a body that was read, whatever its rule: its bytes stand after the length field, and end where the reading does
 pub record Stood (s : List ℕ) (at : ℕ) (bs : List ℕ) (end : ℕ) : Type 0 where

@@ -1,4 +1,6 @@
 -- What is shown says the value, every bit of it: the cell of a value gives the value back, and its type.
+use Rattle.format.specs.declared.Refusal.{Refusal}
+use Rattle.std.specs.Prelude.{Result}
 use Prim.Native.Nat.{ℕ, ◌+◌, ◌*◌, ◌/◌, ◌%◌, ◌^◌, ◌<◌}
 use mathlib.Core.Path.{◌≡◌, refl, sym, ◌∙◌, ap, ap₂}
 use mathlib.Core.Bool.{Bool, true, false, true≢false}
@@ -10,18 +12,17 @@ use lib.Ieee.{binary64, of_bits, to_bits, nan_bits}
 use native.Mathlib.Omega.{arith}
 use native.Mathlib.Nat.{zero-add, div-add-mod', div-lt_iff_lt-mul}
 use borrow.Author.Tests.{eqb-true}
-use Rattle.format.specs.Result.{Res, ok, no, bind, pick}
+use Rattle.format.specs.Result.{Res, ok, no, bind, pick, told}
 use Rattle.format.specs.Number.{Bytes}
 use Rattle.format.specs.Format.{Verdict, number, ruled, into, counted}
 use Rattle.format.specs.Text.{utf8}
 use Rattle.format.specs.Value.{Value, fixed, body, number_of, body_of, string, value, is_column, most_bytes, anything, not_empty, degrees360, is_null_point, point_fine}
-use Rattle.format.proofs.Results.{bound, ok_same, no_ok}
+use Rattle.format.proofs.Results.{bound, ok_same}
+use Rattle.format.proofs.Decides.{answer_once}
 use Rattle.format.proofs.Formats.{lawful_value}
-use Rattle.scan.specs.Shown.{refusal}
 use Rattle.show.specs.declared.Cell.{Cell}
-use Rattle.show.specs.declared.Shown.{Shown}
 use Rattle.scan.specs.Signed.{signed, unsigned}
-use Rattle.show.specs.Cells.{plain_cell, float_cell, position_cell, point_cell, cell_of, type_of, value_of, shown_as, told_shown}
+use Rattle.show.specs.Cells.{plain_cell, float_cell, position_cell, point_cell, cell_of, type_of, value_of, shown_as}
 use Rattle.scan.proofs.Twos.{signed_back}
 use Rattle.show.proofs.Floats.{kept}
 use Rattle.show.proofs.Bodies.{stood}
@@ -134,12 +135,9 @@ module _ (s : List ℕ) (bytes : Bytes s) (at : ℕ) where
   read_kept l b t (body v) next is e = body_read l b t v next is ((lawful_value l b t).sound s bytes at (body v) next e).0 e
 
 -- an answer says its reading, and no two answers say the same
-pub told_shown_lem : {A : Type 0} (show : A → Cell) (r : Res (A × ℕ)) → told_shown (shown_as show r) ≡ bind r (λ p. ok (show p.0, p.1))
+pub told_shown_lem : {A : Type 0} (show : A → Cell) (r : Res (A × ℕ)) → told (shown_as show r) ≡ bind r (λ p. ok (show p.0, p.1))
 told_shown_lem show (ok p) = refl
 told_shown_lem show (no f p) = refl
 
-pub told_once : (a b : Shown) → told_shown a ≡ told_shown b → a ≡ b
-told_once (Shown.Is c n) (Shown.Is d m) e = let same = ok_same e in ap₂ Shown.Is (ap (λ (p : Cell × ℕ). p.0) same) (ap (λ (p : Cell × ℕ). p.1) same)
-told_once (Shown.Is c n) (Shown.No q) e = absurd (no_ok (sym e))
-told_once (Shown.No q) (Shown.Is d m) e = absurd (no_ok e)
-told_once (Shown.No q) (Shown.No r) e = let f : q.fault ≡ r.fault = cc in let p : q.place ≡ r.place = cc in ap Shown.No (ap₂ refusal f p)
+pub told_once : (a b : Result (Cell × ℕ) Refusal) → told a ≡ told b → a ≡ b
+told_once = answer_once

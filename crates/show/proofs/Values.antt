@@ -1,4 +1,6 @@
 -- How a value of a wire type is shown, type by type.
+use Rattle.format.specs.declared.Refusal.{Refusal}
+use Rattle.std.specs.Prelude.{Result, Ok}
 use Prim.Native.Nat.{ℕ, ◌+◌, ◌*◌, ◌/◌, ◌%◌, ◌^◌, ◌<◌, ◌≤◌}
 use mathlib.Core.Path.{◌≡◌, refl, sym, ◌∙◌, ap}
 use mathlib.Core.Bool.{Bool, true, false}
@@ -18,7 +20,6 @@ use Rattle.format.proofs.Texts.{counted_unruled}
 use Rattle.scan.proofs.Steps.{ruled_any}
 use Rattle.scan.proofs.Values.{value_fields}
 use Rattle.show.specs.declared.Cell.{Cell}
-use Rattle.show.specs.declared.Shown.{Shown}
 use Rattle.scan.specs.Signed.{signed}
 use Rattle.show.specs.Cells.{plain_cell, decimal_cell, position_cell, point_cell, fixed_cell, body_cell, cell_of, unruled, shown_as}
 use Rattle.show.proofs.Floats.{no_nan}
@@ -41,7 +42,7 @@ pub plain_key : {t key : ℕ} (k : ℕ) → t ≡ key → Plain key k → Plain 
 plain_key k e p = rw e p
 
 module _ (s : List ℕ) (at : ℕ) where
-  abbrev Shows : ℕ → Shown → Type 0
+  abbrev Shows : ℕ → Result (Cell × ℕ) Refusal → Type 0
   Shows t x = x ≡ shown_as (cell_of t at) ((unruled t).read s at)
 
   pub decimal_shows : (t : ℕ) → t ≡ 22 → Shows t (shown_as decimal_cell ((ruled decimal_fine Decimal (number 16 0)).read s at))
@@ -69,7 +70,7 @@ module _ (s : List ℕ) (at : ℕ) where
       sym (rw (p.1, p.0) (into_shown fixed number_of (ruled (fixed_fine t) fault (number k 0)) s at (cell_of t at) ∙ ap (shown_as (fixed_cell t)) free ∙ same_shown cells ((number k 0).read s at)))
     where
       same_shown : {f g : ℕ → Cell} → ((n : ℕ) → f n ≡ g n) → (r : Res (ℕ × ℕ)) → shown_as f r ≡ shown_as g r
-      same_shown all (ok p) = ap (λ (c : Cell). Shown.Is c p.1) (all p.0)
+      same_shown all (ok p) = ap (λ (c : Cell). Ok (c, p.1)) (all p.0)
       same_shown all (no f p) = refl
 
   -- a value that was read by its rule is read without it; the fields' numbers play no part

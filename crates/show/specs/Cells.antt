@@ -1,5 +1,6 @@
 -- What a value of a wire type is shown as, and which value a shown one is.
-use Rattle.std.specs.Prelude.{ℕ, ◌+◌, ◌*◌, ◌/◌, ◌%◌, ◌^◌, List, true, length, take, drop, eqb}
+use Rattle.format.specs.declared.Refusal.{Refusal}
+use Rattle.std.specs.Prelude.{ℕ, ◌+◌, ◌*◌, ◌/◌, ◌%◌, ◌^◌, List, true, length, take, drop, eqb, Result, Ok, Err}
 use Rattle.std.proofs.Math.Option.{Option, some, none}
 use Rattle.std.specs.Float.{binary64}
 use Rattle.std.specs.Float.Ieee.{of_bits, to_bits, nan_bits}
@@ -9,7 +10,6 @@ use Rattle.format.specs.Value.{Value, fixed, body, body_of, value, string, anyth
 use Rattle.scan.specs.Shown.{refusal}
 use Rattle.scan.specs.Signed.{signed, unsigned}
 use Rattle.show.specs.declared.Cell.{Cell}
-use Rattle.show.specs.declared.Shown.{Shown}
 use Rattle.show.specs.declared.Raw.{Raw}
 
 -- a float is the number that its bits are; a NaN, which is none, keeps its bits
@@ -63,14 +63,9 @@ unruled t = pick (is_counted t) (into body body_of (string true anything 0 0)) (
 
 module _ {A : Type 0} where
   -- the answer for what a reading gives
-  abbrev pub shown_as : (A → Cell) → Res (A × ℕ) → Shown
-  shown_as show (ok p) = Shown.Is (show p.0) p.1
-  shown_as show (no f p) = Shown.No (refusal f p)
-
--- what an answer says: a cell and the next place, or a fault and its place
-abbrev pub told_shown : Shown → Res (Cell × ℕ)
-told_shown (Shown.Is c next) = ok (c, next)
-told_shown (Shown.No r) = no r.fault r.place
+  abbrev pub shown_as : (A → Cell) → Res (A × ℕ) → Result (Cell × ℕ) Refusal
+  shown_as show (ok p) = Ok (show p.0, p.1)
+  shown_as show (no f p) = Err (refusal f p)
 
 -- what a shown value is on the wire: its type, then its upper and lower 64 bits, or where its bytes start and how many they are, or that it is null.
 -- A NaN that is given as a number has the quiet pattern

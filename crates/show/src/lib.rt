@@ -11,7 +11,7 @@ ghost use Rattle.show.specs.Cells.{float_cell, plain_cell, decimal_cell, point_c
 ghost use Rattle.show.specs.Parts.{IsPart};
 
 use format::{Fault, Refusal};
-use scan::{Body, Halves, Number};
+use scan::Body;
 
 // A value of a wire type. Text, varbinary and geography are where their bytes start and how many they are, or null. Nulls have cases of their own, but
 // for decimals: a null one is shown by its halves.
@@ -36,13 +36,6 @@ pub enum Cell {
     NullBinary,
     Geography(usize, usize),
     NullGeography,
-}
-
-// A value, and where the next one stands.
-#[derive(Drop)]
-pub enum Shown {
-    Is(Cell, usize),
-    No(Refusal),
 }
 
 // A float by its bits.
@@ -71,53 +64,44 @@ fn plain_cell(t: u8, n: u64) -> Cell
 }
 
 // A value of so many bytes; of 8, if they are more.
-fn read_plain(s: &[u8], at: usize, t: u8, width: usize) -> Shown
+fn read_plain(s: &[u8], at: usize, t: u8, width: usize) -> Result<(Cell, usize), Refusal>
     ensures { result ≡ shown_as (plain_cell t) ((number (min width 8) 0).read s.now at) }
 {
-    let number = scan::read_number(s, at, width);
-    let Number::Is(n, next) = number else {
-        return Shown::No(scan::number_refusal(number));
-    };
-    Shown::Is(plain_cell(t, n), next)
+    let (n, next) = scan::read_number(s, at, width)?;
+    Ok((plain_cell(t, n), next))
 }
 
-fn read_decimal(s: &[u8], at: usize) -> Shown
+fn read_decimal(s: &[u8], at: usize) -> Result<(Cell, usize), Refusal>
     ensures { result ≡ shown_as decimal_cell ((ruled decimal_fine Decimal (number 16 0)).read s.now at) }
 {
-    let halves = scan::read_halves(s, at);
-    let Halves::Is(high, lower, next) = halves else {
-        return Shown::No(scan::halves_refusal(halves));
-    };
+    let (high, lower, next) = scan::read_halves(s, at)?;
     let upper = scan::signed64(high);
     if !scan::decimal_fine(upper, lower) {
-        return Shown::No(Refusal {
+        return Err(Refusal {
             fault: Fault::Decimal,
             place: at,
         });
     }
-    Shown::Is(Cell::Decimal(upper, lower), next)
+    Ok((Cell::Decimal(upper, lower), next))
 }
 
-fn read_point(s: &[u8], at: usize) -> Shown
+fn read_point(s: &[u8], at: usize) -> Result<(Cell, usize), Refusal>
     ensures { result ≡ shown_as point_cell ((ruled point_fine Point (number 16 0)).read s.now at) }
 {
-    let halves = scan::read_halves(s, at);
-    let Halves::Is(longitude, latitude, next) = halves else {
-        return Shown::No(scan::halves_refusal(halves));
-    };
+    let (longitude, latitude, next) = scan::read_halves(s, at)?;
     if !scan::point_fine(longitude, latitude) {
-        return Shown::No(Refusal {
+        return Err(Refusal {
             fault: Fault::Point,
             place: at,
         });
     }
     if scan::is_null_point(longitude, latitude) {
-        return Shown::Is(Cell::NullPoint, next);
+        return Ok((Cell::NullPoint, next));
     }
-    Shown::Is(
+    Ok((
         Cell::Point(f64::from_bits(longitude), f64::from_bits(latitude)),
         next,
-    )
+    ))
 }
 
 fn part_cell(t: u8, start: usize, size: usize) -> Cell
@@ -141,19 +125,17 @@ fn null_cell(t: u8) -> Cell
 }
 
 // A counted value by its length alone, whatever its bytes.
-fn read_counted(s: &[u8], at: usize, t: u8) -> Shown
+fn read_counted(s: &[u8], at: usize, t: u8) -> Result<(Cell, usize), Refusal>
     ensures { result ≡ shown_as (body_cell t at) ((string true anything 0 0).read s.now at) }
 {
-    let part = scan::read_body(s, at, true, format::MOST_BYTES);
-    match part {
-        Body::Is(start, end) => Shown::Is(part_cell(t, start, end - start), end),
-        Body::Null(next) => Shown::Is(null_cell(t), next),
-        Body::No(r) => Shown::No(r),
+    match scan::read_body(s, at, true, format::MOST_BYTES)? {
+        Body::Is(start, end) => Ok((part_cell(t, start, end - start), end)),
+        Body::Null(next) => Ok((null_cell(t), next)),
     }
 }
 
 // The value of a wire type that stands at a place of an accepted message, whose texts are not looked at again; of a type that has no values, no bytes.
-pub fn read_value(s: &[u8], at: usize, t: u8) -> Shown
+pub fn read_value(s: &[u8], at: usize, t: u8) -> Result<(Cell, usize), Refusal>
     ensures { result ≡ shown_as (cell_of t at) ((unruled t).read s.now at) }
 {
     match t {

@@ -103,7 +103,7 @@ module _ {A : Type 0} (at-index : ℕ → Index → Index) {f : Format A} (l : L
         let bytes : suc k * size ≡ k * size + size = suc-mul k size in
         let count : suc k * fields ≡ k * fields + fields = suc-mul k fields in
         let next : Tour = record { at = tour.at + size; task = seen_to tour.task (seen_after tour.task.seen fields) } in
-        let one = round_next at-index (λ m. f) (λ m. l) s by ix n i (omega arith) w (walked_even tour out (calm_fewer tour.task (length out) calm (omega arith) (omega arith))) refl in
+        let one = round_next at-index (λ m. f) (λ m. l) s by ix n i (omega arith) w (walked_even tour out (calm_fewer tour.task (length out) calm (omega arith) (omega arith))) in
         let later : Calm next.task (length out) (next.at + k * size) (k * fields) = calm_next tour.task (length out) fields (k * fields) (calm_fewer tour.task (length out) calm (omega arith) (omega arith)) in
         let rest = rounds_even k (i + 1) next (omega arith) later one in
         let index : i + 1 + k ≡ i + suc k = omega arith in

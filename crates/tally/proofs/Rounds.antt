@@ -19,14 +19,12 @@ module _ {A : Type 0} (at-index : ℕ → Index → Index) (r : ℕ → Format A
 module _ {A : Type 0} (at-index : ℕ → Index → Index) (r : ℕ → Format A) (s : List ℕ) (ix : Index) (n : ℕ) (from : Tour) (old : List ℕ) where
   -- a tour that began at from, at the i-th of n values
   pub record Round (i : ℕ) (tour : Tour) (out : List ℕ) : Type 0 where
-    pub few : i ≤ n
-    pub long : length out ≡ length old
     pub left : (all : List A) (end : ℕ) → (rest at-index r n 0).read s from.at ≡ ok (all, end)
         → (bs : List A) × ((rest at-index r n i).read s tour.at ≡ ok (bs, end))
         × (visited (state_of tour out) ((rest at-index r n i).fields ix tour.at bs) ≡ visited (state_of from old) ((rest at-index r n 0).fields ix from.at all))
 
   pub round_first : Round 0 from old
-  round_first = record { few = omega arith; long = refl; left = λ all end e. (all, e, refl) }
+  round_first = record { left = λ all end e. (all, e, refl) }
 
   pub round_last : {i : ℕ} {tour : Tour} {out : List ℕ} → n ≤ i → Round i tour out → Walked (rest at-index r n 0) s ix from old tour out
   unfolding each nothing formats visited
@@ -60,11 +58,9 @@ module _ {A : Type 0} (at-index : ℕ → Index → Index) (i : ℕ) {f : Format
 
 module _ {A : Type 0} (at-index : ℕ → Index → Index) (r : ℕ → Format A) (l : (i : ℕ) → Lawful (r i)) (s : List ℕ) (b : Bytes s) (ix : Index) (n : ℕ) {from : Tour} {old : List ℕ} where
   pub round_next : (i : ℕ) {tour : Tour} {out : List ℕ} {after : Tour} {written : List ℕ} → i < n → Round at-index r s ix n from old i tour out
-      → Walked (r i) s (at-index i ix) tour out after written → length written ≡ length out → Round at-index r s ix n from old (i + 1) after written
+      → Walked (r i) s (at-index i ix) tour out after written → Round at-index r s ix n from old (i + 1) after written
   unfolding formats
-  round_next i h w t long = record {
-    few = omega (arith, w.few);
-    long = long ∙ w.long;
+  round_next i h w t = record {
     left = λ all end e.
         let one : n - i ≡ suc (n - (i + 1)) = omega arith in
         let z = rw one at (w.left all end e) in

@@ -159,10 +159,8 @@ fn tally_cells(s: &[u8], from: Tally, types: &[u8]) -> Tally
     ensures { Tallied (each third 0 (map (value 50 51) types.now)) s.now from result }
 {
     let mut tally = from;
-    let mut k = 0;
-    while k < types.len() {
-        tally = tally_value(s, tally, types[k]);
-        k += 1;
+    for &t in types {
+        tally = tally_value(s, tally, t);
     }
     tally
 }
@@ -192,10 +190,8 @@ fn tally_each_row(s: &[u8], from: Tally, types: &[u8], n: usize) -> Tally
     ensures { Tallied (each second 0 (replicate n (row types.now))) s.now from result }
 {
     let mut tally = from;
-    let mut j = 0;
-    while j < n {
+    for _ in 0..n {
         tally = tally_row(s, tally, types);
-        j += 1;
     }
     tally
 }
@@ -208,14 +204,12 @@ pub fn fixed_row(types: &[u8]) -> usize
         return 0;
     }
     let mut size = 4;
-    let mut i = 0;
-    while i < types.len() {
-        let width = width_of(types[i]);
+    for &t in types {
+        let width = width_of(t);
         if width == 0 {
             return 0;
         }
-        size = size + width;
-        i += 1;
+        size += width;
     }
     size
 }
@@ -285,10 +279,8 @@ fn tally_names(s: &[u8], from: Tally, n: usize) -> Tally
     ensures { Tallied (each third 0 (replicate n (string false ascii 46 47))) s.now from result }
 {
     let mut tally = from;
-    let mut k = 0;
-    while k < n {
+    for _ in 0..n {
         tally = tally_name(s, tally);
-        k += 1;
     }
     tally
 }

@@ -14,12 +14,12 @@ use Rattle.format.specs.Format.{Verdict, fine, bad}
 use Rattle.format.specs.Value.{ascii_from, ascii}
 use Rattle.format.specs.Text.{utf8_from, utf8}
 use Rattle.format.proofs.Texts.{moved, utf8_moved, utf8_bad}
-use Rattle.text.specs.declared.Found.{Found}
+use Rattle.std.specs.Prelude.{Some, None}
 use Rattle.text.specs.Shown.{shown_at}
 
 pub record Finds (rule from : List ℕ → Verdict) (f : Fault) : Type 0 where
-  pub refuses : (bs : List ℕ) (i : ℕ) → shown_at (from bs) ≡ Found.At i → (rule bs ≡ bad f (4 + i)) × (i < length bs)
-  pub passes : (bs : List ℕ) → shown_at (from bs) ≡ Found.Nothing → rule bs ≡ fine
+  pub refuses : (bs : List ℕ) (i : ℕ) → shown_at (from bs) ≡ Some i → (rule bs ≡ bad f (4 + i)) × (i < length bs)
+  pub passes : (bs : List ℕ) → shown_at (from bs) ≡ None → rule bs ≡ fine
 
 finds : (rule from : List ℕ → Verdict) (f : Fault) → ((bs : List ℕ) → rule bs ≡ moved 4 (from bs)) → ((bs : List ℕ) (g : Fault) (p : ℕ) → from bs ≡ bad g p → (g ≡ f) × (p < length bs)) → Finds rule from f
 finds rule from f moves inside = record {
@@ -27,14 +27,14 @@ finds rule from f moves inside = record {
   passes = λ bs e. moves bs ∙ passed (from bs) e;
 }
   where
-    refused : (bs : List ℕ) (i : ℕ) (v : Verdict) → from bs ≡ v → shown_at v ≡ Found.At i → (rule bs ≡ bad f (4 + i)) × (i < length bs)
+    refused : (bs : List ℕ) (i : ℕ) (v : Verdict) → from bs ≡ v → shown_at v ≡ Some i → (rule bs ≡ bad f (4 + i)) × (i < length bs)
     refused bs i fine is e = absurd (let z : ◌≡◌ {A = ℕ} 0 1 = cc in omega arith)
     refused bs i (bad g p) is e =
         let same : p ≡ i = cc in
         let w = inside bs g p is in
         (moves bs ∙ rw (is, w.0, same), omega (arith, w.1))
 
-    passed : (v : Verdict) → shown_at v ≡ Found.Nothing → moved 4 v ≡ fine
+    passed : (v : Verdict) → shown_at v ≡ None → moved 4 v ≡ fine
     passed fine e = refl
     passed (bad g p) e = absurd (let z : ◌≡◌ {A = ℕ} 0 1 = cc in omega arith)
 

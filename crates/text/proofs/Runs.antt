@@ -8,7 +8,7 @@ use lib.Seq.{drop-cons, drop-drop, get_or-drop}
 use lib.Dec.{ltb}
 use native.Mathlib.Omega.{arith}
 use borrow.Author.Tests.{lt-ltb, le-ltb, ltb-true, ltb-false}
-use Rattle.format.specs.declared.Fault.TheVariants.{Name, Text}
+use Rattle.format.specs.declared.Fault.TheVariants.{Text}
 use Rattle.format.specs.Result.{pick}
 use Rattle.format.specs.Format.{Verdict, fine, bad}
 use Rattle.format.specs.Value.{ascii_from}
@@ -37,19 +37,6 @@ low_join b i j n h = run_join (λ p. get_or b p 0 < 128) 0 i j n (j + n) (omega 
 abbrev pub Below : List ℕ → ℕ → ℕ → ℕ → Type 0
 Below b i top k = (j : ℕ) → j < k → get_or b (i + j) 0 ≤ top
 
-pub below_none : (b : List ℕ) (i top : ℕ) → Below b i top 0
-below_none b i top j l = absurd (omega arith)
-
-pub below_more : (b : List ℕ) (i top r k : ℕ) → Below b i top k → top ≤ r → get_or b (i + k) 0 ≤ r → Below b i r (k + 1)
-below_more b i top r k all h g j l = by_test (ltb j k) refl
-  where
-    by_test : (t : Bool) → ltb j k ≡ t → get_or b (i + j) 0 ≤ r
-    by_test true e = let low = all j (ltb-true j k e) in omega arith
-    by_test false e =
-        let past = ltb-false j k e in
-        let last : k ≡ j = omega arith in
-        subst (λ (p : ℕ). get_or b (i + p) 0 ≤ r) last g
-
 -- there is 0 past the end
 pub past_end : (b : List ℕ) (i : ℕ) → length b ≤ i → get_or b i 0 ≡ 0
 past_end [] i h = refl
@@ -71,9 +58,6 @@ module _ (from : ℕ → List ℕ → Verdict) (low : (k a : ℕ) (bs : List ℕ
 -- names
 pub ascii_low : (k a : ℕ) (bs : List ℕ) → a < 128 → ascii_from k (a ∷ bs) ≡ ascii_from (k + 1) bs
 ascii_low k a bs h = rw (lt-ltb a 128 h)
-
-pub ascii_stop : (b : List ℕ) (i : ℕ) → i < length b → 127 < get_or b i 0 → ascii_from i (drop i b) ≡ bad Name i
-ascii_stop b i h high = rw (drop-cons b i 0, le-ltb (get_or b i 0) 128 (omega arith))
 
 pub ascii_done : (b : List ℕ) (i : ℕ) → length b ≤ i → ascii_from i (drop i b) ≡ fine
 ascii_done b i h = let none : drop i b ≡ [] = drop_of_length-le b h in rw none

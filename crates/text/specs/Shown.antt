@@ -1,15 +1,18 @@
 -- What is found among the bytes of a name or a text, and what is asked of the second byte of a sequence once the first one is known.
-use Rattle.std.specs.Prelude.{ℕ, ◌+◌, ◌<◌, Bool, ◌&&◌, List, get_or, ltb, eqb}
+use Rattle.std.specs.Prelude.{ℕ, ◌+◌, ◌<◌, Bool, ◌&&◌, Option, Some, None, List, get_or, ltb, eqb}
 use Rattle.format.specs.declared.Fault.TheVariants.{Text}
 use Rattle.format.specs.Result.{pick}
 use Rattle.format.specs.Format.{Verdict, fine, bad}
 use Rattle.format.specs.Text.{from_to, tail, sequence}
-use Rattle.text.specs.declared.Found.{Found}
+
+-- where something was found, if it was
+abbrev pub Found : Type 0
+Found = Option ℕ
 
 -- where the first byte is that a rule refuses
 abbrev pub shown_at : Verdict → Found
-shown_at fine = Found.Nothing
-shown_at (bad f k) = Found.At k
+shown_at fine = None
+shown_at (bad f k) = Some k
 
 -- the n bytes from a place on are ASCII
 abbrev pub LowRun : List ℕ → ℕ → ℕ → Type 0

@@ -9,13 +9,6 @@ ghost use Rattle.format.specs.Text.{from_to, tail, sequence, utf8_from};
 ghost use Rattle.text.specs.Shown.{LowRun, shown_at, sequence_at, up_to, second_of_three, second_of_four};
 ghost use Rattle.text.specs.Windows.{unlike, goes_on, wrong_pair, wrong_after, RightRun, Between};
 
-// Where something was found.
-#[derive(Drop)]
-pub enum Found {
-    At(usize),
-    Nothing,
-}
-
 const HIGHEST_ASCII: u8 = 0x7f;
 
 // A byte that is above 127 if one of two is.
@@ -31,10 +24,8 @@ fn are_low(b: &[u8], i: usize, n: usize) -> bool
     ensures { result ≡ true → LowRun b.now i n }
 {
     let mut top = 0;
-    let mut k = 0;
-    while k < n {
+    for k in 0..n {
         top = joined(top, b[i + k]);
-        k += 1;
     }
     top <= HIGHEST_ASCII
 }
@@ -49,6 +40,7 @@ fn is_ascii_by(b: &[u8], step: usize) -> bool
     if !are_low(b, last, step) {
         return false;
     }
+    // no `step_by`, which looks twice in each turn whether it is the last
     let mut i = 0;
     while i < last {
         if !are_low(b, i, step) {
@@ -60,22 +52,20 @@ fn is_ascii_by(b: &[u8], step: usize) -> bool
 }
 
 // The first byte that no name has: one above 127. Eight are looked at together and not 16, as many names have fewer than 16.
-pub fn high_byte(b: &[u8]) -> Found
+pub fn high_byte(b: &[u8]) -> Option<usize>
     ensures { result ≡ shown_at (ascii_from 0 b.now) }
 {
     if 8 <= b.len() {
         if is_ascii_by(b, 8) {
-            return Found::Nothing;
+            return None;
         }
     }
-    let mut i = 0;
-    while i < b.len() {
-        if format::HIGHEST_IN_NAME < b[i] {
-            return Found::At(i);
+    for (i, x) in b.iter().enumerate() {
+        if format::HIGHEST_IN_NAME < *x {
+            return Some(i);
         }
-        i += 1;
     }
-    Found::Nothing
+    None
 }
 
 fn is_from_to(low: u8, high: u8, b: u8) -> bool
@@ -249,11 +239,9 @@ fn are_right(b: &[u8], i: usize) -> bool
     ensures { result ≡ true → RightRun b.now i 16 }
 {
     let mut wrong = false;
-    let mut k = 0;
-    while k < 16 {
+    for k in 0..16 {
         let at = i + k;
         wrong = either(wrong, is_wrong(b[at], b[at + 1], b[at + 2], b[at + 3]));
-        k += 1;
     }
     !wrong
 }
@@ -271,6 +259,7 @@ fn all_right(b: &[u8], start: usize, end: usize) -> bool
     requires { (start + 16 ≤ end) × (end + 3 ≤ length b.now) }
     ensures { result ≡ true → RightRun b.now start (end - start) }
 {
+    // no `step_by`, which looks twice in each turn whether it is the last
     let mut i = start;
     while i + 16 <= end {
         if !are_right(b, i) {
@@ -321,16 +310,14 @@ fn well_formed(b: &[u8]) -> usize
 
 // ---- A text that is ASCII.
 
-// Of fewer than 8 bytes.
+// Of fewer than 8 bytes. With `all`, texts of 7 to 9 bytes took longer.
 fn is_short_ascii(b: &[u8]) -> bool
     ensures { result ≡ true → LowRun b.now 0 (length b.now) }
 {
-    let mut i = 0;
-    while i < b.len() {
-        if HIGHEST_ASCII < b[i] {
+    for x in b {
+        if HIGHEST_ASCII < *x {
             return false;
         }
-        i += 1;
     }
     true
 }
@@ -365,16 +352,12 @@ pub fn is_surely_name(b: &[u8]) -> bool
 
 // Where a text is torn: the first byte that begins no well-formed sequence, those before it being well-formed. What asks whether it is ASCII has this one
 // caller, so that the compiler puts it here: a slice that is handed on is written and read again.
-pub fn torn(b: &[u8]) -> Found
+pub fn torn(b: &[u8]) -> Option<usize>
     ensures { result ≡ shown_at (utf8_from 0 0 b.now) }
 {
     if is_ascii(b) {
-        return Found::Nothing;
+        return None;
     }
     let end = well_formed(b);
-    if end < b.len() {
-        Found::At(end)
-    } else {
-        Found::Nothing
-    }
+    if end < b.len() { Some(end) } else { None }
 }

@@ -1,8 +1,9 @@
 -- The walk over a whole message, made from the walks over its length, its version and its content.
+use Rattle.std.specs.Prelude.{Result, Ok, Err}
 use Rattle.std.proofs.Common.{◌≡◌, ℕ, eqb, leb, List, length, refl, ap, ◌∙◌, ne_eqb}
 use Rattle.format.specs.declared.Fault.TheVariants.{Version}
 use Rattle.format.specs.declared.Refusal.{Refusal}
-use Rattle.format.specs.Result.{Res, ok, no, bind}
+use Rattle.format.specs.Result.{Res, ok, no, bind, told}
 use Rattle.format.specs.Number.{Bytes}
 use Rattle.format.specs.Format.{Index, Entry, number, both, piece}
 use Rattle.format.specs.Message.{Message, message, read_message, message_fields, no_index, content_of, newest, login_request, login_response, invocation, response, a_login_request, a_login_response, an_invocation, a_response, the_login_request, the_login_response, the_invocation, the_response}
@@ -10,8 +11,7 @@ use Rattle.format.proofs.Laws.{lawful_number, lawful_ruled, lawful_both}
 use Rattle.format.proofs.Formats.{lawful_login_request, lawful_login_response, lawful_invocation, lawful_response, lawful_content_of}
 use Rattle.format.proofs.Demands.{accepted→passed}
 use Rattle.scan.proofs.Answers.{took}
-use Rattle.message.specs.declared.Verdict.{Verdict}
-use Rattle.message.specs.Verdict.{told_verdict, verdict_of, verdict_no}
+use Rattle.message.specs.Verdict.{verdict_of}
 use Rattle.message.proofs.Accepted.{verdict_go, verdict_stop}
 use Rattle.message.proofs.Whole.{versioned}
 use Rattle.tally.specs.declared.Task.{Task}
@@ -66,11 +66,11 @@ pub tour_met : {x : Res (List Entry)} {es : List Entry} (st : State) {after : St
 tour_met st are state = (rw are (ap (λ (z : State). ok z.task) state), rw are (ap (λ (z : State). z.out) state))
 
 -- the answer of a tour over a message that is refused, and over one that is accepted
-pub tour_refused : (layout : ℕ) (m : List ℕ) (st : State) {v : Verdict} {given x : Refusal} → told_verdict v ≡ verdict_of (read_message layout m) → v ≡ Verdict.No given → x ≡ verdict_no v
+pub tour_refused : (layout : ℕ) (m : List ℕ) (st : State) {v : Result Unit Refusal} {x : Refusal} → told v ≡ verdict_of (read_message layout m) → v ≡ Err x
     → (no x.fault x.place ≡ task_after (fields_of layout m) st) × (st.out ≡ out_after (fields_of layout m) st)
-tour_refused layout m st told none out = rw (verdict_stop (read_message layout m) told none out) (refl, refl)
+tour_refused layout m st told none = rw (verdict_stop (read_message layout m) told none) (refl, refl)
 
-pub tour_accepted : (layout : ℕ) (m : List ℕ) (task : Task) (out : List ℕ) {after : Tour} {written : List ℕ} {v : Verdict} → told_verdict v ≡ verdict_of (read_message layout m) → v ≡ Verdict.Fine
+pub tour_accepted : (layout : ℕ) (m : List ℕ) (task : Task) (out : List ℕ) {after : Tour} {written : List ℕ} {v : Result Unit Refusal} → told v ≡ verdict_of (read_message layout m) → v ≡ Ok tt
     → Whole layout m task out after written → (ok after.task ≡ task_after (fields_of layout m) (doing task out)) × (written ≡ out_after (fields_of layout m) (doing task out))
 tour_accepted layout m task out {after} {written} told fine w =
     let go = verdict_go (read_message layout m) told fine in

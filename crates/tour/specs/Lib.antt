@@ -1,6 +1,5 @@
--- What the contracts cite beside the wire's definition: what a tour over all fields comes to, and what the answer tells; and what the walk over
--- a message and the ways past unwanted fields are held to.
+-- What the contracts cite beside the wire's definition: what a tour over all fields comes to, and what the walk over a message and the ways
+-- past unwanted fields are held to.
 pub mod Tour
-pub mod Told
 pub mod Whole
 pub mod Calms

@@ -1,6 +1,7 @@
 // One descent over an accepted message, which meets its fields in wire order and hands each to a task.
 #![tactic(auto)]
 
+ghost use Rattle.format.specs.Result.{told};
 ghost use Rattle.std.specs.Prelude.{◌≡◌, ℕ, ◌+◌, ◌-◌, ◌*◌, ◌/◌, ◌%◌, ◌^◌, ◌<◌, ◌≤◌, Bool, true, false, List, map, length, replicate};
 ghost use Rattle.std.proofs.Math.Option.{none};
 ghost use Rattle.std.proofs.lemmas.List.Edits.{sets};
@@ -14,42 +15,18 @@ ghost use Rattle.tally.specs.Tallies.{most_fixed};
 ghost use Rattle.tour.specs.Tour.{fields_of, task_after, out_after};
 ghost use Rattle.tally.specs.Walks.{index_of, Stepped, Walked};
 ghost use Rattle.tour.specs.Whole.{Whole};
-ghost use Rattle.tour.specs.Told.{told_toured, toured_no};
 
-use format::{Fault, Refusal};
+use format::Refusal;
 use tally::{Indices, Tally, Task, Tour};
 
-// The task after the last field.
-#[derive(Drop)]
-pub enum Toured {
-    Done(Task),
-    No(Refusal),
-}
-
 // The task over all fields of a message of a layout, in wire order.
-pub fn visit_all(layout: u8, m: &[u8], out: &mut [u64], task: Task) -> Toured
-    ensures { (told_toured result ≡ task_after (fields_of layout m.now) (doing task out.old)) × (out.new ≡ out_after (fields_of layout m.now) (doing task out.old)) }
+pub fn visit_all(layout: u8, m: &[u8], out: &mut [u64], task: Task) -> Result<Task, Refusal>
+    ensures { (told result ≡ task_after (fields_of layout m.now) (doing task out.old)) × (out.new ≡ out_after (fields_of layout m.now) (doing task out.old)) }
 {
-    let verdict = message::accept_layout(layout, m);
-    let message::Verdict::Fine = verdict else {
-        return Toured::No(message::verdict_refusal(verdict));
-    };
+    message::accept_layout(layout, m)?;
     let tour = walk_message(layout, m, out, task);
     let done = tour.task;
-    Toured::Done(done)
-}
-
-// The refusal of an answer that is one.
-pub fn toured_refusal(a: Toured) -> Refusal
-    ensures { result ≡ toured_no a }
-{
-    match a {
-        Toured::Done(_) => Refusal {
-            fault: Fault::Short,
-            place: 0,
-        },
-        Toured::No(r) => r,
-    }
+    Ok(done)
 }
 
 // The task that lists the fields from the first-th on that end past an offset.
@@ -189,15 +166,13 @@ fn walk_values(s: &[u8], out: &mut [u64], from: Tour, t: u8, n: usize, ix: Indic
     ensures { Walked (each second 0 (replicate n (value 27 28 t))) s.now (index_of ix) from out.old result out.new }
 {
     let mut tour = from;
-    let mut j = 0;
-    while j < n {
+    for j in 0..n {
         let element = Indices {
             i: ix.i,
             j,
             k: ix.k,
         };
         tour = walk_value(s, out, tour, t, 27, 28, element);
-        j += 1;
     }
     tour
 }
@@ -243,15 +218,13 @@ fn walk_params(s: &[u8], out: &mut [u64], from: Tour, n: usize, ix: Indices) -> 
     ensures { Walked (each first 0 (replicate n param)) s.now (index_of ix) from out.old result out.new }
 {
     let mut tour = from;
-    let mut i = 0;
-    while i < n {
+    for i in 0..n {
         let param = Indices {
             i,
             j: ix.j,
             k: ix.k,
         };
         tour = walk_param(s, out, tour, param);
-        i += 1;
     }
     tour
 }
@@ -319,15 +292,13 @@ fn walk_types(s: &[u8], out: &mut [u64], from: Tour, n: usize, ix: Indices) -> T
     ensures { Walked (each third 0 (replicate n (column_type 45))) s.now (index_of ix) from out.old result out.new }
 {
     let mut tour = from;
-    let mut k = 0;
-    while k < n {
+    for k in 0..n {
         let at = Indices {
             i: ix.i,
             j: ix.j,
             k,
         };
         tour = walk_fixed(s, out, tour, 1, 45, at);
-        k += 1;
     }
     tour
 }
@@ -337,15 +308,13 @@ fn walk_names(s: &[u8], out: &mut [u64], from: Tour, n: usize, ix: Indices) -> T
     ensures { Walked (each third 0 (replicate n (string false ascii 46 47))) s.now (index_of ix) from out.old result out.new }
 {
     let mut tour = from;
-    let mut k = 0;
-    while k < n {
+    for k in 0..n {
         let at = Indices {
             i: ix.i,
             j: ix.j,
             k,
         };
         tour = walk_body(s, out, tour, 46, 47, at);
-        k += 1;
     }
     tour
 }
@@ -378,15 +347,13 @@ fn walk_cells(s: &[u8], out: &mut [u64], from: Tour, types: &[u8], ix: Indices) 
     ensures { Walked (each third 0 (map (value 50 51) types.now)) s.now (index_of ix) from out.old result out.new }
 {
     let mut tour = from;
-    let mut k = 0;
-    while k < types.len() {
+    for (k, &t) in types.iter().enumerate() {
         let at = Indices {
             i: ix.i,
             j: ix.j,
             k,
         };
-        tour = walk_value(s, out, tour, types[k], 50, 51, at);
-        k += 1;
+        tour = walk_value(s, out, tour, t, 50, 51, at);
     }
     tour
 }
@@ -464,15 +431,13 @@ fn walk_tables(s: &[u8], out: &mut [u64], from: Tour, n: usize, ix: Indices) -> 
     ensures { Walked (each first 0 (replicate n table)) s.now (index_of ix) from out.old result out.new }
 {
     let mut tour = from;
-    let mut i = 0;
-    while i < n {
+    for i in 0..n {
         let at = Indices {
             i,
             j: ix.j,
             k: ix.k,
         };
         tour = pass_table(s, out, tour, at);
-        i += 1;
     }
     tour
 }

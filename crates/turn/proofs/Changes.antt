@@ -1,6 +1,6 @@
 -- Things that are changed one by one: when the first of those that are left is changed in its place, the others are left; when none is left, all is done.
-use Prim.Native.Nat.{ℕ, zero, suc, ◌+◌}
-use mathlib.Core.Path.{◌≡◌, refl, sym, ◌∙◌, ap}
+use Prim.Native.Nat.{ℕ, suc, ◌+◌}
+use mathlib.Core.Path.{◌≡◌, sym, ◌∙◌, ap}
 use mathlib.Core.List.{List, [], ◌∷◌, ◌++◌, flat_map, append_assoc}
 use lib.ListN.{length, length-append}
 use native.Mathlib.Omega.{arith}

@@ -1,5 +1,5 @@
 -- The bytes of some vertices, all reversed and then those of each, are the vertices in reverse order.
-use Prim.Native.Nat.{ℕ, zero, suc, ◌+◌, ◌-◌, ◌*◌, ◌≤◌}
+use Prim.Native.Nat.{ℕ, suc, ◌+◌, ◌-◌, ◌*◌, ◌≤◌}
 use mathlib.Core.Path.{◌≡◌, refl, sym, ◌∙◌, ap}
 use mathlib.Core.List.{List, [], ◌∷◌, ◌++◌, flat_map, reverse, reverse_aux, append_assoc, append-nil, reverse-append, reverse-reverse, reverse-cons}
 use lib.ListN.{length, take, drop, length-append, length-reverse}
@@ -31,13 +31,13 @@ lent_reversed s from to h {v} e =
     rw (e, part, rest)
 
 -- one vertex more has its own order
-pub mended : (s target : List ℕ) (at left : ℕ) → Changing reverse itself Block s target at (suc left) → {s' : List ℕ} → s' ≡ take at s ++ (reverse (drop at (take (at + 24) s)) ++ drop (at + 24) s)
-    → Changing reverse itself Block s' target (at + 24) left
-mended s target at left h {s'} e =
+pub mended : (s target : List ℕ) (at next left : ℕ) → at + 24 ≡ next → Changing reverse itself Block s target at (suc left) → {s' : List ℕ} → s' ≡ take at s ++ (reverse (drop at (take (at + 24) s)) ++ drop (at + 24) s)
+    → Changing reverse itself Block s' target next left
+mended s target at next left place h {s'} e =
     let f = first_left reverse itself Block h in
     let long : length (reverse f.one) + at ≡ at + 24 = omega (arith, length-reverse f.one, f.fine) in
     let part = part_reversed s f.front (reverse f.one) f.rest at (at + 24) f.stands f.place long in
-    rw f.fine at (f.then s' (e ∙ part ∙ ap (λ (z : List ℕ). f.front ++ (z ++ f.rest)) (reverse-reverse f.one)))
+    rw (f.fine, place) at (f.then s' (e ∙ part ∙ ap (λ (z : List ℕ). f.front ++ (z ++ f.rest)) (reverse-reverse f.one)))
 
 flat_append : (f : List ℕ → List ℕ) (l m : List (List ℕ)) → flat_map f (l ++ m) ≡ flat_map f l ++ flat_map f m
 unfolding flat_map

@@ -1,17 +1,16 @@
 -- A ring has its byte, its count and its first vertex in front, then the others, then what it keeps: with the others in reverse order it is the turned one. A body
 -- has its head and its first ring in front, then the others, then what it keeps: with the others turned it is the turned one.
-use Prim.Native.Nat.{ℕ, zero, suc, ◌+◌, ◌*◌, ◌-◌, ◌≤◌, ◌<◌}
+use Prim.Native.Nat.{ℕ, suc, ◌+◌, ◌*◌, ◌-◌, ◌≤◌}
 use mathlib.Core.Path.{◌≡◌, refl, sym, ◌∙◌, ap}
-use mathlib.Core.List.{List, [], ◌∷◌, ◌++◌, map, flat_map, reverse, reverse_aux, append_assoc, append-nil}
+use mathlib.Core.List.{List, [], ◌∷◌, ◌++◌, map, flat_map, reverse, reverse_aux, append_assoc}
 use lib.ListN.{length, replicate, length-append, length-reverse, length-map}
-use lib.Dec.{leb}
 use native.Mathlib.Omega.{arith}
 use borrow.Author.Tests.{leb-true}
 use Rattle.format.specs.Result.{ok}
 use Rattle.format.specs.Number.{num_at, num_bytes, Bytes}
-use Rattle.format.specs.Format.{number, block, nothing, ruled, into, both, each}
+use Rattle.format.specs.Format.{number, block, ruled, into, both, each}
 use Rattle.format.specs.Message.{first, second}
-use Rattle.format.specs.Geography.{Vertex, Ring, Polygon, vertex, ring, polygon, turned_ring, turned, after_first, ring_kept, read_polygon}
+use Rattle.format.specs.Geography.{Vertex, Ring, Polygon, vertex, ring, polygon, turned_ring, turned, after_first, read_polygon}
 use Rattle.format.proofs.Numbers.{length-num_bytes}
 use Rattle.format.proofs.Lists.{All, all_reverse, each→all}
 use Rattle.format.proofs.Geography.{first_length, first_all, body→encodes}
@@ -24,8 +23,8 @@ use Rattle.areas.specs.declared.Seen.{Seen}
 use Rattle.areas.specs.Passes.{survey_of}
 use Rattle.areas.proofs.Surveys.{ring_place}
 use Rattle.areas.proofs.Stands.{number_is, count_stands, vertices_good, vertex_size, ring_kept_stands}
-use Rattle.turn.specs.Turning.{Each, Changing, Block, itself, SomeRing, TurnedRing, Rings, Reversed}
-use Rattle.turn.proofs.Changes.{First, first_left}
+use Rattle.turn.specs.Turning.{Each, Block, itself, SomeRing, TurnedRing, Rings, Reversed}
+use Rattle.turn.proofs.Changes.{first_left}
 use Rattle.turn.proofs.Reversals.{flat_size}
 
 -- where a ring's parts are, and that there is room for them

@@ -3,26 +3,22 @@
 
 ghost use Rattle.std.specs.Prelude.{◌≡◌, ◌+◌, ◌*◌, ◌≤◌, length};
 ghost use mathlib.Core.List.{List, ◌++◌, flat_map, reverse};
-ghost use Rattle.format.specs.Result.{told_answer};
+ghost use Rattle.format.specs.Result.{told};
 ghost use Rattle.format.specs.Geography.{Ring, ring, turned_ring, turned_body};
 ghost use Rattle.places.specs.Stands.{Stands};
 ghost use Rattle.areas.specs.Answers.{ask_rings};
 ghost use Rattle.turn.specs.Turning.{Reversed, Mended, TurnedRing, TurnedRings, SomeRing, SomeRings};
 
-use areas::Surveyed;
-use format::Answer;
+use format::Refusal;
 
 // Turns the holes of a body, and answers how many rings it has. A body that is refused stays as it is.
-pub fn turn_holes(b: &mut [u8]) -> Answer
-    ensures { (told_answer result ≡ ask_rings b.old) × (b.new ≡ turned_body b.old) }
+pub fn turn_holes(b: &mut [u8]) -> Result<usize, Refusal>
+    ensures { (told result ≡ ask_rings b.old) × (b.new ≡ turned_body b.old) }
 {
-    let surveyed = areas::survey(b, 1);
-    let Surveyed::Is(s) = surveyed else {
-        return Answer::No(areas::survey_refusal(surveyed));
-    };
+    let s = areas::survey(b, 1)?;
     let rings = s.rings;
     turn_rings(b, s.found, rings - 1);
-    Answer::Is(rings)
+    Ok(rings)
 }
 
 // Turns n rings from a place on.
@@ -31,10 +27,8 @@ fn turn_rings(b: &mut [u8], from: usize, n: usize)
     ensures { TurnedRings b.old from n b.new }
 {
     let mut at = from;
-    let mut i = 0;
-    while i < n {
+    for _ in 0..n {
         at = turn_ring(b, at);
-        i += 1;
     }
 }
 
@@ -66,11 +60,8 @@ fn mend_vertices(b: &mut [u8], from: usize, n: usize)
     requires { from + 24 * n ≤ length b.old }
     ensures { Mended b.old from n b.new }
 {
-    let mut at = from;
-    let mut i = 0;
-    while i < n {
+    for i in 0..n {
+        let at = from + format::VERTEX * i;
         b[at..at + format::VERTEX].reverse();
-        at += format::VERTEX;
-        i += 1;
     }
 }

@@ -1,3 +1,2 @@
--- The proofs. What a shown value is to a step (Written), and that it is the same value (Again).
-pub mod Written
+-- The proofs. That a shown value, written again, is the same value (Again).
 pub mod Again

@@ -18,9 +18,9 @@ pub fn value_param(out: &mut [u8], st: State, m: &[u8], c: Cell) -> Outcome
     match raw {
         Raw::Bits(t, upper, lower) => call::fixed_param(out, st, t, upper, lower),
         Raw::Body(t, start, size) => {
-            call::body_param(out, st, t, false, show::body_at(m, start, size))
+            call::body_param(out, st, t, Some(show::body_at(m, start, size)))
         }
-        Raw::Null(t) => call::body_param(out, st, t, true, b""),
+        Raw::Null(t) => call::body_param(out, st, t, None),
     }
 }
 
@@ -32,9 +32,9 @@ pub fn value_element(out: &mut [u8], st: State, m: &[u8], c: Cell) -> Outcome
     match raw {
         Raw::Bits(t, upper, lower) => call::fixed_element(out, st, t, upper, lower),
         Raw::Body(t, start, size) => {
-            call::body_element(out, st, t, false, show::body_at(m, start, size))
+            call::body_element(out, st, t, Some(show::body_at(m, start, size)))
         }
-        Raw::Null(t) => call::body_element(out, st, t, true, b""),
+        Raw::Null(t) => call::body_element(out, st, t, None),
     }
 }
 
@@ -46,8 +46,8 @@ pub fn value_cell(out: &mut [u8], st: State, types: &[u8; COLUMNS], m: &[u8], c:
     match raw {
         Raw::Bits(t, upper, lower) => rows::fixed_cell(out, st, types, t, upper, lower),
         Raw::Body(t, start, size) => {
-            rows::body_cell(out, st, types, t, false, show::body_at(m, start, size))
+            rows::body_cell(out, st, types, t, Some(show::body_at(m, start, size)))
         }
-        Raw::Null(t) => rows::body_cell(out, st, types, t, true, b""),
+        Raw::Null(t) => rows::body_cell(out, st, types, t, None),
     }
 }

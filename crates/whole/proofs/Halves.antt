@@ -1,8 +1,8 @@
 -- How many bytes the halves of a value have, by its type.
 use Prim.Native.Nat.{ℕ}
-use mathlib.Core.Path.{◌≡◌, ap}
+use mathlib.Core.Path.{◌≡◌}
 use mathlib.Core.Bool.{Bool, true, false, ◌||◌}
-use mathlib.Core.Logic.{◌⊎◌, ⊎_elim, inl, inr}
+use mathlib.Core.Logic.{◌⊎◌, inl, inr}
 use lib.Dec.{eqb}
 use borrow.Author.Tests.{ne_eqb}
 use Rattle.format.specs.Result.{pick}
@@ -12,10 +12,6 @@ use Rattle.whole.specs.Laid.{upper_of, lower_of}
 -- the types whose lower half has 8 bytes
 abbrev pub Eight : ℕ → Type 0
 Eight t = (t ≡ t_bigint) ⊎ ((t ≡ t_float) ⊎ ((t ≡ t_timestamp) ⊎ ((t ≡ t_decimal) ⊎ (t ≡ t_point))))
-
-pub eight_lower : (t : ℕ) → Eight t → lower_of t ≡ 8
-eight_lower t k =
-    ⊎_elim (λ e. ap lower_of e) (λ w. ⊎_elim (λ e. ap lower_of e) (λ w. ⊎_elim (λ e. ap lower_of e) (λ w. ⊎_elim (λ e. ap lower_of e) (λ e. ap lower_of e) w) w) w) k
 
 -- one that isn't a decimal's or a point's has no upper half
 pub narrow_type : (t : ℕ) → (t ≡ t_decimal → ⊥) → (t ≡ t_point → ⊥) → upper_of t ≡ 0

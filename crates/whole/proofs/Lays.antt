@@ -9,10 +9,9 @@ use lib.ListN.{length, get_or, length-take}
 use lib.Seq.{get_or-take}
 use lib.Dec.{eqb, lit≤}
 use borrow.Author.Tests.{ltb-true, eqb-true}
+use Rattle.std.specs.Prelude.{Result, Ok, Err}
 use Rattle.format.specs.declared.Fault.{Fault}
 use Rattle.format.specs.declared.Refusal.{Refusal}
-use Rattle.format.specs.declared.Answer.{Answer}
-use Rattle.format.specs.declared.Answer.TheVariants.{Is, No}
 use Rattle.format.specs.Result.{Res, ok, no, pick}
 use Rattle.format.specs.Number.{num_bytes}
 use Rattle.format.specs.Value.{Value, value, is_counted, width_of}
@@ -32,7 +31,7 @@ use Rattle.write.specs.declared.State.{State as Code}
 use Rattle.write.specs.declared.Outcome.{Outcome}
 use Rattle.write.specs.Shown.{seen, shown_answer, came}
 use Rattle.write.specs.Shared.{tabled}
-use Rattle.write.proofs.Taken.{shown_ok, shown_no}
+use Rattle.scan.proofs.Answers.{shown_go, shown_stop}
 use Rattle.write.proofs.Seen.{tabled_shown}
 use Rattle.rows.proofs.Cells.{cell_fine}
 use Rattle.whole.specs.Rows.{value_in, cell_step, steps_from, cell_steps, run_each, whole_row, WroteRow}
@@ -51,12 +50,6 @@ halves_bytes t upper lower h =
     widths (λ w. num_bytes (pick (eqb w 16) 8 0) upper ++ num_bytes (pick (eqb w 16) 8 w) lower ≡ num_bytes w (upper * 2 ^ 64 + lower))
     refl (sym (lower_half 1 upper lower (lit≤ tt))) (sym (lower_half 2 upper lower (lit≤ tt))) (sym (lower_half 4 upper lower (lit≤ tt))) (sym (lower_half 8 upper lower (lit≤ tt))) (sym (halves upper lower h)) t
 
-pub upper_room : (t at size : ℕ) → at + width_of t ≤ size → at + upper_of t ≤ size
-upper_room t at size h = omega (arith, halves_width t)
-
-pub lower_room : (t at size : ℕ) {m : ℕ} → at + width_of t ≤ size → m ≡ at + upper_of t → m + lower_of t ≤ size
-lower_room t at size h e = omega (arith, halves_width t)
-
 pub halves_put : (b : List ℕ) (at t upper lower : ℕ) {m r : ℕ} {c d : List ℕ} → lower < 2 ^ 64 → at + width_of t ≤ length b → (m ≡ at + upper_of t) × (c ≡ put b at (num_bytes (upper_of t) upper))
     → (r ≡ m + lower_of t) × (d ≡ put c m (num_bytes (lower_of t) lower)) → (r ≡ at + width_of t) × (d ≡ put b at (num_bytes (width_of t) (upper * 2 ^ 64 + lower)))
 halves_put b at t upper lower {m} {r} {c} {d} low h p q =
@@ -65,10 +58,7 @@ halves_put b at t upper lower {m} {r} {c} {d} low h p q =
     let two = puts_both one (puts_number c m (lower_of t) lower (omega (arith, one.kept, one.ends)) q) in
     (two.ends ∙ ap (λ (k : ℕ). at + k) sum, two.is ∙ ap (λ (l : List ℕ). put b at l) (halves_bytes t upper lower low))
 
--- what one arm of a match on the type writes, and what one that writes nothing does
-pub arm_put : (b : List ℕ) (at n w v : ℕ) {r : ℕ} {c : List ℕ} → v ≡ w → (r ≡ at + w) × (c ≡ put b at (num_bytes w n)) → (r ≡ at + v) × (c ≡ put b at (num_bytes v n))
-arm_put b at n w v e p = (p.0 ∙ ap (λ (k : ℕ). at + k) (sym e), p.1 ∙ ap (λ (k : ℕ). put b at (num_bytes k n)) (sym e))
-
+-- what an arm of a match on the type does that writes nothing
 pub none_put : (b : List ℕ) (at n v : ℕ) → v ≡ 0 → (at ≡ at + v) × (b ≡ put b at (num_bytes v n))
 unfolding num_bytes
 none_put b at n v e = (sym (ap (λ (k : ℕ). at + k) e ∙ add-zero at), sym (ap (λ (k : ℕ). put b at (num_bytes k n)) e ∙ put_nothing b at))
@@ -242,21 +232,21 @@ row_no bytes ns st b f p e = rw (run_answer (some open_row ∷ cell_steps bytes 
 
 -- the same in the code's terms
 module _ (bytes ns : List ℕ) (st : Code) (types b : List ℕ) where
-  pub refused : {a : Answer} {x : Refusal} → a ≡ shown_answer (row_answer bytes ns (seen st types) (length b)) → a ≡ No x → WroteRow bytes ns st types b (record { answer = a; state = st }) b
+  pub refused : {a : Result ℕ Refusal} {x : Refusal} → a ≡ shown_answer (row_answer bytes ns (seen st types) (length b)) → a ≡ Err x → WroteRow bytes ns st types b (record { answer = a; state = st }) b
   refused {a} {x} e f =
-      let w = row_no bytes ns (seen st types) b x.fault x.place (shown_no _ e f) in
-      (ap {B = Outcome} (λ (y : Answer). record { answer = y; state = st }) f ∙ sym (ap (came st) w), sym (ap (λ (o : Out State). o.buffer) w))
+      let w = row_no bytes ns (seen st types) b x.fault x.place (shown_stop _ e f) in
+      (ap {B = Outcome} (λ (y : Result ℕ Refusal). record { answer = y; state = st }) f ∙ sym (ap (came st) w), sym (ap (λ (o : Out State). o.buffer) w))
 
   pub record Accepts (n : ℕ) : Type 0 where
     pub taken : Taken bytes ns types (seen st types) b n
     pub wide : length ns / 2 ≤ most_columns
     pub more : st.rows + 1 ≤ unlimited
 
-  pub accepts : {a : Answer} {n : ℕ} → a ≡ shown_answer (row_answer bytes ns (seen st types) (length b)) → a ≡ Is n → Accepts n
+  pub accepts : {a : Result ℕ Refusal} {n : ℕ} → a ≡ shown_answer (row_answer bytes ns (seen st types) (length b)) → a ≡ Ok n → Accepts n
   unfolding answers
   accepts {a} {n} e f =
       let s = seen st types in
-      let r = shown_ok _ e f in
+      let r = shown_go _ e f in
       let x = bound (answer_of (plan open_row s (length b)) (length b)) r in
       let few = columns_few st types (length b) x.0 x.1 in
       let are = types_are st types few in
@@ -267,9 +257,9 @@ module _ (bytes ns : List ℕ) (st : Code) (types b : List ℕ) where
 
   pub wrote : {n first : ℕ} {next : Code} {c₁ c₂ c₃ : List ℕ} → Accepts n → length types ≡ most_columns → next ≡ tabled st Table n 0 0 (st.rows + 1)
       → (first ≡ st.position + 4) × (c₁ ≡ put b st.position (num_bytes 4 0)) → c₂ ≡ laid bytes types ns 0 (length ns / 2) first c₁ → c₃ ≡ put c₂ st.position (num_bytes 4 (n - first))
-      → WroteRow bytes ns st types b (record { answer = Is n; state = next }) c₃
+      → WroteRow bytes ns st types b (record { answer = Ok n; state = next }) c₃
   wrote {n} a long e w₁ w₂ w₃ =
       let o = a.taken.whole in (
-        ap {B = Outcome} (λ (y : Code). record { answer = Is n; state = y }) (e ∙ tabled_shown st types Table n 0 0 (st.rows + 1) long) ∙ sym (ap (came st) o),
+        ap {B = Outcome} (λ (y : Code). record { answer = Ok n; state = y }) (e ∙ tabled_shown st types Table n 0 0 (st.rows + 1) long) ∙ sym (ap (came st) o),
         rw (w₃, w₂, w₁.0, w₁.1) (sym (ap (λ (y : Out State). y.buffer) o)),
       )

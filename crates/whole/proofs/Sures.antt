@@ -1,30 +1,27 @@
 -- Cells that are surely without a fault, and what a cell's two numbers are answered.
 use Prim.Native.Nat.{ℕ, ◌+◌, ◌-◌, ◌*◌, ◌^◌, ◌<◌, ◌≤◌}
 use mathlib.Core.Logic.{◌⊎◌, ⊎_elim, inl, inr}
-use native.Mathlib.Omega.{arith}
-use mathlib.Core.Path.{◌≡◌, refl, sym, ap, ◌∙◌}
-use mathlib.Core.Bool.{Bool, true, false}
+use mathlib.Core.Path.{◌≡◌, sym, ap, ◌∙◌}
+use mathlib.Core.Bool.{true, false}
 use mathlib.Core.List.{List}
 use mathlib.Core.Option.{Option, some, none}
 use lib.ListN.{length, take, drop}
-use lib.Dec.{leb}
 use borrow.Author.Tests.{eq-eqb, ne_eqb}
-use Rattle.format.specs.declared.Answer.{Answer}
+use Rattle.std.specs.Prelude.{Result}
+use Rattle.format.specs.declared.Refusal.{Refusal}
 use Rattle.format.specs.Format.{Verdict, fine}
-use Rattle.format.specs.Result.{pick}
-use Rattle.format.specs.Value.{Value, fixed, body, is_column, is_counted, width_of, fixed_fine, t_bigint, t_float, t_timestamp, t_string, t_varbinary, t_geography}
+use Rattle.format.specs.Value.{Value, fixed, body, is_column, is_counted, width_of, fixed_fine, t_string, t_varbinary, t_geography}
 use Rattle.put.specs.Put.{sized}
 use Rattle.put.proofs.Laws.{sized_null, sized_some}
 use Rattle.steps.specs.State.{State}
 use Rattle.steps.specs.Arguments.{is_number_of, value_fault}
-use Rattle.write.proofs.Fits.{asked as fits, asked_of}
 use Rattle.write.specs.Shown.{shown_answer}
 use Rattle.write.proofs.Bytes.{fault_column}
 use Rattle.rows.specs.Asked.{cell_answer}
 use Rattle.rows.proofs.Cells.{fixed_size, body_size, fixed_answer, body_answer}
 use Rattle.whole.specs.Rows.{null_size, body_in, value_in, cell_step}
 use Rattle.whole.specs.Asked.{asked, Sure}
-use Rattle.whole.proofs.Values.{part_is, part_length, body_null, body_there, body_past, in_body, in_fixed}
+use Rattle.whole.proofs.Values.{part_is, part_length, body_null, body_there, in_body, in_fixed}
 
 null_fine : (p t : ℕ) → is_counted t ≡ true → value_fault p t (body none) ≡ fine
 unfolding value_fault
@@ -36,16 +33,6 @@ is_body t k = ⊎_elim (λ e. ap is_counted e) (λ w. ⊎_elim (λ e. ap is_coun
 
 pub is_fixed : (t : ℕ) → ((t ≡ t_string) ⊎ ((t ≡ t_varbinary) ⊎ (t ≡ t_geography)) → ⊥) → is_counted t ≡ false
 is_fixed t n = rw (ne_eqb t t_string (λ e. n (inl e)), ne_eqb t t_varbinary (λ e. n (inr (inl e))), ne_eqb t t_geography (λ e. n (inr (inr e))))
-
--- the types of 8 bytes: none has a rule
-pub eight_bytes : (t : ℕ) → (t ≡ t_bigint) ⊎ ((t ≡ t_float) ⊎ (t ≡ t_timestamp)) → (n : ℕ) → (width_of t ≡ 8) × (fixed_fine t n ≡ true)
-eight_bytes t k n = ⊎_elim (λ e. (ap width_of e, ap (λ (t : ℕ). fixed_fine t n) e)) (λ w. ⊎_elim (λ e. (ap width_of e, ap (λ (t : ℕ). fixed_fine t n) e)) (λ e. (ap width_of e, ap (λ (t : ℕ). fixed_fine t n) e)) w) k
-
--- a number of a width, by a test of its halves
-pub number_so : (upper lower t w : ℕ) → upper < 2 ^ 64 → lower < 2 ^ 64 → width_of t ≡ w → (test : Bool) {r : ℕ} → r ≡ pick test w 0 → (test ≡ true → fits upper lower w ≡ true)
-    → let n = upper * 2 ^ 64 + lower in (test ≡ true → fixed_fine t n ≡ true) → 0 < r → (r ≡ width_of t) × (is_number_of t n ≡ true) × (fixed_fine t n ≡ true)
-number_so upper lower t w high low wide true e f g h = (e ∙ sym wide, sym (asked_of upper lower high low t w wide) ∙ f refl, g refl)
-number_so upper lower t w high low wide false e f g h = absurd (omega arith)
 
 number_fine : (p t n : ℕ) → is_number_of t n ≡ true → fixed_fine t n ≡ true → value_fault p t (fixed n) ≡ fine
 unfolding value_fault
@@ -82,21 +69,21 @@ sure_column {p} {t} s = fault_column p t s.it s.faultless
 
 -- what the code asks of a cell is what its step asks
 module _ (bytes : List ℕ) (st : State) (t room : ℕ) where
-  pub asked_fixed : (a b : ℕ) {fault : Verdict} {k : ℕ} {r : Answer} → is_counted t ≡ false → fault ≡ value_fault st.position t (fixed (a * 2 ^ 64 + b)) → k ≡ width_of t
+  pub asked_fixed : (a b : ℕ) {fault : Verdict} {k : ℕ} {r : Result ℕ Refusal} → is_counted t ≡ false → fault ≡ value_fault st.position t (fixed (a * 2 ^ 64 + b)) → k ≡ width_of t
       → r ≡ shown_answer (cell_answer st t fault k room) → r ≡ shown_answer (asked (cell_step t (value_in bytes t a b)) st room)
   asked_fixed a b c e l g =
       fixed_answer st room t (a * 2 ^ 64 + b) e l g ∙ ap (λ (v : Option Value). shown_answer (asked (cell_step t v) st room)) (sym (in_fixed bytes t a b c))
 
-  pub asked_body : (a b : ℕ) {r : Answer} → is_counted t ≡ true → r ≡ shown_answer (asked (cell_step t (body_in bytes a b)) st room) → r ≡ shown_answer (asked (cell_step t (value_in bytes t a b)) st room)
+  pub asked_body : (a b : ℕ) {r : Result ℕ Refusal} → is_counted t ≡ true → r ≡ shown_answer (asked (cell_step t (body_in bytes a b)) st room) → r ≡ shown_answer (asked (cell_step t (value_in bytes t a b)) st room)
   asked_body a b c e = e ∙ ap (λ (v : Option Value). shown_answer (asked (cell_step t v) st room)) (sym (in_body bytes t a b c))
 
-  pub asked_null : (start size : ℕ) {fault : Verdict} {r : Answer} → size ≡ null_size → fault ≡ value_fault st.position t (body none)
+  pub asked_null : (start size : ℕ) {fault : Verdict} {r : Result ℕ Refusal} → size ≡ null_size → fault ≡ value_fault st.position t (body none)
       → r ≡ shown_answer (cell_answer st t fault 4 room) → r ≡ shown_answer (asked (cell_step t (body_in bytes start size)) st room)
   asked_null start size z e g =
       body_answer st room t none e (sym sized_null) g
       ∙ ap (λ (v : Option Value). shown_answer (asked (cell_step t v) st room)) (sym (body_null bytes start size (eq-eqb size null_size z)))
 
-  pub asked_there : (start size : ℕ) {fault : Verdict} {r : Answer} → (size ≡ null_size → ⊥) → start + size ≤ length bytes
+  pub asked_there : (start size : ℕ) {fault : Verdict} {r : Result ℕ Refusal} → (size ≡ null_size → ⊥) → start + size ≤ length bytes
       → fault ≡ value_fault st.position t (body (some (take (start + size - start) (drop start bytes)))) → r ≡ shown_answer (cell_answer st t fault (4 + size) room)
       → r ≡ shown_answer (asked (cell_step t (body_in bytes start size)) st room)
   asked_there start size z h e g =
@@ -104,6 +91,3 @@ module _ (bytes : List ℕ) (st : State) (t room : ℕ) where
       let long : 4 + size ≡ length (sized (some bs)) = sym (sized_some bs ∙ ap (λ (m : ℕ). 4 + m) (part_length bytes start size h)) in
       body_answer st room t (some bs) (e ∙ ap (λ (x : List ℕ). value_fault st.position t (body (some x))) (part_is bytes start size)) long g
       ∙ ap (λ (v : Option Value). shown_answer (asked (cell_step t v) st room)) (sym (body_there bytes start size (ne_eqb size null_size z) h))
-
-  pub asked_past : (start size : ℕ) → (size ≡ null_size → ⊥) → leb (start + size) (length bytes) ≡ false → body_in bytes start size ≡ none
-  asked_past start size z h = body_past bytes start size (ne_eqb size null_size z) h

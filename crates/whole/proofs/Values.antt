@@ -8,12 +8,11 @@ use mathlib.Core.Option.{some, none}
 use lib.ListN.{length, take, drop, length-drop}
 use lib.Seq.{length-take-le}
 use lib.Dec.{leb, eqb}
-use borrow.Author.Tests.{le-leb, leb-true, eq-eqb, ne_eqb}
+use borrow.Author.Tests.{le-leb, leb-true}
 use Rattle.format.specs.Result.{pick}
 use Rattle.format.specs.Number.{num_bytes}
 use Rattle.format.specs.Format.{fine}
 use Rattle.format.specs.Value.{Value, fixed, body, value, is_counted, width_of}
-use Rattle.put.specs.Put.{sized}
 use Rattle.steps.specs.Arguments.{value_fault}
 use Rattle.write.proofs.Bytes.{fixed_bytes, body_bytes_lem}
 use Rattle.whole.specs.Rows.{null_size, body_in, value_in}
@@ -33,9 +32,6 @@ body_null bytes start size e = rw e
 pub body_there : (bytes : List ℕ) (start size : ℕ) → eqb size null_size ≡ false → start + size ≤ length bytes → body_in bytes start size ≡ some (body (some (take size (drop start bytes))))
 body_there bytes start size e h = rw (e, le-leb (start + size) (length bytes) h)
 
-pub body_past : (bytes : List ℕ) (start size : ℕ) → eqb size null_size ≡ false → leb (start + size) (length bytes) ≡ false → body_in bytes start size ≡ none
-body_past bytes start size e h = rw (e, h)
-
 -- a cell, by its type
 pub in_body : (bytes : List ℕ) (t a b : ℕ) → is_counted t ≡ true → value_in bytes t a b ≡ body_in bytes a b
 unfolding value_in
@@ -53,13 +49,6 @@ laid_body bytes t a b e = rw e
 pub laid_fixed : (bytes : List ℕ) (t a b : ℕ) → is_counted t ≡ false → cell_bytes bytes t a b ≡ num_bytes (width_of t) (a * 2 ^ 64 + b)
 unfolding cell_bytes
 laid_fixed bytes t a b e = rw e
-
--- a body's bytes, where the code has them as a part
-pub bytes_null : (bytes : List ℕ) (start size : ℕ) → size ≡ null_size → body_bytes bytes start size ≡ sized none
-bytes_null bytes start size e = rw (eq-eqb size null_size e)
-
-pub bytes_there : (bytes : List ℕ) (start size : ℕ) → (size ≡ null_size → ⊥) → body_bytes bytes start size ≡ sized (some (take (start + size - start) (drop start bytes)))
-bytes_there bytes start size e = rw (ne_eqb size null_size e, part_is bytes start size)
 
 some_same : {A : Type 0} {x y : A} → some x ≡ some y → x ≡ y
 some_same e = cc

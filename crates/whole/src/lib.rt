@@ -17,9 +17,9 @@ ghost use Rattle.whole.specs.Rows.{value_in, body_in, cell_step, WroteRow};
 ghost use Rattle.whole.specs.Asked.{asked, type_now, row_answer, answers_from, opens, Opened, EndOf, PastAll, Sure};
 ghost use Rattle.whole.specs.Laid.{upper_of, lower_of, cell_bytes, body_bytes, Fits, Stands, laid, FitAll};
 
-use format::{Answer, Fault, Refusal};
+use format::{Fault, Refusal};
 use steps::Stage;
-use write::{COLUMNS, Check, Outcome, State};
+use write::{COLUMNS, Outcome, State};
 
 // The size that says that a text or binary cell is null.
 pub const NULL_SIZE: u64 = 0xffff_ffff_ffff_ffff;
@@ -37,7 +37,7 @@ pub fn whole_row(
     // as a slice, so that its length is known from here on
     let lent: &[u8] = types;
     let a = ask_row(st, types, cells, bytes, out.len());
-    let Answer::Is(n) = a else {
+    let Ok(n) = a else {
         return Outcome {
             answer: a,
             state: st,
@@ -54,12 +54,18 @@ pub fn whole_row(
 }
 
 // What a row is answered, in a buffer of so many bytes.
-fn ask_row(st: State, types: &[u8; COLUMNS], cells: &[u64], bytes: &[u8], size: usize) -> Answer
+fn ask_row(
+    st: State,
+    types: &[u8; COLUMNS],
+    cells: &[u64],
+    bytes: &[u8],
+    size: usize,
+) -> Result<usize, Refusal>
     ensures { result ≡ shown_answer (row_answer bytes.now cells.now (seen st types.now) size) }
 {
     let end = sure_end(st, types, cells, bytes, size);
     if end != 0 {
-        return Answer::Is(end);
+        return Ok(end);
     }
     ask_each(st, types, cells, bytes, size)
 }
@@ -132,8 +138,7 @@ fn past_cells(from: usize, end: usize, types: &[u8; COLUMNS], cells: &[u64], byt
     // as a slice, so that its length is known from here on
     let lent: &[u8] = types;
     let mut at = from;
-    let mut k = 0;
-    while k < cells.len() / 2 {
+    for k in 0..cells.len() / 2 {
         let n = sure_size(at, lent[k], cells[2 * k], cells[2 * k + 1], bytes);
         if n == 0 {
             return 0;
@@ -142,7 +147,6 @@ fn past_cells(from: usize, end: usize, types: &[u8; COLUMNS], cells: &[u64], byt
             return 0;
         }
         at += n;
-        k += 1;
     }
     at
 }
@@ -192,34 +196,37 @@ fn sure_body(at: usize, t: u8, start: usize, size: u64, bytes: &[u8]) -> usize
     if !scan::fits(bytes, start, n) {
         return 0;
     }
-    let Check::Fine = write::body_fault(at, t, false, &bytes[start..start + n]) else {
+    let Ok(()) = write::body_fault(at, t, Some(&bytes[start..start + n])) else {
         return 0;
     };
     4 + n
 }
 
 // What a row is answered, each of its steps by itself.
-fn ask_each(st: State, types: &[u8; COLUMNS], cells: &[u64], bytes: &[u8], size: usize) -> Answer
+fn ask_each(
+    st: State,
+    types: &[u8; COLUMNS],
+    cells: &[u64],
+    bytes: &[u8],
+    size: usize,
+) -> Result<usize, Refusal>
     ensures { result ≡ shown_answer (row_answer bytes.now cells.now (seen st types.now) size) }
 {
-    let opened = ask_open(st, types, size);
-    let Answer::Is(first) = opened else {
-        return opened;
-    };
+    let first = ask_open(st, types, size)?;
     ask_cells(st, first, types, cells, bytes, size)
 }
 
 // What opening and closing are answered. These are the tests of `rows`, made here once more: a function with two callers isn't put into the step that opens or
 // closes a row, which then takes up to twice as long.
-fn ask_open(st: State, types: &[u8; COLUMNS], size: usize) -> Answer
+fn ask_open(st: State, types: &[u8; COLUMNS], size: usize) -> Result<usize, Refusal>
     ensures { result ≡ shown_answer (answer_of (plan open_row (seen st types.now) size) size) }
 {
     let permitted = write::at_table(st, types, size);
     let more = write::one_more(st.rows, write::MOST_ROWS);
-    write::judge(permitted, Check::Fine, more, st.position, 4, size)
+    write::judge(permitted, Ok(()), more, st.position, 4, size)
 }
 
-fn ask_close(st: State, types: &[u8; COLUMNS], size: usize) -> Answer
+fn ask_close(st: State, types: &[u8; COLUMNS], size: usize) -> Result<usize, Refusal>
     ensures { result ≡ shown_answer (answer_of (plan close_row (seen st types.now) size) size) }
 {
     // as a slice, so that its length is known from here on
@@ -228,7 +235,7 @@ fn ask_close(st: State, types: &[u8; COLUMNS], size: usize) -> Answer
     let full = st.inner_count == write::columns_seen(st.columns);
     let permitted = write::both(in_row, full);
     let keeps = write::row_keeps(st.inner_at, st.position, 0);
-    write::judge(permitted, Check::Fine, keeps, st.position, 0, size)
+    write::judge(permitted, Ok(()), keeps, st.position, 0, size)
 }
 
 // What the cells of a row that was opened are answered, and the closing behind them.
@@ -239,19 +246,15 @@ fn ask_cells(
     cells: &[u64],
     bytes: &[u8],
     size: usize,
-) -> Answer
+) -> Result<usize, Refusal>
     requires { Opened (seen st types.now) size first }
     ensures { result ≡ shown_answer (answers_from bytes.now cells.now (seen st types.now) size 0 first) }
 {
     // as a slice, so that its length is known from here on
     let lent: &[u8] = types;
     let mut row = write::in_table(st, Stage::Row, first, st.position, 0, st.rows + 1);
-    let mut k = 0;
-    while k < cells.len() / 2 {
-        let a = ask_cell(row, types, cells[2 * k], cells[2 * k + 1], bytes, size);
-        let Answer::Is(n) = a else {
-            return a;
-        };
+    for k in 0..cells.len() / 2 {
+        let n = ask_cell(row, types, cells[2 * k], cells[2 * k + 1], bytes, size)?;
         row = write::in_table(
             row,
             Stage::Row,
@@ -260,13 +263,19 @@ fn ask_cells(
             row.inner_count + 1,
             row.rows,
         );
-        k += 1;
     }
     ask_close(row, types, size)
 }
 
 // What a cell is answered, by its two numbers.
-fn ask_cell(st: State, types: &[u8; COLUMNS], a: u64, b: u64, bytes: &[u8], size: usize) -> Answer
+fn ask_cell(
+    st: State,
+    types: &[u8; COLUMNS],
+    a: u64,
+    b: u64,
+    bytes: &[u8],
+    size: usize,
+) -> Result<usize, Refusal>
     ensures { result ≡ shown_answer (asked (cell_step (type_now (seen st types.now)) (value_in bytes.now (type_now (seen st types.now)) a b)) (seen st types.now) size) }
 {
     let t = rows::next_type(st.columns, types, st.inner_count);
@@ -285,21 +294,21 @@ fn ask_body(
     size: u64,
     bytes: &[u8],
     room: usize,
-) -> Answer
+) -> Result<usize, Refusal>
     ensures { result ≡ shown_answer (asked (cell_step t (body_in bytes.now start size)) (seen st types.now) room) }
 {
     if size == NULL_SIZE {
-        let null = write::body_fault(st.position, t, true, &bytes[0..0]);
+        let null = write::body_fault(st.position, t, None);
         return rows::ask_cell(st, types, t, null, 4, room);
     }
     let n = size as usize;
     if !scan::fits(bytes, start, n) {
-        return Answer::No(Refusal {
+        return Err(Refusal {
             fault: Fault::PastEnd,
             place: 0,
         });
     }
-    let fault = write::body_fault(st.position, t, false, &bytes[start..start + n]);
+    let fault = write::body_fault(st.position, t, Some(&bytes[start..start + n]));
     rows::ask_cell(st, types, t, fault, 4 + n, room)
 }
 
@@ -311,10 +320,8 @@ fn put_cells(out: &mut [u8], from: usize, types: &[u8; COLUMNS], cells: &[u64], 
     // as a slice, so that its length is known from here on
     let lent: &[u8] = types;
     let mut at = from;
-    let mut k = 0;
-    while k < cells.len() / 2 {
+    for k in 0..cells.len() / 2 {
         at = put_cell(out, at, lent[k], cells[2 * k], cells[2 * k + 1], bytes);
-        k += 1;
     }
 }
 
@@ -371,8 +378,8 @@ fn put_body(out: &mut [u8], at: usize, start: usize, size: u64, bytes: &[u8]) ->
     ensures { (result ≡ at + length (body_bytes bytes.now start size)) × (out.new ≡ put out.old at (body_bytes bytes.now start size)) }
 {
     if size == NULL_SIZE {
-        return put::text_at(out, at, true, &bytes[0..0]);
+        return put::text_at(out, at, None);
     }
     let end = start + size as usize;
-    put::text_at(out, at, false, &bytes[start..end])
+    put::text_at(out, at, Some(&bytes[start..end]))
 }

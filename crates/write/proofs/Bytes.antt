@@ -1,20 +1,21 @@
 -- The bytes of values that have no fault, and how faults of texts are put together.
-use Prim.Native.Nat.{ℕ, ◌≤◌, ◌<◌}
-use mathlib.Core.Path.{◌≡◌, refl, sym, ◌∙◌, ap}
+use Prim.Native.Nat.{ℕ, ◌≤◌}
+use mathlib.Core.Path.{◌≡◌, refl, sym, ap}
 use mathlib.Core.Bool.{Bool, true, not}
 use mathlib.Core.List.{List, [], ◌∷◌, ◌++◌}
 use mathlib.Core.Option.{Option, some, none}
 use lib.ListN.{length}
 use lib.Dec.{leb, eqb}
 use native.Mathlib.Omega.{arith}
-use borrow.Author.Tests.{ne_eqb, le-leb, lt-leb, leb-true}
+use borrow.Author.Tests.{ne_eqb, le-leb, leb-true}
+use Rattle.format.specs.declared.Fault.{Fault}
 use Rattle.format.specs.declared.Fault.TheVariants.{Limit, Text}
 use Rattle.format.specs.Number.{num_bytes}
 use Rattle.format.specs.Format.{Verdict, fine, bad, number, ruled, into, both, nothing, counted}
 use Rattle.format.specs.Text.{utf8_from, utf8}
-use Rattle.text.specs.declared.Found.{Found}
+use Rattle.std.specs.Option.{is_none}
 use Rattle.text.specs.Shown.{shown_at}
-use Rattle.text.proofs.Finds.{finds_texts}
+use Rattle.text.proofs.Finds.{Finds, finds_texts}
 use Rattle.format.specs.Value.{Value, fixed, body, value, string, width_of, is_counted, is_column, fixed_fine, anything, not_empty, rule_of, most_bytes, t_null, t_tinyint, t_array}
 use Rattle.format.specs.Message.{one, array, bytes, items, argument, param}
 use Rattle.put.specs.Put.{sized}
@@ -34,17 +35,17 @@ text_limit p bs = also_none (test (leb (length bs) most_bytes) Limit p)
 pub text_few : (rule : List ℕ → Verdict) (p : ℕ) (bs : List ℕ) → text_fault rule p bs ≡ fine → length bs ≤ most_bytes
 text_few rule p bs e = leb-true (length bs) most_bytes (test_fine (leb (length bs) most_bytes) Limit p (also_fine (test (leb (length bs) most_bytes) Limit p) (placed p (rule bs)) e).0)
 
--- a text that is too long, one that is torn, and one that isn't
-module _ (p : ℕ) (bs : List ℕ) where
-  pub text_long : most_bytes < length bs → text_fault utf8 p bs ≡ bad Limit p
-  text_long h = rw (lt-leb (length bs) most_bytes h)
+-- bytes have a fault where one is found that breaks their rule
+pub fault_found : {rule from : List ℕ → Verdict} {f : Fault} → Finds rule from f → (p : ℕ) (bs : List ℕ) → placed p (rule bs) ≡ test (is_none (shown_at (from bs))) f p
+fault_found {rule} {from} {f} finds p bs = go (from bs) refl
+  where
+    go : (v : Verdict) → from bs ≡ v → placed p (rule bs) ≡ test (is_none (shown_at v)) f p
+    go fine e = rw (finds.passes bs (ap shown_at e))
+    go (bad g i) e = rw (finds.refuses bs i (ap shown_at e)).0
 
-  module _ (few : length bs ≤ most_bytes) {found : Found} (e : found ≡ shown_at (utf8_from 0 0 bs)) where
-    pub text_torn : {i : ℕ} → found ≡ Found.At i → text_fault utf8 p bs ≡ bad Text p
-    text_torn {i} is = rw (le-leb (length bs) most_bytes few, (finds_texts.refuses bs i (sym e ∙ is)).0)
-
-    pub text_whole : found ≡ Found.Nothing → text_fault utf8 p bs ≡ fine
-    text_whole is = rw (le-leb (length bs) most_bytes few, finds_texts.passes bs (sym e ∙ is))
+-- a text that isn't too long has one where it is torn
+pub text_short : (p : ℕ) (bs : List ℕ) → length bs ≤ most_bytes → text_fault utf8 p bs ≡ test (is_none (shown_at (utf8_from 0 0 bs))) Text p
+text_short p bs few = rw (le-leb (length bs) most_bytes few) (fault_found finds_texts p bs)
 
 -- a geography's bytes are counted, and then that there are some
 pub geography_fault : (p : ℕ) (bs : List ℕ) → text_fault not_empty p bs ≡ also (text_fault anything p bs) (placed p (not_empty bs))

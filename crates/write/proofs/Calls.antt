@@ -5,11 +5,12 @@ use mathlib.Core.Path.{◌≡◌, refl, sym, ap, ◌∙◌, subst}
 use mathlib.Core.Bool.{true}
 use mathlib.Core.List.{List, [], ◌∷◌, ◌++◌}
 use lib.ListN.{length, take}
-use Rattle.format.specs.declared.Answer.{Answer}
-use Rattle.format.specs.declared.Answer.TheVariants.{Is, No}
-use Rattle.format.specs.Result.{Res, ok, no}
+use Rattle.std.specs.Prelude.{Result, Ok}
+use Rattle.format.specs.declared.Refusal.{Refusal}
+use Rattle.format.specs.Result.{ok}
 use Rattle.format.specs.Message.{Message, message_bytes, is_kind, GoodMessage, most_columns, read_message}
 use Rattle.format.proofs.Results.{ok_same}
+use Rattle.scan.proofs.Answers.{shown_go}
 use Rattle.steps.specs.State.{State, closed, stage_number}
 use Rattle.steps.specs.Plans.{Plan, Out, carry}
 use Rattle.steps.specs.Logins.{login_request, login_response}
@@ -26,15 +27,11 @@ use Rattle.write.specs.Calls.{Left, Loan, nothing, look, whole, loan, Meets, Cha
 use Rattle.write.proofs.Chain.{RunsTo, first_ok, run→chain, chain→run}
 
 -- a login's answer is that of its definition
-shown_ok : (r : Res ℕ) (n : ℕ) → shown_answer r ≡ Is n → r ≡ ok n
-shown_ok (ok m) n e = cc
-shown_ok (no f p) n e = let z : No _ ≡ Is n = e in cc
-
-told→accepted : (o : Out State) (a : Answer) (b' : List ℕ) (n : ℕ) (m : List ℕ) → Told o a b' → RunsTo o n m → (a ≡ Is n) × (b' ≡ m)
+told→accepted : (o : Out State) (a : Result ℕ Refusal) (b' : List ℕ) (n : ℕ) (m : List ℕ) → Told o a b' → RunsTo o n m → (a ≡ Ok n) × (b' ≡ m)
 told→accepted o a b' n m t e = (t.0 ∙ ap shown_answer e.0, t.1 ∙ e.1)
 
-accepted→told : (o : Out State) (a : Answer) (b' : List ℕ) (n : ℕ) (m : List ℕ) → Told o a b' → (a ≡ Is n) × (b' ≡ m) → RunsTo o n m
-accepted→told o a b' n m t e = (shown_ok o.answer n (sym t.0 ∙ e.0), sym t.1 ∙ e.1)
+accepted→told : (o : Out State) (a : Result ℕ Refusal) (b' : List ℕ) (n : ℕ) (m : List ℕ) → Told o a b' → (a ≡ Ok n) × (b' ≡ m) → RunsTo o n m
+accepted→told o a b' n m t e = (shown_go o.answer t.0 e.0, sym t.1 ∙ e.1)
 
 -- what comes of a writing and what comes of its calls
 written→calls : (w : Writing) (types b : List ℕ) → length types ≡ most_columns → (n : ℕ) (m : List ℕ) → RunsTo (written w (seen zero types) b) n m → (c : Calls w types b) → CallsTo w types b c n m

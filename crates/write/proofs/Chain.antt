@@ -10,13 +10,13 @@ use lib.ListN.{length, take, drop, length-map}
 use lib.Seq.{sets, sets-eq, length-sets, length-take-le, take-append_seam}
 use lib.Dec.{leb, eqb}
 use borrow.Author.Tests.{le-leb, leb-true}
+use Rattle.std.specs.Prelude.{Ok, Err}
 use Rattle.format.specs.declared.Fault.TheVariants.{Limit, WireType}
 use Rattle.format.specs.Result.{Res, ok, no, pick}
 use Rattle.format.specs.Message.{most_columns, unlimited}
 use Rattle.format.proofs.Results.{ok_same, no_ok, and_true_both}
 use Rattle.put.specs.Put.{put}
 use Rattle.write.specs.declared.State.{State as Code}
-use Rattle.format.specs.declared.Answer.TheVariants.{Is, No}
 use Rattle.write.specs.declared.Outcome.{Outcome}
 use Rattle.steps.specs.declared.Stage.TheVariants.{Table, Row}
 use Rattle.steps.specs.State.{State, stage_number, all_columns, message_sound, outer_sound, sound, at_stage}
@@ -130,14 +130,14 @@ facts close_table st types size n l = (refl, refl, λ a. refl)
 facts finish_reply st types size n l = (refl, refl, λ a. refl)
 
 -- a call is accepted where its step is
-pub came_ok : (old : Code) (o : Out State) (n : ℕ) → (came old o).answer ≡ Is n → o.answer ≡ ok n
+pub came_ok : (old : Code) (o : Out State) (n : ℕ) → (came old o).answer ≡ Ok n → o.answer ≡ ok n
 came_ok old o n = go o.answer
   where
-    go : (r : Res ℕ) → (answered old r o.state).answer ≡ Is n → r ≡ ok n
+    go : (r : Res ℕ) → (answered old r o.state).answer ≡ Ok n → r ≡ ok n
     go (ok m) e = cc
-    go (no f p) e = let z : No _ ≡ Is n = e in cc
+    go (no f p) e = let z : Err _ ≡ Ok n = e in cc
 
-pub ok_came : (old : Code) (o : Out State) (n : ℕ) → o.answer ≡ ok n → (came old o).answer ≡ Is n
+pub ok_came : (old : Code) (o : Out State) (n : ℕ) → o.answer ≡ ok n → (came old o).answer ≡ Ok n
 ok_came old o n e = rw e refl
 
 -- the state that a plan began in is in no answer, and in nothing of an accepted one
@@ -171,14 +171,14 @@ module _ (s : Step) (st : Code) (types b : List ℕ) (long : length types ≡ mo
   contract = meets (loan s) s st types b l called
 
   -- the call is accepted where the step is
-  pub goes→accepted : (n : ℕ) → (step s (seen st types) b).answer ≡ ok n → l.came.answer ≡ Is n
+  pub goes→accepted : (n : ℕ) → (step s (seen st types) b).answer ≡ ok n → l.came.answer ≡ Ok n
   unfolding looked step
   goes→accepted n e =
       let same : looked.answer ≡ (step s (seen st types) b).answer = same_answer _ (seen st (lent (loan s) types)) (seen st types) b ∙ ap (λ (o : Out State). o.answer) (blind (seen st types)) in
       ap (λ (o : Outcome). o.answer) contract.0.0 ∙ ok_came st looked n (same ∙ e)
 
   -- and an accepted call's step leaves what is seen of what the call left
-  pub accepted→goes : (n : ℕ) → l.came.answer ≡ Is n
+  pub accepted→goes : (n : ℕ) → l.came.answer ≡ Ok n
       → (step s (seen st types) b ≡ record { answer = ok n; state = seen l.came.state l.types; buffer = l.buffer }) × (l.came.state.position ≡ n) × (length l.types ≡ most_columns)
   unfolding looked step
   accepted→goes n e =
@@ -198,7 +198,7 @@ module _ (s : Step) (st : Code) (types b : List ℕ) (long : length types ≡ mo
       )
 
   -- so the steps behind it go on from there
-  pub goes_on : (ss : List Step) (n : ℕ) → l.came.answer ≡ Is n → run (s ∷ ss) (seen st types) b ≡ run ss (seen l.came.state l.types) l.buffer
+  pub goes_on : (ss : List Step) (n : ℕ) → l.came.answer ≡ Ok n → run (s ∷ ss) (seen st types) b ≡ run ss (seen l.came.state l.types) l.buffer
   unfolding run
   goes_on ss n e = ap (λ (o : Out State). after o (run ss)) (accepted→goes n e).0
 
@@ -226,7 +226,7 @@ run→chain s [] st types b n b' long e l called c =
     let a = goes→accepted s st types b long l called m.0 m.1 in
     let on = goes_on s st types b long l called [] m.0 a in
     let here = (accepted→goes s st types b long l called m.0 a).1 in
-    (a ∙ ap Is (sym here ∙ ok_same (sym (ap (λ (o : Out State). o.answer) on) ∙ e.0)), sym (ap (λ (o : Out State). o.buffer) on) ∙ e.1)
+    (a ∙ ap Ok (sym here ∙ ok_same (sym (ap (λ (o : Out State). o.answer) on) ∙ e.0)), sym (ap (λ (o : Out State). o.buffer) on) ∙ e.1)
 run→chain s (t ∷ ss) st types b n b' long e l called c =
     let m = first_ok (step s (seen st types) b) (run (t ∷ ss)) n e.0 in
     let a = goes→accepted s st types b long l called m.0 m.1 in

@@ -8,13 +8,12 @@ use mathlib.Core.List.{List}
 use lib.ListN.{length}
 use lib.Dec.{leb}
 use borrow.Author.Tests.{leb-true}
+use Rattle.std.specs.Prelude.{Result, Ok, Err}
 use Rattle.format.specs.declared.Refusal.{Refusal}
-use Rattle.format.specs.Result.{Res, ok, no}
 use Rattle.format.specs.Format.{Verdict, fine, bad}
+use Rattle.scan.proofs.Answers.{shown_go, shown_stop}
 use Rattle.put.specs.Put.{put}
 use Rattle.write.specs.declared.State.{State as Code}
-use Rattle.format.specs.declared.Answer.{Answer}
-use Rattle.format.specs.declared.Answer.TheVariants.{Is, No}
 use Rattle.write.specs.declared.Outcome.{Outcome}
 use Rattle.steps.specs.State.{State}
 use Rattle.steps.specs.Plans.{Plan, answer_within, answer_of, carry, fill_all}
@@ -23,7 +22,7 @@ use Rattle.write.specs.Shown.{seen, shown, shown_answer, came, Stepped}
 use Rattle.steps.proofs.Plans.{Accepted, answer_ok}
 
 -- what the tests of the code gave is what the plan asks; limits and length are asked only of a step that nothing else refuses
-pub answered : {S : Type 0} (p : Plan S) (size : ℕ) {permitted limits : Bool} {v : Verdict} {n : ℕ} {a : Answer} → a ≡ shown_answer (answer_within p.most permitted v limits p.at n size)
+pub answered : {S : Type 0} (p : Plan S) (size : ℕ) {permitted limits : Bool} {v : Verdict} {n : ℕ} {a : Result ℕ Refusal} → a ≡ shown_answer (answer_within p.most permitted v limits p.at n size)
     → permitted ≡ p.permitted → v ≡ p.faults → (p.permitted ≡ true → p.faults ≡ fine → (limits ≡ p.limits) × (n ≡ length p.bytes)) → a ≡ shown_answer (answer_of p size)
 answered p size {permitted} {limits} {v} {n} {a} e f g h = e ∙ rw (f, g) (go p.permitted p.faults h)
   where
@@ -33,47 +32,38 @@ answered p size {permitted} {limits} {v} {n} {a} e f g h = e ∙ rw (f, g) (go p
     go true (bad x q) h = refl
     go false w h = refl
 
--- what the code was answered
-pub shown_ok : (r : Res ℕ) {a : Answer} {n : ℕ} → a ≡ shown_answer r → a ≡ Is n → r ≡ ok n
-shown_ok (ok m) e f = cc
-shown_ok (no g p) e f = let z : Is _ ≡ No _ = sym f ∙ e in cc
-
-pub shown_no : (r : Res ℕ) {a : Answer} {x : Refusal} → a ≡ shown_answer r → a ≡ No x → r ≡ no x.fault x.place
-shown_no (ok m) e f = let z : No _ ≡ Is _ = sym f ∙ e in cc
-shown_no (no g p) e f = let z : No _ ≡ No _ = sym f ∙ e in cc
-
 module _ (p : Plan State) (st : Code) (b : List ℕ) (types : List ℕ) where
   -- what comes of a plan that is refused
-  pub refused : {a : Answer} {x : Refusal} → a ≡ shown_answer (answer_of p (length b)) → a ≡ No x
+  pub refused : {a : Result ℕ Refusal} {x : Refusal} → a ≡ shown_answer (answer_of p (length b)) → a ≡ Err x
       → (record { answer = a; state = st } ≡ came st (carry p (seen st types) b)) × (b ≡ (carry p (seen st types) b).buffer)
   unfolding carry
   refused {a} {x} e f =
-      let r = shown_no (answer_of p (length b)) e f in
-      (sym (rw r (ap {B = Outcome} (λ (y : Answer). record { answer = y; state = st }) (sym f))), sym (rw r))
+      let r = shown_stop (answer_of p (length b)) e f in
+      (sym (rw r (ap {B = Outcome} (λ (y : Result ℕ Refusal). record { answer = y; state = st }) (sym f))), sym (rw r))
 
   -- what comes of one that is taken
   pub record Taken (n : ℕ) : Type 0 where
     pub accepted : Accepted p (length b) n
-    pub came_is : came st (carry p (seen st types) b) ≡ record { answer = Is n; state = shown (p.next n) }
+    pub came_is : came st (carry p (seen st types) b) ≡ record { answer = Ok n; state = shown (p.next n) }
     pub wrote : (carry p (seen st types) b).buffer ≡ fill_all p.fills (put b p.at p.bytes)
 
-  pub taken : {a : Answer} {n : ℕ} → a ≡ shown_answer (answer_of p (length b)) → a ≡ Is n → Taken n
+  pub taken : {a : Result ℕ Refusal} {n : ℕ} → a ≡ shown_answer (answer_of p (length b)) → a ≡ Ok n → Taken n
   unfolding carry
   taken {a} {n} e f =
-      let r = shown_ok (answer_of p (length b)) e f in
+      let r = shown_go (answer_of p (length b)) e f in
       record { accepted = answer_ok p (length b) n r; came_is = rw r; wrote = rw r }
 
 -- the same of a step
 module _ (s : Step) (st : Code) (b : List ℕ) (types : List ℕ) where
-  pub step_refused : {a : Answer} {x : Refusal} → a ≡ shown_answer (answer_of (plan s (seen st types) (length b)) (length b)) → a ≡ No x → Stepped s st types b (record { answer = a; state = st }) b
+  pub step_refused : {a : Result ℕ Refusal} {x : Refusal} → a ≡ shown_answer (answer_of (plan s (seen st types) (length b)) (length b)) → a ≡ Err x → Stepped s st types b (record { answer = a; state = st }) b
   unfolding step
   step_refused e f = refused (plan s (seen st types) (length b)) st b types e f
 
-  pub step_accepted : {a : Answer} {n : ℕ} → let p = plan s (seen st types) (length b) in a ≡ shown_answer (answer_of p (length b)) → a ≡ Is n → Accepted p (length b) n
+  pub step_accepted : {a : Result ℕ Refusal} {n : ℕ} → let p = plan s (seen st types) (length b) in a ≡ shown_answer (answer_of p (length b)) → a ≡ Ok n → Accepted p (length b) n
   step_accepted e f = (taken (plan s (seen st types) (length b)) st b types e f).accepted
 
-  pub step_taken : {a : Answer} {n : ℕ} {next : Code} {c : List ℕ} → let p = plan s (seen st types) (length b) in a ≡ shown_answer (answer_of p (length b)) → a ≡ Is n
-      → next ≡ shown (p.next n) → c ≡ fill_all p.fills (put b p.at p.bytes) → Stepped s st types b (record { answer = Is n; state = next }) c
+  pub step_taken : {a : Result ℕ Refusal} {n : ℕ} {next : Code} {c : List ℕ} → let p = plan s (seen st types) (length b) in a ≡ shown_answer (answer_of p (length b)) → a ≡ Ok n
+      → next ≡ shown (p.next n) → c ≡ fill_all p.fills (put b p.at p.bytes) → Stepped s st types b (record { answer = Ok n; state = next }) c
   unfolding step
   step_taken {a} {n} {next} e f g h =
       let t = taken (plan s (seen st types) (length b)) st b types e f in

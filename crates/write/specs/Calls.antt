@@ -1,10 +1,9 @@
 -- Calls of the writer's functions: a login's call, or that of a begin and those of the steps behind it, each on the state, the types and the buffer that the
 -- last one left. Nothing here says that a call is accepted, and of its arguments no more is said than their types say.
-use Rattle.std.specs.Prelude.{ℕ, ◌≡◌, List, [], ◌∷◌, ◌++◌, length, take}
+use Rattle.std.specs.Prelude.{ℕ, ◌≡◌, List, [], ◌∷◌, ◌++◌, length, take, Result, Ok}
+use Rattle.format.specs.declared.Refusal.{Refusal}
 use Rattle.format.specs.Result.{ok}
 use Rattle.format.specs.Message.{Message, read_message, message_bytes, GoodMessage}
-use Rattle.format.specs.declared.Answer.{Answer}
-use Rattle.format.specs.declared.Answer.TheVariants.{Is}
 use Rattle.steps.specs.Steps.{Step, begin_call, null_param, one_param, bytes_param, open_array, element, close_array, finish_call, begin_reply, open_table, open_row, cell, close_row, close_table, finish_reply}
 use Rattle.steps.specs.Logins.{login_request, login_response}
 use Rattle.steps.specs.Spells.{Held}
@@ -56,28 +55,28 @@ abbrev pub Chain : List Step → Left → Type 0
 Chain [] l = Unit
 Chain (s ∷ ss) l = Held s × (next : Left) × Called s l.came.state l.types l.buffer next × Chain ss next
 
-abbrev pub Accepted : Answer → Type 0
-Accepted a = (n : ℕ) × (a ≡ Is n)
+abbrev pub Accepted : Result ℕ Refusal → Type 0
+Accepted a = (n : ℕ) × (a ≡ Ok n)
 
 -- from a call that left l on each was accepted, and the last answered n and left the buffer b'
 abbrev pub ChainTo : (ss : List Step) (l : Left) → Chain ss l → ℕ → List ℕ → Type 0
-ChainTo [] l c n b' = (l.came.answer ≡ Is n) × (l.buffer ≡ b')
+ChainTo [] l c n b' = (l.came.answer ≡ Ok n) × (l.buffer ≡ b')
 ChainTo (s ∷ ss) l c n b' = Accepted l.came.answer × ChainTo ss c.1 c.3 n b'
 
 -- the calls of a writing on a buffer b, with memory for a table's types; a login takes none. What is held of a begin's arguments is what is held of a writing without
 -- steps behind it
 abbrev pub Calls : Writing → List ℕ → List ℕ → Type 0
 Calls (request_call version hash_version service user hash) types b =
-    HeldWriting (request_call version hash_version service user hash) × (a : Answer) × (b' : List ℕ) × Told (login_request version hash_version service user hash b) a b'
-Calls (response_call version result w) types b = HeldWriting (response_call version result w) × (a : Answer) × (b' : List ℕ) × Told (login_response version result w b) a b'
+    HeldWriting (request_call version hash_version service user hash) × (a : Result ℕ Refusal) × (b' : List ℕ) × Told (login_request version hash_version service user hash b) a b'
+Calls (response_call version result w) types b = HeldWriting (response_call version result w) × (a : Result ℕ Refusal) × (b' : List ℕ) × Told (login_response version result w b) a b'
 Calls (call_steps version procedure client ss) types b =
     HeldWriting (call_steps version procedure client []) × (l : Left) × Called (begin_call version procedure client) zero types b l × Chain ss l
 Calls (reply_steps version o ss) types b = HeldWriting (reply_steps version o []) × (l : Left) × Called (begin_reply version o) zero types b l × Chain ss l
 
 -- each of them was accepted, and the last answered n and left the buffer b'
 abbrev pub CallsTo : (w : Writing) (types b : List ℕ) → Calls w types b → ℕ → List ℕ → Type 0
-CallsTo (request_call version hash_version service user hash) types b c n b' = (c.1 ≡ Is n) × (c.2 ≡ b')
-CallsTo (response_call version result w) types b c n b' = (c.1 ≡ Is n) × (c.2 ≡ b')
+CallsTo (request_call version hash_version service user hash) types b c n b' = (c.1 ≡ Ok n) × (c.2 ≡ b')
+CallsTo (response_call version result w) types b c n b' = (c.1 ≡ Ok n) × (c.2 ≡ b')
 CallsTo (call_steps version procedure client ss) types b c n b' = ChainTo ss c.1 c.3 n b'
 CallsTo (reply_steps version o ss) types b c n b' = ChainTo ss c.1 c.3 n b'
 

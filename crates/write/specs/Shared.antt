@@ -1,17 +1,16 @@
 -- What the functions that all steps share are held to.
-use Rattle.std.specs.Prelude.{ℕ, leb}
+use Rattle.std.specs.Prelude.{ℕ, leb, Result, Ok, Err}
+use Rattle.format.specs.declared.Refusal.{Refusal}
 use Rattle.format.specs.Result.{pick}
 use Rattle.format.specs.Format.{Verdict, fine, bad}
 use Rattle.format.specs.Message.{most_columns}
 use Rattle.steps.specs.declared.Stage.{Stage}
 use Rattle.write.specs.declared.State.{State as Code}
-use Rattle.write.specs.declared.Check.{Check}
-use Rattle.write.specs.declared.Check.TheVariants.{Fine, Bad}
 
 -- what the code found of the arguments
-abbrev pub verdict_of : Check → Verdict
-verdict_of Fine = fine
-verdict_of (Bad r) = bad r.fault r.place
+abbrev pub verdict_of : Result Unit Refusal → Verdict
+verdict_of (Ok u) = fine
+verdict_of (Err r) = bad r.fault r.place
 
 -- how many types are seen where a state has so many columns: as many as `types_in` gives
 abbrev pub count_in : ℕ → ℕ

@@ -3,9 +3,9 @@
 // Each function answers one number: what was found, or the refusal's number and place (numbers/specs/Packed.antt).
 #![tactic(auto)]
 
-ghost use Rattle.std.specs.Prelude.{◌+◌, ◌*◌, ◌^◌, []};
+ghost use Rattle.std.specs.Prelude.{◌≡◌, ◌+◌, ◌*◌, ◌^◌, []};
 ghost use Rattle.format.specs.Value.{fixed, body};
-ghost use Rattle.put.specs.Put.{optional};
+ghost use Rattle.put.specs.Put.{optional, given};
 ghost use Rattle.steps.specs.Steps.{open_table, begin_call, begin_reply, cell, null_param, one_param, bytes_param, open_array, element, close_array, finish_call, open_row, close_row, close_table, finish_reply};
 ghost use Rattle.steps.specs.Logins.{login_request, login_response};
 ghost use Rattle.write.specs.Shown.{zero};
@@ -17,6 +17,16 @@ ghost use Rattle.numbers.specs.Stored.{WroteFrom, Wrote, WroteAll, WroteLogin};
 
 use reply::Head;
 use write::COLUMNS;
+
+// A text or binary value as C gives it, by a flag and bytes: of a null the bytes mean nothing.
+fn text_of(null: bool, s: &[u8]) -> Option<&[u8]>
+    ensures { given result ≡ optional null s.now }
+{
+    if null {
+        return None;
+    }
+    Some(s)
+}
 
 // ---- The writer: a step each, over a state in numbers, the types of the open table and a buffer.
 
@@ -73,7 +83,7 @@ pub extern "C" fn chaloenpik_body_param(
     ensures { Wrote (one_param t (body (optional null s.now))) state.old [] out.old result state.new out.new }
 {
     let st = numbers::load(state);
-    let step = call::body_param(out, st, t, null, s);
+    let step = call::body_param(out, st, t, text_of(null, s));
     numbers::keep(state, step)
 }
 
@@ -125,7 +135,7 @@ pub extern "C" fn chaloenpik_body_element(
     ensures { Wrote (element t (body (optional null s.now))) state.old [] out.old result state.new out.new }
 {
     let st = numbers::load(state);
-    let step = call::body_element(out, st, t, null, s);
+    let step = call::body_element(out, st, t, text_of(null, s));
     numbers::keep(state, step)
 }
 
@@ -172,12 +182,17 @@ pub extern "C" fn chaloenpik_begin_reply(
         version,
         flags,
         status,
-        status_null: statusnull,
         app_status: appstatus,
-        app_null: appnull,
         round_trip: roundtrip,
     };
-    let step = reply::begin_reply(out, h, client, statustext, apptext, exception);
+    let step = reply::begin_reply(
+        out,
+        h,
+        client,
+        text_of(statusnull, statustext),
+        text_of(appnull, apptext),
+        exception,
+    );
     numbers::keep(state, step)
 }
 
@@ -242,7 +257,7 @@ pub extern "C" fn chaloenpik_body_cell(
     ensures { Wrote (cell t (body (optional null s.now))) state.old types.now out.old result state.new out.new }
 {
     let st = numbers::load(state);
-    let step = rows::body_cell(out, st, types, t, null, s);
+    let step = rows::body_cell(out, st, types, t, text_of(null, s));
     numbers::keep(state, step)
 }
 

@@ -1,5 +1,5 @@
 -- `areas::pass_vertices` meets its contract: vertices are floats side by side, so where they fit they are passed by their size. Assumes nothing.
-use Rattle.std.proofs.Common.{◌≡◌, ◌+◌, ◌-◌, ◌*◌, ◌<◌, ◌≤◌, length, sym, ap, arith}
+use Rattle.std.proofs.Common.{◌≡◌, ◌+◌, ◌*◌, ◌<◌, ◌≤◌, length, sym, ap, arith}
 use Rattle.scan.specs.Shown.{shown_next}
 use Rattle.areas.proofs.Runs.{vertices_run}
 use Rattle.areas.proofs.pass_vertices.Goals as goal

@@ -1,10 +1,11 @@
 -- `areas::read_head` meets its contract: the three bytes, the count by its own tests, then the third byte by the count. Assumes nothing.
 use Rattle.std.proofs.Common.{◌<◌, ◌≤◌, sym, ap, ◌∙◌}
 use borrow.Author.Tests.{not-true, not-false}
+use Rattle.format.proofs.Results.{handed_on}
 use Rattle.format.specs.Number.{num_at}
 use Rattle.format.specs.Geography.{at_least}
-use Rattle.scan.specs.Shown.{shown_number, number_no}
-use Rattle.scan.proofs.Answers.{number_go, number_stop}
+use Rattle.scan.specs.Shown.{shown}
+use Rattle.scan.proofs.Answers.{shown_go, shown_stop}
 use Rattle.scan.proofs.Params.{byte_is}
 use Rattle.areas.specs.Passes.{shown_head}
 use Rattle.areas.proofs.Heads.{any_field, head_short, head_bad, head_stop, head_other, head_fine}
@@ -21,19 +22,18 @@ returns-then-holes-gt1 c =
     let bad : 1 < num_at 1 a.b.now 2 = rw (byte_is a.b.now 2) c.if-holes-gt1.true in
     sym (ap shown_head (head_bad a.b.now c.if-b-lt3.false bad))
 
-pub returns-in_default : goal.returns-in_default
-returns-in_default c =
+pub returns-in_err-n : goal.returns-in_err-n
+returns-in_err-n c =
     let a = c.args in
     let fine : num_at 1 a.b.now 2 ≤ 1 = rw (byte_is a.b.now 2) c.if-holes-gt1.false in
-    let told = c.in_default.is in
-    let stop = number_stop ((at_least 1 63).read a.b.now 3) (c.read_count-count.ensures ∙ ap shown_number (any_field 1 63 a.b.now 3)) told (sym (ap number_no told)) in
-    told ∙ sym (ap shown_head (head_stop a.b.now c.if-b-lt3.false fine stop))
+    let stop = shown_stop ((at_least 1 63).read a.b.now 3) (c.read_count.ensures ∙ ap shown (any_field 1 63 a.b.now 3)) c.in_err-n.was in
+    handed_on c.from_residual.ensures ∙ sym (ap shown_head (head_stop a.b.now c.if-b-lt3.false fine stop))
 
 pub returns-then-not-says_holes : goal.returns-then-not-says_holes
 returns-then-not-says_holes c =
     let a = c.args in
     let fine : num_at 1 a.b.now 2 ≤ 1 = rw (byte_is a.b.now 2) c.if-holes-gt1.false in
-    let go = number_go ((at_least 1 63).read a.b.now 3) (c.read_count-count.ensures ∙ ap shown_number (any_field 1 63 a.b.now 3)) c.in-Is.is in
+    let go = shown_go ((at_least 1 63).read a.b.now 3) (c.read_count.ensures ∙ ap shown (any_field 1 63 a.b.now 3)) c.in_ok-n.was in
     let other = sym c.says_holes.ensures ∙ not-true _ c.if-not-says_holes.true-raw in
     sym (ap shown_head (head_other a.b.now c.if-b-lt3.false fine go (rw (byte_is a.b.now 2) other)))
 
@@ -41,6 +41,6 @@ pub returns : goal.returns
 returns c =
     let a = c.args in
     let fine : num_at 1 a.b.now 2 ≤ 1 = rw (byte_is a.b.now 2) c.if-holes-gt1.false in
-    let go = number_go ((at_least 1 63).read a.b.now 3) (c.read_count-count.ensures ∙ ap shown_number (any_field 1 63 a.b.now 3)) c.in-Is.is in
+    let go = shown_go ((at_least 1 63).read a.b.now 3) (c.read_count.ensures ∙ ap shown (any_field 1 63 a.b.now 3)) c.in_ok-n.was in
     let same = sym c.says_holes.ensures ∙ not-false _ c.if-not-says_holes.false-raw in
     sym (ap shown_head (head_fine a.b.now c.if-b-lt3.false fine go (rw (byte_is a.b.now 2) same)))

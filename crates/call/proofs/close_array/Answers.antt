@@ -15,22 +15,13 @@ use Rattle.steps.specs.Steps.{close_array}
 use Rattle.call.proofs.Answers.{close_answer}
 use Rattle.call.proofs.close_array.Goals as goal
 
-pub at_array-permitted-requires : goal.at_array-permitted-requires
-at_array-permitted-requires c = tt
-
-pub judge-a-requires : goal.judge-a-requires
-judge-a-requires c = tt
-
 pub returns-in_default : goal.returns-in_default
-returns-in_default c = step_refused (close_array) c.args.st c.args.out.now [] (close_answer (seen c.args.st []) (length c.args.out.now) c.at_array-permitted.ensures c.judge-a.ensures) c.in_default.is
+returns-in_default c = step_refused (close_array) c.args.st c.args.out.now [] (close_answer (seen c.args.st []) (length c.args.out.now) c.at_array-permitted.ensures c.judge-answer.ensures) c.in_default.is
 
 pub number_at-requires : goal.number_at-requires
 number_at-requires c =
-    let o = within (seen c.args.st []) (length c.args.out.now) (at_stage_lem Array (seen c.args.st []) (length c.args.out.now) (step_accepted (close_array) c.args.st c.args.out.now [] (close_answer (seen c.args.st []) (length c.args.out.now) c.at_array-permitted.ensures c.judge-a.ensures) c.in-Is.is).fine.permitted) in
+    let o = within (seen c.args.st []) (length c.args.out.now) (at_stage_lem Array (seen c.args.st []) (length c.args.out.now) (step_accepted (close_array) c.args.st c.args.out.now [] (close_answer (seen c.args.st []) (length c.args.out.now) c.at_array-permitted.ensures c.judge-answer.ensures) c.in-Ok.is).fine.permitted) in
     omega (arith, o.inside, o.own.fits)
 
-pub between-next-requires : goal.between-next-requires
-between-next-requires c = tt
-
 pub returns : goal.returns
-returns c = step_taken (close_array) c.args.st c.args.out.now [] (close_answer (seen c.args.st []) (length c.args.out.now) c.at_array-permitted.ensures c.judge-a.ensures) c.in-Is.is c.between-next.ensures (c.number_at.ensures.1 ∙ sym (ap (λ (b : List ℕ). put b c.args.st.inner_at (num_bytes 2 c.args.st.inner_count)) (put_nothing c.args.out.now c.args.st.position)))
+returns c = step_taken (close_array) c.args.st c.args.out.now [] (close_answer (seen c.args.st []) (length c.args.out.now) c.at_array-permitted.ensures c.judge-answer.ensures) c.in-Ok.is c.between-state.ensures (c.number_at.ensures.1 ∙ sym (ap (λ (b : List ℕ). put b c.args.st.inner_at (num_bytes 2 c.args.st.inner_count)) (put_nothing c.args.out.now c.args.st.position)))

@@ -1,9 +1,11 @@
 -- `cards::open_at` meets its contract: the table's refusal, no such column, or whether that one fits. Assumes nothing.
+use Rattle.std.specs.Prelude.{Ok}
+use Rattle.format.proofs.Results.{handed_on}
 use mathlib.Core.Path.{◌∙◌, sym, ap}
 use mathlib.Core.Bool.{Bool}
 use native.Mathlib.Omega.{arith}
 use Rattle.format.specs.declared.Fault.TheVariants.{Stale}
-use Rattle.format.specs.Result.{ok, no, pick}
+use Rattle.format.specs.Result.{ok, no, pick, told}
 use Rattle.format.specs.Message.{response_layout}
 use Rattle.places.specs.Places.{tables_of, table_at}
 use Rattle.query.specs.Answers.{told_placed, column_of, perhaps}
@@ -17,29 +19,29 @@ pub is_alike-requires : goal.is_alike-requires
 is_alike-requires c =
     let a = c.args in
     let all = bytes_all a.m.now (λ k. omega (arith, c.type_inv.m k)) in
-    inside a.timed a.m.now a.t a.position a.wire_type a.name.now all (sym (ap told_placed c.in-Is.is) ∙ c.find_placed-placed.ensures)
+    inside a.timed a.m.now a.t a.position a.wire_type a.name.now all (sym (ap told_placed (c.in_ok-column.was ∙ ap Ok c.in-Some.is)) ∙ c.find_placed.ensures)
 
-pub returns-in-No : goal.returns-in-No
-returns-in-No c =
+pub returns-in_err-column : goal.returns-in_err-column
+returns-in_err-column c =
     let a = c.args in
-    not_found (response_layout a.timed) tables_of (table_at a.timed) a.m.now a.t (λ at b. perhaps (column_of at b a.position)) (λ at b. opened b (a_card a.position a.wire_type a.name.now))
-    (sym (ap told_placed c.in-No.is) ∙ c.find_placed-placed.ensures)
+    ap told (handed_on c.from_residual.ensures) ∙ not_found (response_layout a.timed) tables_of (table_at a.timed) a.m.now a.t (λ at b. perhaps (column_of at b a.position)) (λ at b. opened b (a_card a.position a.wire_type a.name.now))
+    (sym (ap told_placed c.in_err-column.was) ∙ c.find_placed.ensures)
 
-pub returns-in-Past : goal.returns-in-Past
-returns-in-Past c =
+pub returns-in_default : goal.returns-in_default
+returns-in_default c =
     let a = c.args in
-    past_stale a.timed a.m.now a.t a.position a.wire_type a.name.now (sym (ap told_placed c.in-Past.is) ∙ c.find_placed-placed.ensures)
+    past_stale a.timed a.m.now a.t a.position a.wire_type a.name.now (sym (ap told_placed (c.in_ok-column.was ∙ ap Ok c.in_default.is)) ∙ c.find_placed.ensures)
 
 pub returns-then-is_alike : goal.returns-then-is_alike
 returns-then-is_alike c =
     let a = c.args in
     let all = bytes_all a.m.now (λ k. omega (arith, c.type_inv.m k)) in
     sym (ap (λ (z : Bool). pick z (ok a.position) (no Stale 0)) (sym c.is_alike.ensures ∙ c.if-is_alike.true))
-    ∙ opens_by a.timed a.m.now a.t a.position a.wire_type a.name.now all (sym (ap told_placed c.in-Is.is) ∙ c.find_placed-placed.ensures)
+    ∙ opens_by a.timed a.m.now a.t a.position a.wire_type a.name.now all (sym (ap told_placed (c.in_ok-column.was ∙ ap Ok c.in-Some.is)) ∙ c.find_placed.ensures)
 
 pub returns-else-is_alike : goal.returns-else-is_alike
 returns-else-is_alike c =
     let a = c.args in
     let all = bytes_all a.m.now (λ k. omega (arith, c.type_inv.m k)) in
     sym (ap (λ (z : Bool). pick z (ok a.position) (no Stale 0)) (sym c.is_alike.ensures ∙ c.if-is_alike.false))
-    ∙ opens_by a.timed a.m.now a.t a.position a.wire_type a.name.now all (sym (ap told_placed c.in-Is.is) ∙ c.find_placed-placed.ensures)
+    ∙ opens_by a.timed a.m.now a.t a.position a.wire_type a.name.now all (sym (ap told_placed (c.in_ok-column.was ∙ ap Ok c.in-Some.is)) ∙ c.find_placed.ensures)

@@ -8,19 +8,19 @@ use Rattle.cards.proofs.open_card.Goals as goal
 pub overflow_add-end : goal.overflow_add-end
 overflow_add-end c =
     let a = c.args in
-    omega (arith, c.name_at-start.ensures, name_fits a.m.now a.t a.card.now opened (form_is _ c.read_card-form.ensures c.in-Is.is))
+    omega (arith, c.name_at-start.ensures, name_fits a.m.now a.t a.card.now opened (form_is _ c.read_card.ensures c.in-Ok.is))
 
 pub slice_bounds-open_at-end : goal.slice_bounds-open_at-end
 slice_bounds-open_at-end c =
     let a = c.args in
-    omega (arith, c.name_at-start.ensures, name_fits a.m.now a.t a.card.now opened (form_is _ c.read_card-form.ensures c.in-Is.is))
+    omega (arith, c.name_at-start.ensures, name_fits a.m.now a.t a.card.now opened (form_is _ c.read_card.ensures c.in-Ok.is))
 
-pub returns-in-No : goal.returns-in-No
-returns-in-No c =
+pub returns-in-Err : goal.returns-in-Err
+returns-in-Err c =
     let a = c.args in
-    unformed a.m.now a.t a.card.now opened (form_no _ c.read_card-form.ensures c.in-No.is) c.after_message.ensures
+    unformed a.m.now a.t a.card.now opened (form_no _ c.read_card.ensures c.in-Err.is) c.after_message.ensures
 
-pub returns-in-Is : goal.returns-in-Is
-returns-in-Is c =
+pub returns-in-Ok : goal.returns-in-Ok
+returns-in-Ok c =
     let a = c.args in
-    c.open_at.ensures ∙ asks_as a.m.now a.t a.card.now opened (form_is _ c.read_card-form.ensures c.in-Is.is) _ c.name_at-start.ensures
+    c.open_at.ensures ∙ asks_as a.m.now a.t a.card.now opened (form_is _ c.read_card.ensures c.in-Ok.is) _ c.name_at-start.ensures

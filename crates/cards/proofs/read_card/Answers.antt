@@ -1,4 +1,5 @@
 -- `cards::read_card` meets its contract: the kind decides, and then the card is read as one of its kind. Assumes nothing.
+use Rattle.std.specs.Prelude.{Err}
 use mathlib.Core.Path.{◌∙◌, sym, ap}
 use Rattle.cards.specs.Shown.{shown_form}
 use Rattle.cards.proofs.Forms.{is_near, is_far, no_kind}
@@ -19,4 +20,4 @@ pub returns : goal.returns
 returns c =
     let a = c.args in
     let first = c.padded-first.ensures in
-    c.wrong.ensures ∙ sym (ap shown_form (no_kind a.card.now (λ e. c.if-first.false (first ∙ e)) (λ e. c.if-first-2.false (first ∙ e))))
+    ap Err c.wrong.ensures ∙ sym (ap shown_form (no_kind a.card.now (λ e. c.if-first.false (first ∙ e)) (λ e. c.if-first-2.false (first ∙ e))))

@@ -1,23 +1,13 @@
 -- `cards::read_sized` meets its contract: its size, its position and the rest are asked in the definition's order. Assumes nothing.
+use Rattle.std.specs.Prelude.{Err}
 use mathlib.Core.Path.{◌∙◌, sym, ap, ap₂}
 use Prim.Native.Nat.{ℕ}
 use mathlib.Core.List.{List}
 use borrow.Author.Tests.{not-true, not-false}
-use Rattle.format.specs.declared.Fault.TheVariants.{CardForm}
-use Rattle.scan.specs.Shown.{refusal}
-use Rattle.cards.specs.declared.Form.{Form}
 use Rattle.cards.specs.Card.{holds, card_rest, type_place}
 use Rattle.cards.specs.Shown.{shown_form}
-use Rattle.cards.proofs.Forms.{other_size, not_held, is_held, left_over, position_read}
+use Rattle.cards.proofs.Forms.{not_held, is_held, left_over, position_read}
 use Rattle.cards.proofs.read_sized.Goals as goal
-
-pub returns-then-card-size : goal.returns-then-card-size
-returns-then-card-size c =
-    let a = c.args in
-    let size = c.size_of-size.ensures in
-    c.wrong.ensures
-    ∙ ap (λ (p : ℕ). Form.No (refusal CardForm p)) (c.smaller.ensures ∙ rw size)
-    ∙ sym (ap shown_form (other_size a.card.now a.kind (λ e. c.if-card-size.true (e ∙ sym size))))
 
 pub returns-then-not-is_held : goal.returns-then-not-is_held
 returns-then-not-is_held c =
@@ -25,7 +15,7 @@ returns-then-not-is_held c =
     let whole = c.if-card-size.false ∙ c.size_of-size.ensures in
     let position = position_read a.kind a.card.now _ c.requires whole c.number_at-position.ensures in
     let held = ap (holds a.kind) (sym position) ∙ sym c.is_held.ensures ∙ not-true _ c.if-not-is_held.true-raw in
-    c.wrong-then-not-is_held.ensures ∙ sym (ap shown_form (not_held a.card.now a.kind whole held))
+    ap Err c.wrong-then-not-is_held.ensures ∙ sym (ap shown_form (not_held a.card.now a.kind whole held))
 
 pub returns : goal.returns
 returns c =

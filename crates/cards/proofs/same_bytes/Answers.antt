@@ -1,4 +1,4 @@
--- `cards::same_bytes` meets its contract: the last bytes, all but the first `rest`, are equal. Assumes nothing.
+-- `cards::same_bytes` meets its contract: the bytes from one on are equal. Assumes nothing.
 use mathlib.Core.Path.{◌≡◌}
 use Prim.Native.Nat.{◌-◌}
 use native.Mathlib.Omega.{arith}
@@ -9,19 +9,19 @@ use Rattle.cards.proofs.same_bytes.Goals as goal
 pub returns-then-a-b : goal.returns-then-a-b
 returns-then-a-b c = other_length _ _ c.if-a-b.true
 
-pub loop-rest-init : goal.loop-rest-init
-loop-rest-init c = (omega arith, none_seen _ c.args.b.now _ (omega arith))
+pub loop-i-init : goal.loop-i-init
+loop-i-init c = none_seen _ c.args.b.now _ (omega arith)
 
-pub returns-then-a-last : goal.returns-then-a-last
-returns-then-a-last c = other_byte _ _ (c.loop-rest.rest - 1) c.if-a-last.true
+pub returns-then-a-i : goal.returns-then-a-i
+returns-then-a-i c = other_byte _ _ (c.loop-i.i - 1) c.if-a-i.true
 
-pub loop-rest-preserved : goal.loop-rest-preserved
-loop-rest-preserved c =
-    let l = c.loop-rest in
-    (omega arith, one_more _ c.args.b.now l.rest l.invariant.1 c.if-a-last.false)
+pub loop-i-preserved : goal.loop-i-preserved
+loop-i-preserved c =
+    let l = c.loop-i in
+    one_more _ c.args.b.now l.i l.invariant c.if-a-i.false
 
 pub returns : goal.returns
 returns c =
-    let l = c.loop-rest in
-    let done : l.rest ≡ 0 = omega arith in
-    all_bytes _ _ c.if-a-b.false (rw done at l.invariant.1)
+    let l = c.loop-i in
+    let done : l.i ≡ 0 = omega arith in
+    all_bytes _ _ c.if-a-b.false (rw done at l.invariant)

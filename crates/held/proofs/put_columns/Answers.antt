@@ -1,3 +1,4 @@
+-- `held::put_columns` meets its contract: the columns that are left put what all put.
 use Rattle.std.proofs.Common.{◌≡◌, sym, ap, ◌∙◌, subst, ℕ, ◌+◌, ◌<◌, List, length, get_or, drop, add-one, arith}
 use Rattle.std.proofs.Math.Seq.{drop-cons, drop-length}
 use Rattle.columns.specs.declared.Column.{Column}
@@ -27,36 +28,34 @@ no_more_left names p es = rw (drop-length es)
 same_page : (names : List ℕ) (w : Walk) (c : Column) (zs ts : List ℕ) (r : Walk) (zs' ts' : List ℕ) → (r ≡ moved names w c) × (zs' ≡ column_out names w c zs) × (ts' ≡ column_types w c ts) → page zs' ts' r ≡ put_one names (page zs ts w) c
 same_page names w c zs ts r zs' ts' e = ap (λ (x : Walk). page zs' ts' x) e.0 ∙ ap (λ (x : List ℕ). page x ts' (moved names w c)) e.1 ∙ ap (λ (x : List ℕ). page (column_out names w c zs) x (moved names w c)) e.2
 
-pub loop-i-init : goal.loop-i-init
-loop-i-init c = record {
-  upto = omega arith;
+pub loop-column-init : goal.loop-column-init
+loop-column-init c = record {
   fits = subst (λ (w : Walk). FitsAll c.args.names.now (length c.args.out.now) w c.args.cols.now) (sym c.walk_in-w.ensures) c.requires;
   so_far = ap (λ (w : Walk). put_all c.args.names.now (page c.args.out.now c.args.types.now w) c.args.cols.now) c.walk_in-w.ensures;
 }
 
 pub put_column-w-requires : goal.put_column-w-requires
-put_column-w-requires c = (fits_now c.args.names.now (length c.loop-i.out) c.loop-i.w c.args.cols.now c.loop-i.i c.loop-i-test.true c.loop-i.invariant.fits).0
+put_column-w-requires c = (fits_now c.args.names.now (length c.loop-column.out) c.loop-column.w c.args.cols.now c.loop-column.column-index c.loop-column-test.true c.loop-column.invariant.fits).0
 
-pub loop-i-preserved : goal.loop-i-preserved
-loop-i-preserved c =
+pub loop-column-preserved : goal.loop-column-preserved
+loop-column-preserved c =
     let names = c.args.names.now in let cols = c.args.cols.now in
-    let i = c.loop-i.i in let w = c.loop-i.w in
+    let i = c.loop-column.column-index in let w = c.loop-column.w in
     let e = get_or cols i no_entry in
     let rest = drop (i + 1) cols in
-    let now = fits_now names (length c.loop-i.out) w cols i c.loop-i-test.true c.loop-i.invariant.fits in
-    let long : length c.loop-i.out ≡ length c.put_column-w.new.out = omega arith in
+    let now = fits_now names (length c.loop-column.out) w cols i c.loop-column-test.true c.loop-column.invariant.fits in
+    let long : length c.loop-column.out ≡ length c.put_column-w.new.out = omega arith in
     record {
-      upto = omega arith;
-      fits = subst (λ (n : ℕ). FitsAll names n c.put_column-w.result rest) long (subst (λ (x : Walk). FitsAll names (length c.loop-i.out) x rest) (sym c.put_column-w.ensures.0) now.1);
-      so_far = ap (λ (p : Page). put_all names p rest) (same_page names w e c.loop-i.out c.loop-i.types c.put_column-w.result c.put_column-w.new.out c.put_column-w.new.types c.put_column-w.ensures)
-          ∙ one_more names (page c.loop-i.out c.loop-i.types w) cols i c.loop-i-test.true ∙ c.loop-i.invariant.so_far;
+      fits = subst (λ (n : ℕ). FitsAll names n c.put_column-w.result rest) long (subst (λ (x : Walk). FitsAll names (length c.loop-column.out) x rest) (sym c.put_column-w.ensures.0) now.1);
+      so_far = ap (λ (p : Page). put_all names p rest) (same_page names w e c.loop-column.out c.loop-column.types c.put_column-w.result c.put_column-w.new.out c.put_column-w.new.types c.put_column-w.ensures)
+          ∙ one_more names (page c.loop-column.out c.loop-column.types w) cols i c.loop-column-test.true ∙ c.loop-column.invariant.so_far;
     }
 
 pub returns : goal.returns
 returns c =
     let names = c.args.names.now in let cols = c.args.cols.now in
-    let p = page c.loop-i.out c.loop-i.types c.loop-i.w in
-    let n : length cols ≡ c.loop-i.i = omega arith in
+    let p = page c.loop-column.out c.loop-column.types c.loop-column.w in
+    let n : length cols ≡ c.loop-column.column-index = omega arith in
     let e : p ≡ put_all names (page c.args.out.now c.args.types.now c.args.head.walk) cols
-    = sym (no_more_left names p cols) ∙ ap (λ (i : ℕ). put_all names p (drop i cols)) n ∙ c.loop-i.invariant.so_far in
+    = sym (no_more_left names p cols) ∙ ap (λ (i : ℕ). put_all names p (drop i cols)) n ∙ c.loop-column.invariant.so_far in
     (c.step_in.ensures, ap (λ (x : Page). x.out) e, ap (λ (x : Page). x.types) e)

@@ -1,4 +1,4 @@
-use Prim.Native.Nat.{◌-◌}
+-- `inside::walk_rings`: what is left, after what was met, is the whole.
 use Rattle.format.specs.Message.{first}
 use Rattle.format.specs.Geography.{ring}
 use Rattle.tally.specs.Walks.{index_of}
@@ -7,6 +7,3 @@ use Rattle.inside.proofs.walk_rings.Given as goal
 
 abbrev pub invariant-loop-i : goal.invariant-loop-i
 invariant-loop-i l = Round first (λ m. ring) l.s (index_of l.ix) l.n l.initial.tour l.initial.out l.i l.tour l.out
-
-abbrev pub decreases-loop-i : goal.decreases-loop-i
-decreases-loop-i l = l.n - l.i

@@ -1,4 +1,4 @@
-use Prim.Native.Nat.{◌-◌}
+-- `inside::walk_vertices`: what is left, after what was met, is the whole.
 use Rattle.format.specs.Message.{second}
 use Rattle.format.specs.Geography.{vertex}
 use Rattle.tally.specs.Walks.{index_of}
@@ -7,6 +7,3 @@ use Rattle.inside.proofs.walk_vertices.Given as goal
 
 abbrev pub invariant-loop-j : goal.invariant-loop-j
 invariant-loop-j l = Round second (λ m. vertex) l.s (index_of l.ix) l.n l.initial.tour l.initial.out l.j l.tour l.out
-
-abbrev pub decreases-loop-j : goal.decreases-loop-j
-decreases-loop-j l = l.n - l.j

@@ -1,10 +1,7 @@
 -- Each turn puts one number more where the last one ended.
-use Rattle.std.proofs.Common.{◌≡◌, ◌≤◌, ◌-◌, ◌*◌, length, take}
+use Rattle.std.proofs.Common.{◌≡◌, ◌≤◌, ◌*◌, length, take}
 use Rattle.listing.specs.Text.{words_of}
 use Rattle.listing.proofs.put_line.Given as goal
 
 abbrev pub invariant-loop-i : goal.invariant-loop-i
-invariant-loop-i l = (l.i ≤ 6) × (l.end ≤ 21 * l.i) × (take l.end l.line ≡ words_of l.numbers l.from l.i) × (length l.line ≡ length l.initial.line)
-
-abbrev pub decreases-loop-i : goal.decreases-loop-i
-decreases-loop-i l = 6 - l.i
+invariant-loop-i l = (l.end ≤ 21 * l.i) × (take l.end l.line ≡ words_of l.numbers 0 l.i) × (length l.line ≡ length l.initial.line)

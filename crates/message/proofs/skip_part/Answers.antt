@@ -3,22 +3,22 @@ use native.Mathlib.Omega.{arith}
 use Rattle.message.proofs.Parts.{rows_go, rows_stop}
 use Rattle.message.proofs.skip_part.Goals as goal
 
-pub overflow_add-place : goal.overflow_add-place
-overflow_add-place c =
+pub overflow_add-result-in-Err : goal.overflow_add-result-in-Err
+overflow_add-result-in-Err c =
     let a = c.args in
-    omega (arith, (rows_stop a.types.now a.n a.m.now (λ k. omega (arith, c.type_inv.m k)) a.rows a.«end» c.requires.0 c.requires.1 c.skip_rows-step.ensures c.in_default.is c.next_refusal-r.ensures).1)
+    omega (arith, (rows_stop a.types.now a.n a.m.now (λ k. omega (arith, c.type_inv.m k)) a.rows a.«end» c.requires.0 c.requires.1 c.skip_rows.ensures c.in-Err.is).1)
 
-pub returns-in_default : goal.returns-in_default
-returns-in_default c =
+pub returns-in-Err : goal.returns-in-Err
+returns-in-Err c =
     let a = c.args in
-    (rows_stop a.types.now a.n a.m.now (λ k. omega (arith, c.type_inv.m k)) a.rows a.«end» c.requires.0 c.requires.1 c.skip_rows-step.ensures c.in_default.is c.next_refusal-r.ensures).0
+    (rows_stop a.types.now a.n a.m.now (λ k. omega (arith, c.type_inv.m k)) a.rows a.«end» c.requires.0 c.requires.1 c.skip_rows.ensures c.in-Err.is).0
 
-pub overflow_add-past : goal.overflow_add-past
-overflow_add-past c =
+pub overflow_add-result : goal.overflow_add-result
+overflow_add-result c =
     let a = c.args in
-    omega (arith, (rows_go a.types.now a.n a.m.now (λ k. omega (arith, c.type_inv.m k)) a.rows a.«end» c.requires.0 c.requires.1 c.skip_rows-step.ensures c.in-At.is).1)
+    omega (arith, (rows_go a.types.now a.n a.m.now (λ k. omega (arith, c.type_inv.m k)) a.rows a.«end» c.requires.0 c.requires.1 c.skip_rows.ensures c.in-Ok.is).1)
 
-pub returns : goal.returns
-returns c =
+pub returns-in-Ok : goal.returns-in-Ok
+returns-in-Ok c =
     let a = c.args in
-    (rows_go a.types.now a.n a.m.now (λ k. omega (arith, c.type_inv.m k)) a.rows a.«end» c.requires.0 c.requires.1 c.skip_rows-step.ensures c.in-At.is).0
+    (rows_go a.types.now a.n a.m.now (λ k. omega (arith, c.type_inv.m k)) a.rows a.«end» c.requires.0 c.requires.1 c.skip_rows.ensures c.in-Ok.is).0

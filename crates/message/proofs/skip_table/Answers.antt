@@ -1,44 +1,44 @@
 -- `message::skip_table` meets its contract: a room, and the metadata and rows in it. Assumes nothing.
+use Rattle.format.proofs.Results.{handed_on}
+use Rattle.std.specs.Prelude.{Ok}
 use mathlib.Core.Path.{sym, ap, ◌∙◌}
-use mathlib.Core.Bool.{false}
 use Rattle.format.specs.Message.{unlimited}
-use Rattle.scan.specs.declared.Next.{Next}
 use Rattle.scan.specs.Shown.{shown_next}
-use Rattle.scan.proofs.Answers.{next_go, next_stop}
-use Rattle.scan.proofs.Counted.{here, refuses, room_stop, room_fault, room_left, room_full}
+use Rattle.scan.proofs.Answers.{span_stop, next_go, next_stop}
+use Rattle.scan.proofs.Counted.{span_here, room_stop, room_fault, room_left, room_full}
 use Rattle.message.specs.Inner.{contents}
 use Rattle.message.proofs.Rooms.{table_room}
 use Rattle.message.proofs.skip_table.Goals as goal
 
-pub returns-in_default : goal.returns-in_default
-returns-in_default c =
+pub returns-in_err-start : goal.returns-in_err-start
+returns-in_err-start c =
     let a = c.args in
-    let stop = refuses unlimited a.m.now a.at c.read_room-room.ensures c.in_default.not-Is c.body_refusal.ensures in
-    sym (ap shown_next (table_room _ _ ∙ room_stop unlimited 41 contents a.m.now a.at stop))
+    let stop = span_stop a.at _ c.read_room.ensures c.in_err-start.was in
+    handed_on c.from_residual.ensures ∙ sym (ap shown_next (table_room _ _ ∙ room_stop unlimited 41 contents a.m.now a.at stop))
 
-pub skip_contents-step-requires : goal.skip_contents-step-requires
-skip_contents-step-requires c =
+pub skip_contents-requires : goal.skip_contents-requires
+skip_contents-requires c =
     let a = c.args in
-    let h = here false unlimited a.m.now a.at c.read_room-room.ensures c.in-Is.is in
+    let h = span_here unlimited a.m.now a.at c.read_room.ensures c.in_ok-start.was in
     (h.order, h.fit)
 
-pub returns-in_default-step : goal.returns-in_default-step
-returns-in_default-step c =
+pub returns-in_err-past_rows : goal.returns-in_err-past_rows
+returns-in_err-past_rows c =
     let a = c.args in
-    let h = here false unlimited a.m.now a.at c.read_room-room.ensures c.in-Is.is in
-    let stop = next_stop _ c.skip_contents-step.ensures c.in_default-step.is c.next_refusal.ensures in
-    sym (ap shown_next (table_room _ _ ∙ room_fault unlimited 41 contents a.m.now a.at h stop))
+    let h = span_here unlimited a.m.now a.at c.read_room.ensures c.in_ok-start.was in
+    let stop = next_stop _ c.skip_contents.ensures c.in_err-past_rows.was in
+    handed_on c.from_residual-in_err-past_rows.ensures ∙ sym (ap shown_next (table_room _ _ ∙ room_fault unlimited 41 contents a.m.now a.at h stop))
 
 pub returns-then-past_rows-end : goal.returns-then-past_rows-end
 returns-then-past_rows-end c =
     let a = c.args in
-    let h = here false unlimited a.m.now a.at c.read_room-room.ensures c.in-Is.is in
-    let go = next_go _ c.skip_contents-step.ensures c.in-At.is in
+    let h = span_here unlimited a.m.now a.at c.read_room.ensures c.in_ok-start.was in
+    let go = next_go _ c.skip_contents.ensures c.in_ok-past_rows.was in
     sym (ap shown_next (table_room _ _ ∙ room_left unlimited 41 contents a.m.now a.at h go.1 c.if-past_rows-end.true))
 
 pub returns : goal.returns
 returns c =
     let a = c.args in
-    let h = here false unlimited a.m.now a.at c.read_room-room.ensures c.in-Is.is in
-    let go = next_go _ c.skip_contents-step.ensures c.in-At.is in
-    ap Next.At (sym c.if-past_rows-end.false) ∙ sym (ap shown_next (table_room _ _ ∙ room_full unlimited 41 contents a.m.now a.at h go.1 c.if-past_rows-end.false))
+    let h = span_here unlimited a.m.now a.at c.read_room.ensures c.in_ok-start.was in
+    let go = next_go _ c.skip_contents.ensures c.in_ok-past_rows.was in
+    ap Ok (sym c.if-past_rows-end.false) ∙ sym (ap shown_next (table_room _ _ ∙ room_full unlimited 41 contents a.m.now a.at h go.1 c.if-past_rows-end.false))

@@ -8,7 +8,7 @@ use Rattle.numbers.specs.Records.{edition_number}
 use borrow.Author.Rules.{rules}
 use Rattle.numbers.proofs.edition_number.Goals as goal
 
-pub returns-in-Is : goal.returns-in-Is
-returns-in-Is c =
-    let f : SFits w8 c.in-Is.z = search rules in
-    c.wide8.ensures ∙ ap (unsigned 8) (to_z-of_z w8 c.in-Is.z f) ∙ sym (ap edition_number c.in-Is.is)
+pub returns-in-Some : goal.returns-in-Some
+returns-in-Some c =
+    let f : SFits w8 c.in-Some.z = search rules in
+    c.wide8.ensures ∙ ap (unsigned 8) (to_z-of_z w8 c.in-Some.z f) ∙ sym (ap edition_number c.in-Some.is)

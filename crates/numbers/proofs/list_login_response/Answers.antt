@@ -21,5 +21,5 @@ returns c =
     let connection : c.unsigned64.result ≡ unsigned 8 r.connection = c.unsigned64.ensures ∙ ap (unsigned 8) (to_z-of_z w64 r.connection connection-fits) in
     let start_fits : SFits w64 r.start = search rules in
     let start : c.unsigned64-2.result ≡ unsigned 8 r.start = c.unsigned64-2.ensures ∙ ap (unsigned 8) (to_z-of_z w64 r.start start_fits) in
-    let leader = four_bytes r.leader c.number4.ensures.0 in
+    let leader = c.from_be_bytes.ensures ∙ four_bytes r.leader in
     rw (version, result, host, connection, start, leader, c.there.ensures, c.shape_of-build.ensures)

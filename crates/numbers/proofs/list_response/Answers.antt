@@ -4,6 +4,7 @@ use mir.Syntax.{w8, w32}
 use mir.Val.{SFits}
 use mir.ValLaws.{to_z-of_z}
 use Rattle.scan.specs.Signed.{unsigned}
+use Rattle.numbers.proofs.Lent.{eight_bytes}
 use borrow.Author.Rules.{rules}
 use Rattle.numbers.proofs.list_response.Goals as goal
 
@@ -18,4 +19,4 @@ returns c =
     let app : c.wide8-3.result ≡ unsigned 8 r.app_status = c.wide8-3.ensures ∙ ap (unsigned 8) (to_z-of_z w8 r.app_status app-fits) in
     let trip-fits : SFits w32 r.round_trip = search rules in
     let trip : c.wide32.result ≡ unsigned 8 r.round_trip = c.wide32.ensures ∙ ap (unsigned 8) (to_z-of_z w32 r.round_trip trip-fits) in
-    rw (version, status, app, trip, c.number8.ensures, c.shape_of-exception.ensures, c.shape_of-app.ensures, c.shape_of-status.ensures)
+    rw (version, status, app, trip, c.from_be_bytes.ensures ∙ eight_bytes r.client, c.shape_of-exception.ensures, c.shape_of-app.ensures, c.shape_of-status.ensures)

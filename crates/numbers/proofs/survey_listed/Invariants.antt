@@ -1,12 +1,9 @@
-use Prim.Native.Nat.{◌-◌, ◌≤◌}
+-- `numbers::survey_listed`: what was found, with the columns that are left, is what all come to.
 use mathlib.Core.Path.{◌≡◌}
-use lib.ListN.{length, drop}
-use Rattle.columns.specs.Walks.{add_all, Bounded}
+use Rattle.std.specs.Slice.Iter.{chunks_exact_rest, chunks_exact_size}
+use Rattle.columns.specs.Walks.{add_all}
 use Rattle.numbers.specs.Entries.{entries_of}
 use Rattle.numbers.proofs.survey_listed.Given as goal
 
-abbrev pub invariant-loop-i : goal.invariant-loop-i
-invariant-loop-i l = (l.i ≤ length l.list) × Bounded l.found × (add_all l.names l.found (entries_of (drop l.i l.list)) ≡ add_all l.names l.initial.found (entries_of l.list))
-
-abbrev pub decreases-loop-i : goal.decreases-loop-i
-decreases-loop-i l = length l.list - l.i
+abbrev pub invariant-loop-entry : goal.invariant-loop-entry
+invariant-loop-entry l = (chunks_exact_size l.entry-iterator ≡ 3) × (add_all l.names l.found (entries_of (chunks_exact_rest l.entry-iterator)) ≡ add_all l.names l.initial.found (entries_of l.list))

@@ -18,65 +18,19 @@ returns-in_default c =
     let b = c.args.out.now in
     let first = c.args.edition in
     let next = c.args.internal in
-    let e = begin_answer first next (length b) c.judge-a.ensures in
+    let e = begin_answer first next (length b) c.judge-answer.ensures in
     rw c.nothing_open.ensures (step_refused (begin_area first next) (closed 0) b e c.in_default.is)
-
-pub number_at-second-requires : goal.number_at-second-requires
-number_at-second-requires c =
-    let b = c.args.out.now in
-    let first = c.args.edition in
-    let next = c.args.internal in
-    let e = begin_answer first next (length b) c.judge-a.ensures in
-    let a = step_accepted (begin_area first next) (closed 0) b e c.in-Is.is in
-    let h : 0 + area_head ≤ length b = room a (begun_size first next) in
-    omega arith
-
-pub number_at-third-requires : goal.number_at-third-requires
-number_at-third-requires c =
-    let b = c.args.out.now in
-    let first = c.args.edition in
-    let next = c.args.internal in
-    let e = begin_answer first next (length b) c.judge-a.ensures in
-    let a = step_accepted (begin_area first next) (closed 0) b e c.in-Is.is in
-    let h : 0 + area_head ≤ length b = room a (begun_size first next) in
-    let p = puts_number b 0 1 _ (omega arith) c.number_at-second.ensures in
-    omega arith
-
-pub number_at-count-requires : goal.number_at-count-requires
-number_at-count-requires c =
-    let b = c.args.out.now in
-    let first = c.args.edition in
-    let next = c.args.internal in
-    let e = begin_answer first next (length b) c.judge-a.ensures in
-    let a = step_accepted (begin_area first next) (closed 0) b e c.in-Is.is in
-    let h : 0 + area_head ≤ length b = room a (begun_size first next) in
-    let p = puts_number b 0 1 _ (omega arith) c.number_at-second.ensures in
-    let q = puts_number c.number_at-second.new.out c.number_at-second.result 1 _ (omega arith) c.number_at-third.ensures in
-    omega arith
-
-pub number_at-requires : goal.number_at-requires
-number_at-requires c =
-    let b = c.args.out.now in
-    let first = c.args.edition in
-    let next = c.args.internal in
-    let e = begin_answer first next (length b) c.judge-a.ensures in
-    let a = step_accepted (begin_area first next) (closed 0) b e c.in-Is.is in
-    let h : 0 + area_head ≤ length b = room a (begun_size first next) in
-    let p = puts_number b 0 1 _ (omega arith) c.number_at-second.ensures in
-    let q = puts_number c.number_at-second.new.out c.number_at-second.result 1 _ (omega arith) c.number_at-third.ensures in
-    let r = puts_number c.number_at-third.new.out c.number_at-third.result 1 _ (omega arith) c.number_at-count.ensures in
-    omega arith
 
 pub returns : goal.returns
 returns c =
     let b = c.args.out.now in
     let first = c.args.edition in
     let next = c.args.internal in
-    let e = begin_answer first next (length b) c.judge-a.ensures in
-    let a = step_accepted (begin_area first next) (closed 0) b e c.in-Is.is in
+    let e = begin_answer first next (length b) c.judge-answer.ensures in
+    let a = step_accepted (begin_area first next) (closed 0) b e c.in-Ok.is in
     let h : 0 + area_head ≤ length b = room a (begun_size first next) in
     let p = puts_number b 0 1 _ (omega arith) c.number_at-second.ensures in
     let q = puts_number c.number_at-second.new.out c.number_at-second.result 1 _ (omega arith) c.number_at-third.ensures in
     let r = puts_number c.number_at-third.new.out c.number_at-third.result 1 _ (omega arith) c.number_at-count.ensures in
     let t = puts_number c.number_at-count.new.out c.number_at-count.result 4 _ (omega arith) c.number_at.ensures in
-    step_taken (begin_area first next) (closed 0) b e c.in-Is.is c.between_rings.ensures ((puts_both p (puts_both q (puts_both r t))).is ∙ sym (ap (put b 0) (begun_bytes first next)))
+    step_taken (begin_area first next) (closed 0) b e c.in-Ok.is c.between_rings.ensures ((puts_both p (puts_both q (puts_both r t))).is ∙ sym (ap (put b 0) (begun_bytes first next)))

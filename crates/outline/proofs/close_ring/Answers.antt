@@ -14,8 +14,8 @@ use Rattle.outline.proofs.Taken.{step_refused, step_accepted, step_taken, in_rin
 use Rattle.outline.proofs.Answers.{close_answer}
 use Rattle.outline.proofs.close_ring.Goals as goal
 
-pub judge-a-requires : goal.judge-a-requires
-judge-a-requires c =
+pub judge-answer-requires : goal.judge-answer-requires
+judge-answer-requires c =
     let st = c.args.st in
     let b = c.args.out.now in
     ((λ p. (in_ring st (length b) (sym c.at_ring-permitted.ensures ∙ p)).inside), omega arith, omega arith)
@@ -26,19 +26,8 @@ returns-in_default c =
     let b = c.args.out.now in
     let k = c.args.kept.now in
     let l : length k ≡ ring_kept = omega (arith, c.block-1.given) in
-    let e = close_answer st (length b) k l c.at_ring-permitted.ensures c.judge-a.ensures in
+    let e = close_answer st (length b) k l c.at_ring-permitted.ensures c.judge-answer.ensures in
     step_refused (close_ring k) st b e c.in_default.is
-
-pub bytes_at-requires : goal.bytes_at-requires
-bytes_at-requires c =
-    let st = c.args.st in
-    let b = c.args.out.now in
-    let k = c.args.kept.now in
-    let l : length k ≡ ring_kept = omega (arith, c.block-1.given) in
-    let e = close_answer st (length b) k l c.at_ring-permitted.ensures c.judge-a.ensures in
-    let a = step_accepted (close_ring k) st b e c.in-Is.is in
-    let h : st.position + ring_kept ≤ length b = room a l in
-    omega arith
 
 pub overflow_add-st : goal.overflow_add-st
 overflow_add-st c =
@@ -46,8 +35,8 @@ overflow_add-st c =
     let b = c.args.out.now in
     let k = c.args.kept.now in
     let l : length k ≡ ring_kept = omega (arith, c.block-1.given) in
-    let e = close_answer st (length b) k l c.at_ring-permitted.ensures c.judge-a.ensures in
-    let a = step_accepted (close_ring k) st b e c.in-Is.is in
+    let e = close_answer st (length b) k l c.at_ring-permitted.ensures c.judge-answer.ensures in
+    let a = step_accepted (close_ring k) st b e c.in-Ok.is in
     let h : st.position + ring_kept ≤ length b = room a l in
     let o = in_ring st (length b) a.fine.permitted in
     omega (arith, o.begun, o.inside)
@@ -58,8 +47,8 @@ number_at-requires c =
     let b = c.args.out.now in
     let k = c.args.kept.now in
     let l : length k ≡ ring_kept = omega (arith, c.block-1.given) in
-    let e = close_answer st (length b) k l c.at_ring-permitted.ensures c.judge-a.ensures in
-    let a = step_accepted (close_ring k) st b e c.in-Is.is in
+    let e = close_answer st (length b) k l c.at_ring-permitted.ensures c.judge-answer.ensures in
+    let a = step_accepted (close_ring k) st b e c.in-Ok.is in
     let h : st.position + ring_kept ≤ length b = room a l in
     let o = in_ring st (length b) a.fine.permitted in
     let p = puts b st.position (length k) k refl (omega arith) c.bytes_at.ensures in
@@ -71,8 +60,8 @@ returns c =
     let b = c.args.out.now in
     let k = c.args.kept.now in
     let l : length k ≡ ring_kept = omega (arith, c.block-1.given) in
-    let e = close_answer st (length b) k l c.at_ring-permitted.ensures c.judge-a.ensures in
-    let a = step_accepted (close_ring k) st b e c.in-Is.is in
+    let e = close_answer st (length b) k l c.at_ring-permitted.ensures c.judge-answer.ensures in
+    let a = step_accepted (close_ring k) st b e c.in-Ok.is in
     let h : st.position + ring_kept ≤ length b = room a l in
-    step_taken (close_ring k) st b e c.in-Is.is c.between_rings.ensures
+    step_taken (close_ring k) st b e c.in-Ok.is c.between_rings.ensures
     (c.number_at.ensures.1 ∙ ap (λ (x : List ℕ). put x (st.ring_at + 1) (num_bytes 4 st.vertices)) c.bytes_at.ensures.1)

@@ -1,3 +1,4 @@
+-- `put::put_bytes`: after each turn the first i bytes are copied, and the last eight may lie over some of them.
 use Prim.Native.Nat.{◌+◌, ◌-◌, ◌≤◌}
 use mathlib.Core.Path.{◌≡◌}
 use lib.ListN.{length}

@@ -1,10 +1,11 @@
--- `put::text_size` meets its contract: by the flag. Assumes nothing.
+-- `put::text_size` meets its contract: by the text. Assumes nothing.
 use mathlib.Core.Path.{sym}
+use borrow.Author.Rules.{rules}
 use Rattle.put.proofs.Laws.{sized_null, sized_some}
 use Rattle.put.proofs.text_size.Goals as goal
 
-pub returns-then-null : goal.returns-then-null
-returns-then-null c = sym (rw c.if-null.true sized_null)
+pub returns-in-Some : goal.returns-in-Some
+returns-in-Some c = (sym (rw c.in-Some.is (sized_some c.in-Some.s.now)), search rules)
 
-pub returns : goal.returns
-returns c = sym (rw c.if-null.false (sized_some c.args.s.now))
+pub returns-in-None : goal.returns-in-None
+returns-in-None c = (sym (rw c.in-None.is sized_null), search rules)

@@ -1,20 +1,15 @@
 -- `query::find_column` meets its contract: the table's refusal, or the search of its names.
+use Rattle.format.specs.Result.{told}
 use mathlib.Core.Bool.{true}
 use mathlib.Core.Path.{◌∙◌, sym, ap}
 use native.Mathlib.Omega.{arith}
-use Rattle.places.specs.Places.{tables_of, table_at}
-use Rattle.query.specs.Answers.{told_table, layout_of, first_named}
-use Rattle.query.proofs.Opened.{bytes_all, opened, not_found, asked, named}
+use Rattle.query.specs.Answers.{first_named}
+use Rattle.query.proofs.Opened.{bytes_all, opened, asked, named}
 use Rattle.query.proofs.find_column.Goals as goal
 
-pub returns-in-No : goal.returns-in-No
-returns-in-No c =
-    let a = c.args in
-    not_found 4 tables_of (table_at true) a.m.now a.t layout_of (λ at b. first_named a.name.now b.metadata.names 0) (sym (ap told_table c.in-No.is) ∙ c.find_table-answer.ensures)
-
-pub returns-in-Is : goal.returns-in-Is
-returns-in-Is c =
+pub returns : goal.returns
+returns c =
     let a = c.args in
     let all = bytes_all a.m.now (λ k. omega (arith, c.type_inv.m k)) in
-    let o = opened true a.m.now all a.t (sym (ap told_table c.in-Is.is) ∙ c.find_table-answer.ensures) in
+    let o = opened true a.m.now all a.t (sym (ap told c.in_ok-layout.was) ∙ c.find_table.ensures) in
     c.search.ensures o.tab.metadata.names (named o) ∙ sym (asked o (λ at b. first_named a.name.now b.metadata.names 0))

@@ -11,7 +11,7 @@ returns-then-count_at-p c =
     λ v e.
     let a = c.args in
     let all = bytes_all a.m.now (λ k. omega (arith, c.type_inv.m k)) in
-    let client = c.past-client.ensures ∙ ap past_of c.skip_body.ensures in
+    let client = c.unwrap_or-client.ensures ∙ ap past_of c.skip_body.ensures in
     let n = params_is a.m.now all v e client c.after-counted.ensures c.count_at.ensures in
     param_past a.m.now all v e client c.after-counted.ensures a.p (omega arith)
 
@@ -20,6 +20,6 @@ returns c =
     λ v e.
     let a = c.args in
     let all = bytes_all a.m.now (λ k. omega (arith, c.type_inv.m k)) in
-    let client = c.past-client.ensures ∙ ap past_of c.skip_body.ensures in
+    let client = c.unwrap_or-client.ensures ∙ ap past_of c.skip_body.ensures in
     let n = params_is a.m.now all v e client c.after-counted.ensures c.count_at.ensures in
     param_found a.m.now all v e client c.after-counted.ensures a.p c.after-first.result (omega arith) c.after-first.ensures c.pass_params.ensures

@@ -1,19 +1,13 @@
 -- `query::parameter` meets its contract: the refusal of the place, or what stands there.
 use mathlib.Core.Path.{◌∙◌, sym, ap}
 use native.Mathlib.Omega.{arith}
-use Rattle.format.specs.Result.{ok, told_answer}
-use Rattle.places.specs.Places.{params_of, param_at}
+use Rattle.format.specs.Result.{ok, told}
 use Rattle.query.specs.Answers.{given_of}
-use Rattle.query.proofs.Opened.{bytes_all, not_found}
+use Rattle.query.proofs.Opened.{bytes_all}
 use Rattle.query.proofs.Calls.{param_asked}
 use Rattle.query.proofs.parameter.Goals as goal
 
-pub returns-in-No : goal.returns-in-No
-returns-in-No c =
+pub returns : goal.returns
+returns c =
     let a = c.args in
-    not_found 3 params_of param_at a.m.now a.p (λ at q. at) (λ at q. ok (given_of at q.type q.argument)) (sym (ap told_answer c.in-No.is) ∙ c.find_param-place.ensures)
-
-pub returns-in-Is : goal.returns-in-Is
-returns-in-Is c =
-    let a = c.args in
-    param_asked a.m.now (bytes_all a.m.now (λ k. omega (arith, c.type_inv.m k))) a.p (λ at q. ok (given_of at q.type q.argument)) (sym (ap told_answer c.in-Is.is) ∙ c.find_param-place.ensures) c.argument_at.ensures
+    param_asked a.m.now (bytes_all a.m.now (λ k. omega (arith, c.type_inv.m k))) a.p (λ at q. ok (given_of at q.type q.argument)) (sym (ap told c.in_ok-at.was) ∙ c.find_param.ensures) (λ q d. ap ok (c.argument_at.ensures q d))

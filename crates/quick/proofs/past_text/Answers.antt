@@ -9,11 +9,8 @@ returns-then-end-at c = λ there. absurd (omega arith)
 pub returns-then-s-end : goal.returns-then-s-end
 returns-then-s-end c = λ there. absurd (omega arith)
 
-pub returns-in_default : goal.returns-in_default
-returns-in_default c = λ there. absurd (omega arith)
-
-pub returns : goal.returns
-returns c =
+pub returns-in-None : goal.returns-in-None
+returns-in-None c =
     let a = c.args in
     let body = c.past_body-end in
-    text_past a.s.now a.at body.result body.ensures c.if-end-at.false c.torn.ensures c.in-Nothing.is
+    text_past a.s.now a.at body.result body.ensures c.if-end-at.false c.torn.ensures c.in-None.is

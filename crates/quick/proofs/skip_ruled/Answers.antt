@@ -3,6 +3,8 @@ use mathlib.Core.Path.{◌≡◌, sym, ◌∙◌}
 use Prim.Native.Nat.{◌+◌, ◌-◌, ◌<◌}
 use native.Mathlib.Omega.{arith}
 use Rattle.format.specs.Message.{row}
+use Rattle.format.proofs.Results.{handed_on}
+use Rattle.std.proofs.Common.{rules}
 use Rattle.quick.proofs.Rows.{ends_run, ends_done, ends_turn, ends_stop}
 use Rattle.quick.proofs.skip_ruled.Goals as goal
 
@@ -16,32 +18,32 @@ pub returns-then-i-n : goal.returns-then-i-n
 returns-then-i-n c =
     let a = c.args in
     let l = c.loop-i in
-    let run = c.past_rows-run in
-    sym (ends_done (row a.types.now) a.s.now a.n (l.i + run.result.passed) run.result.at (omega (arith, c.if-i-n.true)))
-    ∙ ends_run (row a.types.now) a.s.now a.from a.n l.i l.at run.result run.ensures l.invariant.1
+    let run = c.past_each-run in
+    sym (ends_done (row a.types.bytes.now) a.s.now a.n (l.i + run.result.passed) run.result.at (omega (arith, c.if-i-n.true)))
+    ∙ ends_run (row a.types.bytes.now) a.s.now (λ at next there. search (rules, there)) a.from a.n l.i l.at run.result run.ensures l.invariant.1
 
-pub returns-in_default : goal.returns-in_default
-returns-in_default c =
+pub returns-in_err-at : goal.returns-in_err-at
+returns-in_err-at c =
     let a = c.args in
     let l = c.loop-i in
-    let run = c.past_rows-run in
+    let run = c.past_each-run in
     let more : l.i + run.result.passed < a.n = omega (arith, c.if-i-n.false, run.ensures.0, c.loop-i-test.true) in
-    sym (ends_stop (row a.types.now) a.s.now a.n (l.i + run.result.passed) run.result.at more c.skip_row-step.ensures c.in_default.is c.next_refusal.ensures)
-    ∙ ends_run (row a.types.now) a.s.now a.from a.n l.i l.at run.result run.ensures l.invariant.1
+    handed_on c.from_residual.ensures ∙ sym (ends_stop (row a.types.bytes.now) a.s.now a.n (l.i + run.result.passed) run.result.at more c.skip_row.ensures c.in_err-at.was)
+    ∙ ends_run (row a.types.bytes.now) a.s.now (λ at next there. search (rules, there)) a.from a.n l.i l.at run.result run.ensures l.invariant.1
 
 pub loop-i-preserved : goal.loop-i-preserved
 loop-i-preserved c =
     let a = c.args in
     let l = c.loop-i in
-    let run = c.past_rows-run in
+    let run = c.past_each-run in
     let more : l.i + run.result.passed < a.n = omega (arith, c.if-i-n.false, run.ensures.0, c.loop-i-test.true) in (
       omega (arith, more),
-      ends_turn (row a.types.now) a.s.now a.n (l.i + run.result.passed) run.result.at more c.skip_row-step.ensures c.in-At.is
-          ∙ ends_run (row a.types.now) a.s.now a.from a.n l.i l.at run.result run.ensures l.invariant.1,
+      ends_turn (row a.types.bytes.now) a.s.now a.n (l.i + run.result.passed) run.result.at more c.skip_row.ensures c.in_ok-at.was
+          ∙ ends_run (row a.types.bytes.now) a.s.now (λ at next there. search (rules, there)) a.from a.n l.i l.at run.result run.ensures l.invariant.1,
     )
 
 pub returns : goal.returns
 returns c =
     let a = c.args in
     let l = c.loop-i in
-    sym (ends_done (row a.types.now) a.s.now a.n l.i l.at c.loop-i-test.false) ∙ l.invariant.1
+    sym (ends_done (row a.types.bytes.now) a.s.now a.n l.i l.at c.loop-i-test.false) ∙ l.invariant.1

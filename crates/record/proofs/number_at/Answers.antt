@@ -1,17 +1,16 @@
 -- `record::number_at` meets its contract: the number, if it fits.
-use mathlib.Core.Path.{refl}
 use Prim.Native.Nat.{min}
 use Rattle.format.specs.Format.{number}
-use Rattle.scan.proofs.Answers.{number_go, number_stop}
+use Rattle.scan.proofs.Answers.{shown_go, shown_stop}
 use Rattle.record.proofs.Fields.{number_is, number_none}
 use Rattle.record.proofs.number_at.Goals as goal
 
-pub returns-in-Is : goal.returns-in-Is
-returns-in-Is c =
+pub returns-in-Ok : goal.returns-in-Ok
+returns-in-Ok c =
     let a = c.args in
-    number_is a.s.now a.at (min a.width 8) (number_go ((number (min a.width 8) 0).read a.s.now a.at) c.read_number-number.ensures c.in-Is.is)
+    number_is a.s.now a.at (min a.width 8) (shown_go ((number (min a.width 8) 0).read a.s.now a.at) c.read_number.ensures c.in-Ok.is)
 
-pub returns-in-No : goal.returns-in-No
-returns-in-No c =
+pub returns-in-Err : goal.returns-in-Err
+returns-in-Err c =
     let a = c.args in
-    number_none a.s.now a.at (min a.width 8) (number_stop ((number (min a.width 8) 0).read a.s.now a.at) c.read_number-number.ensures c.in-No.is refl)
+    number_none a.s.now a.at (min a.width 8) (shown_stop ((number (min a.width 8) 0).read a.s.now a.at) c.read_number.ensures c.in-Err.is)

@@ -5,17 +5,6 @@ use Rattle.reply.specs.Opening.{exception_part}
 use Rattle.reply.proofs.Openings.{puts_whole}
 use Rattle.reply.proofs.end_at.Goals as goal
 
-pub let_in_at-second-requires : goal.let_in_at-second-requires
-let_in_at-second-requires c =
-    let p = puts_number c.args.out.now c.args.at 4 c.args.h.round_trip (omega arith) c.number_at-first.ensures in
-    rw c.has_flag.ensures (omega arith)
-
-pub number_at-requires : goal.number_at-requires
-number_at-requires c =
-    let p = puts_number c.args.out.now c.args.at 4 c.args.h.round_trip (omega arith) c.number_at-first.ensures in
-    let q = puts_whole c.number_at-first.new.out c.number_at-first.result (exception_part c.args.h c.args.exception.now) (omega arith) (rw c.has_flag.ensures at c.let_in_at-second.ensures) in
-    omega arith
-
 pub returns : goal.returns
 returns c =
     let p = puts_number c.args.out.now c.args.at 4 c.args.h.round_trip (omega arith) c.number_at-first.ensures in

@@ -8,6 +8,3 @@ returns-in-Is c = sym (ap body_end c.in-Is.is)
 
 pub returns-in-Null : goal.returns-in-Null
 returns-in-Null c = sym (ap body_end c.in-Null.is)
-
-pub returns-in-No : goal.returns-in-No
-returns-in-No c = sym (ap body_end c.in-No.is)

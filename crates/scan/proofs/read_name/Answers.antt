@@ -1,45 +1,40 @@
 -- `scan::read_name` meets its contract: the rule is asked last, of the body alone. Assumes nothing.
-use mathlib.Core.Bool.{false}
+use mathlib.Core.Path.{◌∙◌, ap}
+use Prim.Native.Nat.{ℕ}
 use native.Mathlib.Omega.{arith}
+use Rattle.std.specs.Prelude.{Ok}
 use Rattle.format.specs.Value.{most_bytes, ascii}
+use Rattle.format.proofs.Results.{handed_on}
 use Rattle.text.proofs.Finds.{finds_names}
-use Rattle.scan.proofs.Counted.{here, other, none_found, one_inside, one_found}
+use Rattle.scan.specs.Shown.{shown_span}
+use Rattle.scan.proofs.Counted.{span_here, span_refused, none_found, one_inside, one_found}
 use Rattle.scan.proofs.read_name.Goals as goal
 
-pub returns-in_default : goal.returns-in_default
-returns-in_default c =
+pub returns-in_err-start : goal.returns-in_err-start
+returns-in_err-start c =
     let a = c.args in
-    other false most_bytes a.s.now a.at c.read_body-body.ensures ascii c.in_default.not-Is
+    handed_on c.from_residual.ensures ∙ span_refused most_bytes a.s.now a.at c.read_span.ensures ascii c.in_err-start.was
 
 pub slice_bounds-high_byte-count : goal.slice_bounds-high_byte-count
-slice_bounds-high_byte-count c =
-    let a = c.args in
-    (here false most_bytes a.s.now a.at c.read_body-body.ensures c.in-Is.is).order
+slice_bounds-high_byte-count c = (span_here most_bytes c.args.s.now c.args.at c.read_span.ensures c.in_ok-start.was).order
 
 pub slice_bounds-high_byte-start : goal.slice_bounds-high_byte-start
-slice_bounds-high_byte-start c =
-    let a = c.args in
-    (here false most_bytes a.s.now a.at c.read_body-body.ensures c.in-Is.is).order
+slice_bounds-high_byte-start c = (span_here most_bytes c.args.s.now c.args.at c.read_span.ensures c.in_ok-start.was).order
 
 pub slice_bounds-high_byte-end : goal.slice_bounds-high_byte-end
-slice_bounds-high_byte-end c =
-    let a = c.args in
-    (here false most_bytes a.s.now a.at c.read_body-body.ensures c.in-Is.is).fit
-
-pub returns-in_default-high_byte : goal.returns-in_default-high_byte
-returns-in_default-high_byte c =
-    let a = c.args in
-    let h = here false most_bytes a.s.now a.at c.read_body-body.ensures c.in-Is.is in
-    none_found h finds_names c.high_byte.ensures c.in_default-high_byte.is
+slice_bounds-high_byte-end c = (span_here most_bytes c.args.s.now c.args.at c.read_span.ensures c.in_ok-start.was).fit
 
 pub overflow_add-result : goal.overflow_add-result
 overflow_add-result c =
-    let a = c.args in
-    let h = here false most_bytes a.s.now a.at c.read_body-body.ensures c.in-Is.is in
-    omega (arith, one_inside h finds_names c.high_byte.ensures c.in-At.is, h.fit)
+    let h = span_here most_bytes c.args.s.now c.args.at c.read_span.ensures c.in_ok-start.was in
+    omega (arith, one_inside h finds_names c.high_byte.ensures c.in-Some.is, h.fit)
 
-pub returns : goal.returns
-returns c =
-    let a = c.args in
-    let h = here false most_bytes a.s.now a.at c.read_body-body.ensures c.in-Is.is in
-    one_found h finds_names c.high_byte.ensures c.in-At.is
+pub returns-in-Some : goal.returns-in-Some
+returns-in-Some c =
+    let h = span_here most_bytes c.args.s.now c.args.at c.read_span.ensures c.in_ok-start.was in
+    ap (shown_span c.args.at) (one_found h finds_names c.high_byte.ensures c.in-Some.is)
+
+pub returns-in-None : goal.returns-in-None
+returns-in-None c =
+    let h = span_here most_bytes c.args.s.now c.args.at c.read_span.ensures c.in_ok-start.was in
+    ap (λ (p : ℕ). Ok (p, c.in_ok-start.end)) h.place ∙ ap (shown_span c.args.at) (none_found h finds_names c.high_byte.ensures c.in-None.is)

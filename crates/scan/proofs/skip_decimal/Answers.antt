@@ -1,4 +1,5 @@
 -- `scan::skip_decimal` meets its contract: the halves, then the rule on the signed upper half.
+use Rattle.format.proofs.Results.{handed_on}
 use mathlib.Core.Path.{sym, ap, ◌∙◌}
 use Prim.Native.Nat.{ℕ, ◌+◌, ◌*◌, ◌^◌}
 use mir.Syntax.{w64}
@@ -15,23 +16,23 @@ use Rattle.scan.proofs.Steps.{ruled_go, ruled_bad, ruled_stop}
 use Rattle.scan.proofs.Sixteen.{halves_go, halves_stop}
 use Rattle.scan.proofs.skip_decimal.Goals as goal
 
-pub returns-in_default : goal.returns-in_default
-returns-in_default c =
-    let stop = halves_stop _ c.read_halves-halves.ensures c.in_default.is c.halves_refusal.ensures in
-    sym (ap shown_next (ruled_stop decimal_fine Decimal (number 16 0) _ _ stop))
+pub returns-in_err-high : goal.returns-in_err-high
+returns-in_err-high c =
+    let stop = halves_stop _ c.read_halves.ensures c.in_err-high.was in
+    handed_on c.from_residual.ensures ∙ sym (ap shown_next (ruled_stop decimal_fine Decimal (number 16 0) _ _ stop))
 
 pub returns-then-not-decimal_fine : goal.returns-then-not-decimal_fine
 returns-then-not-decimal_fine c =
     let upper = to_z-of_z w64 _ (record { sfits = c.signed64-upper.type_inv }) ∙ c.signed64-upper.ensures in
-    let bits = ap (unsigned 8) upper ∙ signed_back 8 c.in-Is.high (omega arith) in
-    let go = halves_go _ c.read_halves-halves.ensures c.in-Is.is in
-    let test = sym (ap (λ (n : ℕ). decimal_fine (n * 2 ^ 64 + c.in-Is.lower)) bits) ∙ sym c.decimal_fine.ensures ∙ not-true _ c.if-not-decimal_fine.true-raw in
+    let bits = ap (unsigned 8) upper ∙ signed_back 8 c.in_ok-high.high (omega arith) in
+    let go = halves_go _ c.read_halves.ensures c.in_ok-high.was in
+    let test = sym (ap (λ (n : ℕ). decimal_fine (n * 2 ^ 64 + c.in_ok-high.lower)) bits) ∙ sym c.decimal_fine.ensures ∙ not-true _ c.if-not-decimal_fine.true-raw in
     sym (ap shown_next (ruled_bad decimal_fine Decimal (number 16 0) _ _ go test))
 
 pub returns : goal.returns
 returns c =
     let upper = to_z-of_z w64 _ (record { sfits = c.signed64-upper.type_inv }) ∙ c.signed64-upper.ensures in
-    let bits = ap (unsigned 8) upper ∙ signed_back 8 c.in-Is.high (omega arith) in
-    let go = halves_go _ c.read_halves-halves.ensures c.in-Is.is in
-    let test = sym (ap (λ (n : ℕ). decimal_fine (n * 2 ^ 64 + c.in-Is.lower)) bits) ∙ sym c.decimal_fine.ensures ∙ not-false _ c.if-not-decimal_fine.false-raw in
+    let bits = ap (unsigned 8) upper ∙ signed_back 8 c.in_ok-high.high (omega arith) in
+    let go = halves_go _ c.read_halves.ensures c.in_ok-high.was in
+    let test = sym (ap (λ (n : ℕ). decimal_fine (n * 2 ^ 64 + c.in_ok-high.lower)) bits) ∙ sym c.decimal_fine.ensures ∙ not-false _ c.if-not-decimal_fine.false-raw in
     sym (ap shown_next (ruled_go decimal_fine Decimal (number 16 0) _ _ go test))

@@ -1,29 +1,27 @@
 -- `scan::skip_params` meets its contract: where the readings that are left end is where all end. Assumes nothing.
 use mathlib.Core.Path.{refl, sym, ◌∙◌}
-use borrow.Author.Rules.{rules}
 use Rattle.format.specs.Message.{first, param}
+use Rattle.format.proofs.Results.{handed_on}
 use Rattle.scan.proofs.Loops.{loop_same, loop_done, loop_turn, loop_stop}
 use Rattle.scan.proofs.skip_params.Goals as goal
 
-pub loop-i-init : goal.loop-i-init
-loop-i-init c = (search rules, refl)
+pub loop-init : goal.loop-init
+loop-init c = refl
 
-pub returns-in_default : goal.returns-in_default
-returns-in_default c =
+pub returns-in_err-at : goal.returns-in_err-at
+returns-in_err-at c =
     let a = c.args in
-    let l = c.loop-i in
-    let step = c.skip_param-step.ensures in
-    sym (loop_stop first (λ j. param) a.s.now (a.n) l.i l.at c.loop-i-test.true step c.in_default.is c.next_refusal.ensures) ∙ l.invariant.1 ∙ loop_same first a.s.now param a.n a.from
+    let l = c.loop in
+    handed_on c.from_residual.ensures ∙ sym (loop_stop first (λ j. param) a.s.now a.n l.counter l.at c.loop-test.true c.skip_param.ensures c.in_err-at.was) ∙ l.invariant ∙ loop_same first a.s.now (param) a.n a.from
 
-pub loop-i-preserved : goal.loop-i-preserved
-loop-i-preserved c =
+pub loop-preserved : goal.loop-preserved
+loop-preserved c =
     let a = c.args in
-    let l = c.loop-i in
-    let step = c.skip_param-step.ensures in
-    (search rules, loop_turn first (λ j. param) a.s.now (a.n) l.i l.at c.loop-i-test.true step c.in-At.is ∙ l.invariant.1)
+    let l = c.loop in
+    loop_turn first (λ j. param) a.s.now a.n l.counter l.at c.loop-test.true c.skip_param.ensures c.in_ok-at.was ∙ l.invariant
 
 pub returns : goal.returns
 returns c =
     let a = c.args in
-    let l = c.loop-i in
-    sym (loop_done first (λ j. param) a.s.now (a.n) l.i l.at c.loop-i-test.false) ∙ l.invariant.1 ∙ loop_same first a.s.now param a.n a.from
+    let l = c.loop in
+    sym (loop_done first (λ j. param) a.s.now a.n l.counter l.at c.loop-test.false) ∙ l.invariant ∙ loop_same first a.s.now (param) a.n a.from

@@ -1,4 +1,5 @@
-use Rattle.std.proofs.Common.{◌-◌, false, []}
+-- `tally::tally_names`: what is left, after what was counted, is the whole.
+use Rattle.std.proofs.Common.{false, []}
 use Rattle.format.specs.Format.{Index}
 use Rattle.tally.proofs.Rounds.{Round}
 use Rattle.tally.specs.Tallies.{counting}
@@ -6,8 +7,5 @@ use Rattle.format.specs.Value.{string, ascii}
 use Rattle.format.specs.Message.{third}
 use Rattle.tally.proofs.tally_names.Given as goal
 
-abbrev pub invariant-loop-k : goal.invariant-loop-k
-invariant-loop-k l = (ix : Index) → Round third (λ m. string false ascii 46 47) l.s ix l.n (counting l.initial.tally) [] l.k (counting l.tally) []
-
-abbrev pub decreases-loop-k : goal.decreases-loop-k
-decreases-loop-k l = l.n - l.k
+abbrev pub invariant-loop : goal.invariant-loop
+invariant-loop l = (ix : Index) → Round third (λ m. string false ascii 46 47) l.s ix l.n (counting l.initial.tally) [] l.counter (counting l.tally) []

@@ -1,3 +1,4 @@
+-- `text::all_right`: the bytes before the place that is looked at are right; the last 16 join them.
 use Prim.Native.Nat.{◌-◌, ◌≤◌}
 use Rattle.text.specs.Windows.{RightRun}
 use Rattle.text.proofs.all_right.Given as goal

@@ -1,3 +1,4 @@
+-- `text::is_ascii_by`: the bytes before the place that is looked at are all ASCII; the last ones, looked at first, join them.
 use Prim.Native.Nat.{◌-◌, ◌≤◌}
 use lib.ListN.{length}
 use Rattle.text.specs.Shown.{LowRun}

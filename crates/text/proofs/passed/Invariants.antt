@@ -1,3 +1,4 @@
+-- `text::passed`: what is said of the bytes that are left is what is said of all.
 use mathlib.Core.Path.{◌≡◌}
 use Prim.Native.Nat.{◌-◌}
 use lib.ListN.{drop}

@@ -1,10 +1,16 @@
 -- `tour::visit_all` meets its contract: the verdict on the message, and the walk over one that is accepted. Assumes nothing.
+use Rattle.std.proofs.Common.{ap, ◌∙◌}
+use Rattle.format.specs.Result.{told}
+use Rattle.format.proofs.Results.{handed_on}
 use Rattle.tally.specs.Task.{doing}
 use Rattle.tour.proofs.Messages.{tour_refused, tour_accepted}
 use Rattle.tour.proofs.visit_all.Goals as goal
 
-pub returns-in_default : goal.returns-in_default
-returns-in_default c = let a = c.args in tour_refused a.layout a.m.now (doing a.task a.out.now) c.accept_layout-verdict.ensures c.in_default.is c.verdict_refusal.ensures
+pub returns-in_err-accept_layout : goal.returns-in_err-accept_layout
+returns-in_err-accept_layout c =
+    let a = c.args in
+    let refused = tour_refused a.layout a.m.now (doing a.task a.out.now) c.accept_layout.ensures c.in_err-accept_layout.was in
+    (ap told (handed_on c.from_residual.ensures) ∙ refused.0, refused.1)
 
 pub returns : goal.returns
-returns c = let a = c.args in tour_accepted a.layout a.m.now a.task a.out.now c.accept_layout-verdict.ensures c.in-Fine.is c.walk_message-tour.ensures
+returns c = let a = c.args in tour_accepted a.layout a.m.now a.task a.out.now c.accept_layout.ensures c.in_ok-accept_layout.was c.walk_message-tour.ensures

@@ -1,32 +1,14 @@
 -- `tour::walk_cells` meets its contract: what is left, after what was met, is the whole. Assumes nothing.
-use Rattle.std.proofs.Common.{length, get_or, arith}
-use Rattle.format.specs.Value.{value}
-use Rattle.format.specs.Message.{third}
 use Rattle.format.proofs.Formats.{lawful_value}
-use Rattle.tally.specs.Walks.{index_of}
 use Rattle.tally.proofs.Tours.{bytes_all}
 use Rattle.tally.proofs.Rounds.{round_first, round_next, round_last, all_map}
 use Rattle.tour.proofs.walk_cells.Goals as goal
 
 pub loop-k-init : goal.loop-k-init
-loop-k-init c = let a = c.args in round_first third (λ m. value 50 51 (get_or a.types.now m 0)) _ _ _ _ _
-
-pub overflow_add-k : goal.overflow_add-k
-overflow_add-k c = let few = c.loop-k-test.true in omega arith
-
-pub loop-k-smaller : goal.loop-k-smaller
-loop-k-smaller c = let few = c.loop-k-test.true in omega arith
+loop-k-init c = round_first _ _ _ _ _ _ _
 
 pub loop-k-preserved : goal.loop-k-preserved
-loop-k-preserved c =
-    let a = c.args in
-    let l = c.loop-k in
-    round_next third (λ m. value 50 51 (get_or a.types.now m 0)) (λ m. lawful_value 50 51 (get_or a.types.now m 0)) a.s.now (bytes_all a.s.now c.type_inv.s) (index_of a.ix) (length a.types.now) l.k c.loop-k-test.true l.invariant c.walk_value-tour.ensures c.walk_value-tour.auto.out
-
-pub shape_of-out : goal.shape_of-out
-shape_of-out c = c.loop-k.invariant.long
+loop-k-preserved c = round_next _ _ (λ m. lawful_value _ _ _) _ (bytes_all _ c.type_inv.s) _ _ _ c.loop-k-test.true c.loop-k.invariant c.walk_value-tour.ensures
 
 pub returns : goal.returns
-returns c =
-    let a = c.args in
-    all_map third a.s.now (value 50 51) a.types.now (round_last third (λ m. value 50 51 (get_or a.types.now m 0)) _ _ _ _ _ c.loop-k-test.false c.loop-k.invariant)
+returns c = all_map _ _ _ _ (round_last _ _ _ _ _ _ _ c.loop-k-test.false c.loop-k.invariant)

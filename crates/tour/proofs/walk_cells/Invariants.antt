@@ -1,4 +1,5 @@
-use Rattle.std.proofs.Common.{◌-◌, length, get_or}
+-- `tour::walk_cells`: what is left, after what was met, is the whole.
+use Rattle.std.proofs.Common.{length, get_or}
 use Rattle.format.specs.Value.{value}
 use Rattle.format.specs.Message.{third}
 use Rattle.tally.specs.Walks.{index_of}
@@ -7,6 +8,3 @@ use Rattle.tour.proofs.walk_cells.Given as goal
 
 abbrev pub invariant-loop-k : goal.invariant-loop-k
 invariant-loop-k l = Round third (λ m. value 50 51 (get_or l.types m 0)) l.s (index_of l.ix) (length l.types) l.initial.tour l.initial.out l.k l.tour l.out
-
-abbrev pub decreases-loop-k : goal.decreases-loop-k
-decreases-loop-k l = length l.types - l.k

@@ -24,18 +24,6 @@ pass_even-tour-requires c =
     let few = (c.fixed_row-size.ensures.sizes run.some_bytes).0 in
     (run.few, few, omega arith)
 
-pub overflow_add-j : goal.overflow_add-j
-overflow_add-j c =
-    let few = c.calm_run-k.ensures.few in
-    omega arith
-
-pub loop-j-smaller-then-k-gt0 : goal.loop-j-smaller-then-k-gt0
-loop-j-smaller-then-k-gt0 c =
-    let few = c.calm_run-k.ensures.few in
-    let some_rows = c.if-k-gt0.true in
-    let more = c.loop-j-test.true in
-    omega arith
-
 pub loop-j-preserved-then-k-gt0 : goal.loop-j-preserved-then-k-gt0
 loop-j-preserved-then-k-gt0 c =
     let a = c.args in
@@ -49,25 +37,12 @@ loop-j-preserved-then-k-gt0 c =
     let left : l.j + k.result ≤ a.n = omega arith in
     rw c.pass_even-tour.ensures (rounds_rows a.types.now sizes.1 a.s.now by _ sizes.2 k.result l.j l.tour run.0.some_rows left run.1 refl l.invariant)
 
-pub overflow_add-j-in-loop-j : goal.overflow_add-j-in-loop-j
-overflow_add-j-in-loop-j c =
-    let few = c.loop-j-test.true in
-    omega arith
-
-pub loop-j-smaller : goal.loop-j-smaller
-loop-j-smaller c =
-    let few = c.loop-j-test.true in
-    omega arith
-
 pub loop-j-preserved : goal.loop-j-preserved
 loop-j-preserved c =
     let a = c.args in
     let l = c.loop-j in
     let by = bytes_all a.s.now c.type_inv.s in
-    round_next second (λ m. row a.types.now) (λ m. lawful_row a.types.now) a.s.now by (index_of a.ix) a.n l.j c.loop-j-test.true l.invariant c.pass_row-tour.ensures c.pass_row-tour.auto.out
-
-pub shape_of-out : goal.shape_of-out
-shape_of-out c = c.loop-j.invariant.long
+    round_next second (λ m. row a.types.now) (λ m. lawful_row a.types.now) a.s.now by (index_of a.ix) a.n l.j c.loop-j-test.true l.invariant c.pass_row-tour.ensures
 
 pub returns : goal.returns
 returns c =

@@ -1,3 +1,4 @@
+-- `tour::walk_rows`: what is left, after what was met or passed, is the whole.
 use Rattle.std.proofs.Common.{◌-◌}
 use Rattle.format.specs.Message.{second, row}
 use Rattle.tally.specs.Walks.{index_of}

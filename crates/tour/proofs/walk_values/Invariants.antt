@@ -1,4 +1,4 @@
-use Rattle.std.proofs.Common.{◌-◌}
+-- `tour::walk_values`: what is left, after what was met, is the whole.
 use Rattle.format.specs.Value.{value}
 use Rattle.format.specs.Message.{second}
 use Rattle.tally.specs.Walks.{index_of}
@@ -6,7 +6,4 @@ use Rattle.tally.proofs.Rounds.{Round}
 use Rattle.tour.proofs.walk_values.Given as goal
 
 abbrev pub invariant-loop-j : goal.invariant-loop-j
-invariant-loop-j l = Round second (λ m. value 27 28 l.t) l.s (index_of l.ix) (l.n) l.initial.tour l.initial.out l.j l.tour l.out
-
-abbrev pub decreases-loop-j : goal.decreases-loop-j
-decreases-loop-j l = l.n - l.j
+invariant-loop-j l = Round second (λ m. value 27 28 l.t) l.s (index_of l.ix) l.n l.initial.tour l.initial.out l.j l.tour l.out

@@ -1,6 +1,6 @@
 -- `turn::reverse_vertices` meets its contract: all bytes reversed, and then those of each vertex. Assumes nothing.
 use mathlib.Core.Path.{refl}
-use Rattle.std.proofs.Common.{◌+◌, ◌*◌, ◌≤◌, arith}
+use Rattle.std.proofs.Common.{◌+◌, ◌*◌, arith}
 use Rattle.turn.proofs.Reversals.{lent_reversed, to_mend}
 use Rattle.turn.proofs.reverse_vertices.Goals as goal
 

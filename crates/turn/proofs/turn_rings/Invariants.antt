@@ -1,12 +1,8 @@
-use Prim.Native.Nat.{ℕ, ◌-◌, ◌≤◌}
-use mathlib.Core.Path.{◌≡◌}
+-- `turn::turn_rings`: one ring more is turned, and the others are left.
+use Prim.Native.Nat.{ℕ, ◌-◌}
 use mathlib.Core.List.{List}
-use lib.ListN.{length}
 use Rattle.turn.specs.Turning.{Rings, SomeRings}
 use Rattle.turn.proofs.turn_rings.Given as goal
 
-abbrev pub invariant-loop-i : goal.invariant-loop-i
-invariant-loop-i l = (l.i ≤ l.n) × (length l.b ≡ length l.initial.b) × SomeRings l.b l.at (l.n - l.i) × ((target : List ℕ) → Rings l.initial.b target l.from l.n → Rings l.b target l.at (l.n - l.i))
-
-abbrev pub decreases-loop-i : goal.decreases-loop-i
-decreases-loop-i l = l.n - l.i
+abbrev pub invariant-loop : goal.invariant-loop
+invariant-loop l = SomeRings l.b l.at (l.n - l.counter) × ((target : List ℕ) → Rings l.initial.b target l.from l.n → Rings l.b target l.at (l.n - l.counter))

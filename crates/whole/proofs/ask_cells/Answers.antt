@@ -1,18 +1,18 @@
 -- `whole::ask_cells` meets its contract: what the cells that are left are answered is what all are. Assumes nothing.
 use Prim.Native.Nat.{ℕ, ◌+◌, ◌≤◌}
 use native.Mathlib.Omega.{arith}
-use mathlib.Core.Path.{◌≡◌, refl, sym, ap, ◌∙◌, subst}
-use borrow.Author.Rules.{rules}
-use Rattle.format.specs.Message.{most_columns, unlimited}
+use mathlib.Core.Path.{◌≡◌, sym, ap, ◌∙◌, subst}
+use Rattle.format.specs.Message.{most_columns}
 use Rattle.steps.specs.State.{State}
+use Rattle.format.proofs.Results.{handed_on}
 use Rattle.write.specs.declared.State.{State as Code}
 use Rattle.write.specs.Shown.{seen, shown_answer}
 use mathlib.Core.List.{List}
 use Rattle.steps.specs.declared.Stage.TheVariants.{Row}
 use Rattle.write.specs.Shared.{tabled}
-use Rattle.write.proofs.Taken.{shown_ok, shown_no}
+use Rattle.scan.proofs.Answers.{shown_go, shown_stop}
 use Rattle.whole.specs.Asked.{in_row, rest_answer, Opened}
-use Rattle.whole.proofs.Answers.{ground, columns_few, rest_end, rest_taken, rest_refused, tabled_seen, tabled_few, asked_counts}
+use Rattle.whole.proofs.Answers.{columns_few, rest_end, rest_taken, rest_refused, tabled_seen, tabled_few}
 use Rattle.whole.proofs.ask_cells.Goals as goal
 
 -- the state that the loop begins with
@@ -20,43 +20,24 @@ begun : (st : Code) (types : List ℕ) (size first : ℕ) {row : Code} → row �
     → seen row types ≡ in_row (seen st types) first 0
 begun st types size first e o = ap (λ (r : Code). seen r types) e ∙ tabled_seen st types first st.position 0 (st.rows + 1) (columns_few st types size first o)
 
-pub overflow_add-st : goal.overflow_add-st
-overflow_add-st c =
-    let a = c.args in
-    let more : a.st.rows + 1 ≤ unlimited = (ground (seen a.st a.types.now) a.size a.first c.requires).more in
-    search (rules, more)
-
-pub loop-k-init : goal.loop-k-init
-loop-k-init c =
-    let a = c.args in
-    let e = c.in_table-row.ensures in
-    (sym (ap (λ (r : Code). r.inner_count) e), subst (λ (r : Code). r.columns ≤ most_columns) (sym e) (tabled_few a.st a.first a.st.position 0 (a.st.rows + 1) (columns_few a.st a.types.now a.size a.first c.requires)), refl)
-
-pub returns-in_default : goal.returns-in_default
-returns-in_default c =
+pub returns-in_err-n : goal.returns-in_err-n
+returns-in_err-n c =
     let a = c.args in
     let l = c.loop-k in
     let s = seen l.row a.types.now in
-    let told = c.ask_cell-a.ensures in
-    let r = rest_refused a.bytes.now a.cells.now s a.size l.k _ _ l.invariant.0 c.loop-k-test.true (shown_no _ told c.in_default.is) in
+    let told = c.ask_cell.ensures in
+    let r = rest_refused a.bytes.now a.cells.now s a.size l.k _ _ l.invariant.0 c.loop-k-test.true (shown_stop _ told c.in_err-n.was) in
     let start = begun a.st a.types.now a.size a.first c.in_table-row.ensures c.requires in
-    c.in_default.is ∙ ap shown_answer (sym r ∙ l.invariant.2 ∙ ap (λ (x : State). rest_answer a.bytes.now a.cells.now x a.size) start)
-
-pub overflow_add-row : goal.overflow_add-row
-overflow_add-row c =
-    let a = c.args in
-    let l = c.loop-k in
-    let h = asked_counts a.bytes.now a.cells.now l.row a.types.now a.size l.k (shown_ok _ c.ask_cell-a.ensures c.in-Is.is) in
-    search (rules, h)
+    handed_on c.from_residual.ensures ∙ ap shown_answer (sym r ∙ l.invariant.2 ∙ ap (λ (x : State). rest_answer a.bytes.now a.cells.now x a.size) start)
 
 pub loop-k-preserved : goal.loop-k-preserved
 loop-k-preserved c =
     let a = c.args in
     let l = c.loop-k in
-    let n = c.in-Is.n in
+    let n = c.in_ok-n.n in
     let s = seen l.row a.types.now in
     let e = c.in_table-row-in-loop-k.ensures in
-    let told = shown_ok _ c.ask_cell-a.ensures c.in-Is.is in
+    let told = shown_go _ c.ask_cell.ensures c.in_ok-n.was in
     let turn = rest_taken a.bytes.now a.cells.now s a.size l.k n l.invariant.0 c.loop-k-test.true told in
     let next = ap (λ (r : Code). seen r a.types.now) e ∙ tabled_seen l.row a.types.now n l.row.inner_at (l.row.inner_count + 1) l.row.rows l.invariant.1 in
     (ap (λ (m : ℕ). m + 1) l.invariant.0 ∙ sym (ap (λ (r : Code). r.inner_count) e), subst (λ (r : Code). r.columns ≤ most_columns) (sym e) (tabled_few l.row n l.row.inner_at (l.row.inner_count + 1) l.row.rows l.invariant.1), ap (λ (x : State). rest_answer a.bytes.now a.cells.now x a.size) next ∙ (sym turn ∙ l.invariant.2))

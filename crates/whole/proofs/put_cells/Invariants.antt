@@ -1,4 +1,5 @@
-use Prim.Native.Nat.{◌-◌, ◌/◌, ◌≤◌}
+-- `whole::put_cells`: what was written, with the cells that are left, is what all come to.
+use Prim.Native.Nat.{◌-◌, ◌/◌}
 use mathlib.Core.Path.{◌≡◌}
 use lib.ListN.{length}
 use Rattle.whole.specs.Laid.{laid, FitAll}
@@ -6,8 +7,5 @@ use Rattle.whole.proofs.put_cells.Given as goal
 
 abbrev pub invariant-loop-k : goal.invariant-loop-k
 invariant-loop-k l =
-    (l.k ≤ length l.cells / 2) × (length l.out ≡ length l.initial.out) × FitAll l.bytes l.types l.cells l.k (length l.cells / 2 - l.k) l.at (length l.out)
+    FitAll l.bytes l.types l.cells l.k (length l.cells / 2 - l.k) l.at (length l.out)
     × (laid l.bytes l.types l.cells l.k (length l.cells / 2 - l.k) l.at l.out ≡ laid l.bytes l.types l.cells 0 (length l.cells / 2) l.from l.initial.out)
-
-abbrev pub decreases-loop-k : goal.decreases-loop-k
-decreases-loop-k l = length l.cells / 2 - l.k

@@ -1,6 +1,5 @@
 -- `whole::sure_body` meets its contract: a null has 4 bytes; else the bytes stand among those that are lent, and have no fault. Assumes nothing.
 use Prim.Native.Nat.{◌+◌, ◌≤◌}
-use native.Mathlib.Omega.{arith}
 use mathlib.Core.Path.{sym, ap, ◌∙◌}
 use lib.ListN.{length}
 use borrow.Author.Tests.{leb-true, not-false}
@@ -11,32 +10,8 @@ use Rattle.whole.proofs.sure_body.Goals as goal
 pub returns-then-size-eq-NULL_SIZE : goal.returns-then-size-eq-NULL_SIZE
 returns-then-size-eq-NULL_SIZE c = λ _. (let a = c.args in sure_null a.bytes.now a.at a.t a.start a.size c.requires c.if-size-eq-NULL_SIZE.true)
 
-pub returns-then-not-fits : goal.returns-then-not-fits
-returns-then-not-fits c = λ h. absurd (omega arith)
-
-pub overflow_add-start : goal.overflow_add-start
-overflow_add-start c =
-    let a = c.args in
-    let h : a.start + a.size ≤ length a.bytes.now = leb-true _ _ (sym c.fits.ensures ∙ not-false _ c.if-not-fits.false-raw) in
-    omega arith
-
-pub slice_bounds-body_fault-end : goal.slice_bounds-body_fault-end
-slice_bounds-body_fault-end c =
-    let a = c.args in
-    let h : a.start + a.size ≤ length a.bytes.now = leb-true _ _ (sym c.fits.ensures ∙ not-false _ c.if-not-fits.false-raw) in
-    omega arith
-
-pub returns-in_default : goal.returns-in_default
-returns-in_default c = λ h. absurd (omega arith)
-
-pub overflow_add-result : goal.overflow_add-result
-overflow_add-result c =
-    let a = c.args in
-    let h : a.start + a.size ≤ length a.bytes.now = leb-true _ _ (sym c.fits.ensures ∙ not-false _ c.if-not-fits.false-raw) in
-    omega arith
-
 pub returns : goal.returns
 returns c =
     let a = c.args in
     let h : a.start + a.size ≤ length a.bytes.now = leb-true _ _ (sym c.fits.ensures ∙ not-false _ c.if-not-fits.false-raw) in
-    λ _. sure_there a.bytes.now a.at a.t a.start a.size c.requires c.if-size-eq-NULL_SIZE.false h (sym (ap verdict_of c.in-Fine.is) ∙ c.body_fault.ensures)
+    λ _. sure_there a.bytes.now a.at a.t a.start a.size c.requires c.if-size-eq-NULL_SIZE.false h (sym (ap verdict_of c.in-Ok.is) ∙ c.body_fault.ensures)

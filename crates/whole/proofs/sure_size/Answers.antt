@@ -1,9 +1,6 @@
 -- `whole::sure_size` meets its contract: by its type, a cell is a body or a number. Assumes nothing.
-use Rattle.whole.proofs.Sures.{is_body, is_fixed, sure_number}
+use Rattle.whole.proofs.Sures.{is_fixed, sure_number}
 use Rattle.whole.proofs.sure_size.Goals as goal
-
-pub sure_body-requires : goal.sure_body-requires
-sure_body-requires c = is_body c.args.t c.in-9.is
 
 pub returns-in_default : goal.returns-in_default
 returns-in_default c =

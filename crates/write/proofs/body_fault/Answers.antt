@@ -8,15 +8,15 @@ use Rattle.steps.specs.Arguments.{value_fault}
 use Rattle.write.proofs.Bytes.{also_none}
 use Rattle.write.proofs.body_fault.Goals as goal
 
-pub returns-then-null : goal.returns-then-null
+pub returns-in-Some : goal.returns-in-Some
 unfolding value_fault
-returns-then-null c =
-    let a = c.args in
-    c.test-kind.ensures ∙ ap (λ (b : Bool). test b WireType a.at) c.is_counted.ensures ∙ sym (rw c.if-null.true (also_none (test (is_counted a.t) WireType a.at)))
-
-pub returns : goal.returns
-unfolding value_fault
-returns c =
+returns-in-Some c =
     let a = c.args in
     c.also.ensures ∙ ap₂ also (c.test-kind.ensures ∙ ap (λ (b : Bool). test b WireType a.at) c.is_counted.ensures) c.ruled_fault.ensures
-    ∙ sym (rw c.if-null.false)
+    ∙ sym (rw c.in-Some.is)
+
+pub returns-in-None : goal.returns-in-None
+unfolding value_fault
+returns-in-None c =
+    let a = c.args in
+    c.test-kind.ensures ∙ ap (λ (b : Bool). test b WireType a.at) c.is_counted.ensures ∙ sym (rw c.in-None.is (also_none (test (is_counted a.t) WireType a.at)))

@@ -1,17 +1,13 @@
 -- `write::text_fault` meets its contract: its length's limit, and then its rule. Assumes nothing.
-use mathlib.Core.Path.{sym}
-use Rattle.write.proofs.Bytes.{text_long, text_torn, text_whole}
+use mathlib.Core.Path.{sym, ap, ◌∙◌}
+use borrow.Author.Rules.{rules}
+use mathlib.Core.Bool.{Bool}
+use Rattle.format.specs.declared.Fault.TheVariants.{Text}
+use Rattle.steps.specs.Plans.{test}
+use Rattle.write.proofs.Bytes.{text_short}
 use Rattle.write.proofs.text_fault.Goals as goal
-
-pub returns-then-s-gt-MOST_BYTES : goal.returns-then-s-gt-MOST_BYTES
-returns-then-s-gt-MOST_BYTES c = let a = c.args in sym (text_long a.at a.s.now c.if-s-gt-MOST_BYTES.true)
-
-pub returns-in_default : goal.returns-in_default
-returns-in_default c =
-    let a = c.args in
-    sym (text_torn a.at a.s.now c.if-s-gt-MOST_BYTES.false c.torn.ensures c.in_default.is)
 
 pub returns : goal.returns
 returns c =
     let a = c.args in
-    sym (text_whole a.at a.s.now c.if-s-gt-MOST_BYTES.false c.torn.ensures c.in-Nothing.is)
+    c.test.ensures ∙ ap (λ (b : Bool). test b Text a.at) (search rules) ∙ sym (text_short a.at a.s.now c.if-s-gt-MOST_BYTES.false)

@@ -10,4 +10,4 @@ pub returns : goal.returns
 returns c =
     let a = c.args in
     let fields = opening a.client.now a.flags a.status a.statusnull a.statustext.now a.appstatus a.appnull a.apptext.now a.roundtrip a.exception.now in
-    wrote_from (begin_reply a.version fields) zero a.state.now [] a.out.now _ _ c.begin_reply-step.ensures c.keep.ensures
+    wrote_from (begin_reply a.version fields) zero a.state.now [] a.out.now _ _ (rw (c.text_of.ensures, c.text_of-2.ensures) at c.begin_reply-step.ensures) c.keep.ensures

@@ -8,4 +8,4 @@ use Rattle.writeexports.proofs.chaloenpik_body_cell.Goals as goal
 pub returns : goal.returns
 returns c =
     let a = c.args in
-    wrote (cell a.t (body (optional a.null a.s.now))) a.state.now a.types.now a.out.now _ _ c.load-st.ensures c.body_cell-step.ensures c.keep.ensures
+    wrote (cell a.t (body (optional a.null a.s.now))) a.state.now a.types.now a.out.now _ _ c.load-st.ensures (rw c.text_of.ensures at c.body_cell-step.ensures) c.keep.ensures

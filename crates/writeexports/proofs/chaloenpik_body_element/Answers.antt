@@ -9,4 +9,4 @@ use Rattle.writeexports.proofs.chaloenpik_body_element.Goals as goal
 pub returns : goal.returns
 returns c =
     let a = c.args in
-    wrote (element a.t (body (optional a.null a.s.now))) a.state.now [] a.out.now _ _ c.load-st.ensures c.body_element-step.ensures c.keep.ensures
+    wrote (element a.t (body (optional a.null a.s.now))) a.state.now [] a.out.now _ _ c.load-st.ensures (rw c.text_of.ensures at c.body_element-step.ensures) c.keep.ensures

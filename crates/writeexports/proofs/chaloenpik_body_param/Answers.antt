@@ -9,4 +9,4 @@ use Rattle.writeexports.proofs.chaloenpik_body_param.Goals as goal
 pub returns : goal.returns
 returns c =
     let a = c.args in
-    wrote (one_param a.t (body (optional a.null a.s.now))) a.state.now [] a.out.now _ _ c.load-st.ensures c.body_param-step.ensures c.keep.ensures
+    wrote (one_param a.t (body (optional a.null a.s.now))) a.state.now [] a.out.now _ _ c.load-st.ensures (rw c.text_of.ensures at c.body_param-step.ensures) c.keep.ensures

@@ -1,12 +1,13 @@
+-- `listing::number::decimal` meets its contract: as many digits as the number has.
 use Rattle.std.proofs.Common.{◌≤◌, sym, arith}
 use Rattle.std.proofs.Math.Seq.{length-take-le}
-use Rattle.listing.proofs.Powers.{digit_count_le}
+use Rattle.listing.proofs.Spelled.{at_most_20}
 use Rattle.listing.proofs.number.decimal.Goals as goal
 use Rattle.listing.proofs.number.decimal.Goals.{After-digit_count-k}
 
 -- twenty digits hold a u64
 count_fits : (c : goal.After-digit_count-k) → c.digit_count-k.result ≤ 20
-count_fits c = digit_count_le 10 1 c.args.n c.digit_count-k.result 20 (omega arith) c.digit_count-k.ensures (omega arith) (omega arith)
+count_fits c = at_most_20 c.args.n c.digit_count-k.result (omega arith) c.digit_count-k.ensures
 
 pub write_digits-requires : goal.write_digits-requires
 write_digits-requires c = omega (arith, count_fits (goal.at.write_digits-requires c).After-digit_count-k)

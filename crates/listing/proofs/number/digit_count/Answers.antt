@@ -1,26 +1,21 @@
-use Rattle.std.proofs.Common.{ℕ, ◌/◌, ap, ◌∙◌, arith}
-use Rattle.listing.proofs.Powers.{two-mul-div-le, div-pow-one, div-pow-div, pow-le_of_div_pos, lt-pow_of_div-zero}
+-- `ilog10` finds a power of ten that is at most n, while ten times that is above it. Zero takes one digit, as 1 does.
+use Rattle.std.proofs.Common.{ℕ, ◌+◌, ◌-◌, ◌*◌, ◌^◌, ◌≤◌, ◌<◌, ◌≡◌, ap, subst, ◌∙◌, add-one, arith, max}
+use Rattle.std.proofs.Math.Nat.{pow-le-pow_right, pow-succ', le-max_left}
 use Rattle.listing.proofs.number.digit_count.Goals as goal
 
-pub loop-rest-init : goal.loop-rest-init
-loop-rest-init c =
-    let n = c.args.n in
-    (omega arith, omega (arith, two-mul-div-le n 10 (omega arith)), div-pow-one n 10, omega arith)
+below : (n r : ℕ) → max n 1 < 10 * 10 ^ r → n < 10 ^ (r + 1)
+below n r h =
+    let more : 10 ^ (r + 1) ≡ 10 * 10 ^ r = ap (λ (j : ℕ). 10 ^ j) (add-one r) ∙ pow-succ' 10 r in
+    omega (arith, more, le-max_left n 1)
 
-pub loop-rest-smaller : goal.loop-rest-smaller
-loop-rest-smaller c = omega (arith, two-mul-div-le c.loop-rest.rest 10 (omega arith))
-
-pub loop-rest-preserved : goal.loop-rest-preserved
-loop-rest-preserved c =
-    let l = c.loop-rest in
-    let n = c.args.n in (
-      omega arith,
-      omega (arith, two-mul-div-le l.rest 10 (omega arith)),
-      ap (λ (m : ℕ). m / 10) l.invariant.2 ∙ div-pow-div n 10 l.k,
-      λ _. pow-le_of_div_pos n 10 l.k (omega arith) (omega arith),
-    )
+above : (n r : ℕ) → 10 ^ r ≤ max n 1 → 1 < r + 1 → 10 ^ (r + 1 - 1) ≤ n
+above n r h more =
+    let same : r ≡ r + 1 - 1 = omega arith in
+    let ten : 10 ^ 1 ≤ 10 ^ r = pow-le-pow_right {n = 10} (omega arith) {i = 1} {j = r} (omega arith) in
+    subst (λ (j : ℕ). 10 ^ j ≤ n) same (grind (arith, ten))
 
 pub returns : goal.returns
 returns c =
-    let l = c.loop-rest in
-    (omega arith, lt-pow_of_div-zero c.args.n 10 l.k l.k (omega arith) (omega arith) (omega arith), λ more. l.invariant.3 (omega arith))
+    let m = c.max.ensures in
+    let p = c.ilog10.ensures in
+    (omega arith, below c.args.n c.ilog10.result (omega arith), λ more. above c.args.n c.ilog10.result (omega arith) more)

@@ -1,6 +1,0 @@
--- Each turn prints a byte more.
-use Rattle.std.proofs.Common.{◌-◌, length}
-use Rattle.every.proofs.print_bytes.Given as goal
-
-abbrev pub decreases-loop-i : goal.decreases-loop-i
-decreases-loop-i g l = length l.bytes - l.i

@@ -1,6 +1,0 @@
--- Each turn looks at a cell more.
-use Rattle.std.proofs.Common.{◌-◌}
-use Rattle.every.proofs.row_is.Given as goal
-
-abbrev pub decreases-loop-c : goal.decreases-loop-c
-decreases-loop-c l = 11 - l.c
