@@ -1,7 +1,7 @@
 -- A card's form and its bytes agree, whatever its kind: what is well-formed is the bytes of a good card, and those are well-formed.
 use Rattle.std.specs.Prelude.{Result, Ok, Err}
 use Prim.Native.Nat.{ℕ, zero, suc, ◌+◌, ◌-◌, ◌^◌, ◌<◌, ◌≤◌, min}
-use mathlib.Core.Path.{◌≡◌, refl, sym, ◌∙◌, ap, ap₂}
+use mathlib.Core.Path.{◌≡◌, refl, sym, ◌∙◌, ap, ap₂, subst}
 use mathlib.Core.Bool.{Bool, true, false}
 use mathlib.Core.List.{List, [], ◌∷◌, ◌++◌}
 use mathlib.Core.Option.{Option, some, none}
@@ -9,6 +9,7 @@ use lib.ListN.{length, get_or, take, drop, replicate, length-append, length-repl
 use lib.Seq.{take_at, drop_at, take_all, drop-drop, length-take-le}
 use lib.Dec.{leb, eqb}
 use native.Mathlib.Nat.{le_of_eq, add-sub_cancel_left, mod-eq_of_lt, min-eq_left}
+use native.Mathlib.Bridge.{le_prop}
 use native.Mathlib.Omega.{arith}
 use borrow.Author.Tests.{leb-true, leb-false, eqb-true, lt-ltb, le-ltb, le-leb, lt-leb, eq-eqb, ne_eqb}
 use Rattle.format.specs.declared.Fault.{Fault}
@@ -26,10 +27,16 @@ use Rattle.scan.proofs.Answers.{number_stands}
 use Rattle.places.specs.Places.{tables_of}
 use Rattle.places.specs.Entries.{entry}
 use Rattle.query.specs.Answers.{of_table}
-use Rattle.cards.specs.declared.Kind.{Kind}
+use Rattle.cards.specs.declared.kind.Kind.{Kind}
 use Rattle.cards.specs.Card.{Card, a_card, near, far, kind_of, holds, card_form, card_body, card_rest, sized, rest_bytes, bytes_in, card_bytes, card_size, position_place, position_in, type_place, name_place, rest_size, most_size, most_name, most_byte, wrong_from, unless, Low, GoodCard}
 use Rattle.cards.specs.Answers.{of_card}
 use Rattle.cards.specs.Shown.{shown_form, own_before}
+
+-- ---- a kind is told by its numbers: that its width is small has one proof
+pub same_kind : {n w l h : ℕ} (k : Kind) → ◌≡◌ {A = ℕ × (ℕ × (ℕ × ℕ))} (n, (w, (l, h))) (k.number, (k.width, (k.low, k.high))) → (p : w ≤ 8) → ◌≡◌ {A = Kind} (record { number = n; width = w; low = l; high = h; narrow = p }) k
+same_kind k e =
+    subst (λ (v : ℕ × (ℕ × (ℕ × ℕ))). (p : v.1.0 ≤ 8) → ◌≡◌ {A = Kind} (record { number = v.0; width = v.1.0; low = v.1.1.0; high = v.1.1.1; narrow = p }) k) (sym e)
+    (λ p. ap (λ (z : k.width ≤ 8). record { number = k.number; width = k.width; low = k.low; high = k.high; narrow = z }) (le_prop p k.narrow))
 
 -- ---- the kinds: each position that a column can have is held by one
 pub kind_near : (p : ℕ) → holds near p ≡ true → kind_of p ≡ near
@@ -54,9 +61,6 @@ by_kind P n f p = go (leb p near.high)
     go : (t : Bool) → P (pick t near far)
     go true = n
     go false = f
-
-pub kind_narrow : (p : ℕ) → (kind_of p).width ≤ 8
-kind_narrow p = by_kind (λ k. k.width ≤ 8) (omega arith) (omega arith) p
 
 pub few_bytes : (p : ℕ) → card_size (kind_of p) ≤ most_size
 few_bytes p = by_kind (λ k. card_size k ≤ most_size) (omega arith) (omega arith) p
@@ -275,11 +279,11 @@ module _ (at p : ℕ) (bs : List ℕ) where
           rw (column, le-leb _ _ short, e, size)
 
 -- the position, as it is read
-pub position_read : (k : Kind) (bs : List ℕ) (n : ℕ) → k.width ≤ 8 → length bs ≡ card_size k → n ≡ number_in (shown ((number (min k.width 8) 0).read bs position_place)) → n ≡ position_in k bs
+pub position_read : (k : Kind) (bs : List ℕ) (n : ℕ) → length bs ≡ card_size k → n ≡ number_in (shown ((number (min k.width 8) 0).read bs position_place)) → n ≡ position_in k bs
 unfolding number
-position_read k bs n narrow size e =
+position_read k bs n size e =
     let w = k.width in
-    let whole : min w 8 ≡ w = min-eq_left narrow in
+    let whole : min w 8 ≡ w = min-eq_left k.narrow in
     let stands : leb (position_place + w) (length bs) ≡ true = le-leb (position_place + w) (length bs) (omega (arith, size)) in
     number_stands {r = (number (min w 8) 0).read bs position_place} e (num_at w bs position_place) (position_place + w) (rw (whole, stands))
 

@@ -19,7 +19,7 @@ use Rattle.query.proofs.Names.{same_yes, same_no}
 use Rattle.std.proofs.lemmas.List.{append_assoc, take_at, drop_at, drop-drop}
 use borrow.Rule.Slice.PartMut.{put_mid}
 use Rattle.cards.specs.Card.{a_card, rest_size, position_place, type_place, front_bytes, rest_bytes, most_name, name_byte, wrong_from}
-use Rattle.cards.specs.declared.Kind.{Kind}
+use Rattle.cards.specs.declared.kind.Kind.{Kind}
 use Rattle.cards.specs.Shown.{shown_wrong}
 
 -- the first wrong byte: of what is left as of all

@@ -1,11 +1,12 @@
 -- A shortcut card: its kinds, its form, its bytes, and which cards there are.
+use native.Mathlib.Omega.{arith}
 use Rattle.std.specs.Prelude.{ℕ, ◌+◌, ◌-◌, ◌≤◌, min, ◌≡◌, Bool, true, ◌&&◌, List, [], ◌∷◌, ◌++◌, length, get_or, take, drop, replicate, leb, ltb, eqb}
 use Rattle.std.proofs.Math.Option.{Option, some, none}
 use Rattle.format.specs.declared.Fault.TheVariants.{CardForm}
 use Rattle.format.specs.Result.{Res, ok, no, pick}
 use Rattle.format.specs.Number.{num_at, num_bytes}
 use Rattle.format.specs.Value.{is_column}
-use Rattle.cards.specs.declared.Kind.{Kind}
+use Rattle.cards.specs.declared.kind.Kind.{Kind}
 
 -- a column, by its position, and what it was when the card was made
 pub record Card : Type 0 where
@@ -18,10 +19,10 @@ a_card i t bs = record { position = i; type = t; name = bs }
 
 -- the kinds of cards: the first byte of each, how many bytes its position has, and the first and the last position that it holds
 abbrev pub near : Kind
-near = record { number = 1; width = 1; low = 0; high = 63 }
+near = record { number = 1; width = 1; low = 0; high = 63; narrow = omega arith }
 
 abbrev pub far : Kind
-far = record { number = 2; width = 2; low = 64; high = 1023 }
+far = record { number = 2; width = 2; low = 64; high = 1023; narrow = omega arith }
 
 abbrev pub kinds : List Kind
 kinds = near ∷ far ∷ []

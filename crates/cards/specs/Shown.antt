@@ -8,7 +8,12 @@ use Rattle.scan.specs.Shown.{refusal}
 use Rattle.places.specs.Stands.{Stands}
 use Rattle.query.specs.declared.TableLayout.{TableLayout}
 use Rattle.query.specs.Answers.{layout_of}
-use Rattle.cards.specs.Card.{Card}
+use Rattle.cards.specs.declared.Card.{Card as Said}
+use Rattle.cards.specs.Card.{Card, a_card}
+
+-- a card that was read
+abbrev pub said : Said → Card
+said c = a_card c.position c.wire_type c.name.now
 
 abbrev pub shown_wrong : Option ℕ → Maybe ℕ
 shown_wrong none = None

@@ -3,7 +3,7 @@
 // Why a card doesn't fit is told by a call of its own, which refuses none for that.
 #![tactic(auto)]
 
-ghost use Rattle.std.specs.Prelude.{◌≡◌, ◌&&◌, ◌++◌, ◌+◌, ◌≤◌, min, length, get_or, take, drop, eqb};
+ghost use Rattle.std.specs.Prelude.{◌≡◌, ◌&&◌, ◌++◌, ◌+◌, ◌≤◌, length, take, drop, eqb};
 ghost use Rattle.std.proofs.Math.Option.{some};
 ghost use Rattle.format.specs.declared.Fault.TheVariants.{CardForm};
 ghost use Rattle.format.specs.Result.{ok, bind, told};
@@ -13,19 +13,13 @@ ghost use Rattle.query.specs.Answers.{of_table, same};
 ghost use Rattle.cards.specs.Card.{a_card, holds, kind_of, name_byte, wrong_from, card_rest, sized, card_form, rest_bytes, front_bytes, bytes_in, card_size, most_size, position_place, type_place, name_place, rest_size, most_name};
 ghost use Rattle.cards.specs.Answers.{opened, ask_open, short_named, room_for, ask_made, Made};
 ghost use Rattle.cards.specs.Reasons.{stands_at, fit_of, ask_fit, told_place, fit_told, told_fit};
-ghost use Rattle.cards.specs.Shown.{shown_wrong, shown_form, own_before, Laid};
+ghost use Rattle.cards.specs.Shown.{said, shown_wrong, shown_form, own_before, Laid};
+
+mod kind;
 
 use format::{Fault, Refusal};
+use kind::Kind;
 use query::{ColumnLayout, TableLayout};
-
-// A kind of card: its first byte, how many bytes its position has, and the first and the last position that it holds.
-#[derive(Clone, Copy)]
-struct Kind {
-    number: u8,
-    width: usize,
-    low: usize,
-    high: usize,
-}
 
 const NEAR: Kind = Kind {
     number: 1,
@@ -66,7 +60,6 @@ fn kind_of(position: usize) -> Kind
 
 // How many bytes a card of a kind has.
 fn size_of(kind: Kind) -> usize
-    requires { kind.width ≤ 8 }
     ensures { result ≡ card_size kind }
 {
     POSITION + kind.width + REST
@@ -95,13 +88,6 @@ fn wrong(place: usize) -> Refusal
         fault: Fault::CardForm,
         place,
     }
-}
-
-// The smaller of two sizes.
-fn smaller(a: usize, b: usize) -> usize
-    ensures { result ≡ min a b }
-{
-    if a < b { a } else { b }
 }
 
 // Whether a kind holds a position.
@@ -137,13 +123,6 @@ fn wrong_byte(name: &[u8], size: usize) -> Option<usize>
     None
 }
 
-// Byte k of some bytes and the zeros after them.
-fn padded(s: &[u8], k: usize) -> u8
-    ensures { result ≡ get_or s.now k 0 }
-{
-    if k < s.len() { s[k] } else { 0 }
-}
-
 // What the bytes from the type on say, which stands at a place, of a card that has its size and its position.
 fn read_rest(rest: &[u8], at: usize, position: usize) -> Result<(usize, u8, usize), Refusal>
     requires { (length rest.now ≡ rest_size) × (at ≤ position_place + 8) }
@@ -165,12 +144,11 @@ fn read_rest(rest: &[u8], at: usize, position: usize) -> Result<(usize, u8, usiz
 
 // What a card of a kind says: its size decides, then its position, then the rest.
 fn read_sized(card: &[u8], kind: Kind) -> Result<(usize, u8, usize), Refusal>
-    requires { kind.width ≤ 8 }
     ensures { result ≡ shown_form (sized kind card.now) }
 {
     let size = size_of(kind);
     if card.len() != size {
-        return Err(wrong(smaller(card.len(), size)));
+        return Err(wrong(card.len().min(size)));
     }
     let position = scan::number_at(card, POSITION, kind.width) as usize;
     if !is_held(kind, position) {
@@ -184,7 +162,7 @@ fn read_sized(card: &[u8], kind: Kind) -> Result<(usize, u8, usize), Refusal>
 fn read_card(card: &[u8]) -> Result<(usize, u8, usize), Refusal>
     ensures { result ≡ shown_form (card_form card.now) }
 {
-    let first = padded(card, 0);
+    let first = card.first().copied().unwrap_or(0);
     if first == NEAR.number {
         return read_sized(card, NEAR);
     }
@@ -229,22 +207,21 @@ fn is_alike(m: &[u8], column: ColumnLayout, wire_type: u8, name: &[u8]) -> bool
     same_bytes(&m[start..end], name)
 }
 
-// Opens a card that says this, in a response with its round trip or without.
-fn open_at(
-    m: &[u8],
-    timed: bool,
-    t: usize,
+// What a card says.
+#[derive(Clone, Copy)]
+struct Card<'a> {
     position: usize,
     wire_type: u8,
-    name: &[u8],
-) -> Result<usize, Refusal>
-    ensures { told result ≡ of_table timed m.now t (λ at b. opened b (a_card position wire_type name.now)) }
+    name: &'a [u8],
+}
+
+// Opens a card in a response with its round trip or without.
+fn open_at(m: &[u8], timed: bool, t: usize, card: Card) -> Result<usize, Refusal>
+    ensures { told result ≡ of_table timed m.now t (λ at b. opened b (said card.entry)) }
 {
-    let Some(column) = query::find_placed(m, timed, t, position)? else {
-        return Err(STALE);
-    };
-    if is_alike(m, column, wire_type, name) {
-        Ok(position)
+    let column = query::find_placed(m, timed, t, card.position)?.ok_or(STALE)?;
+    if is_alike(m, column, card.wire_type, card.name) {
+        Ok(card.position)
     } else {
         Err(STALE)
     }
@@ -269,7 +246,13 @@ pub fn open_card(m: &[u8], t: usize, card: &[u8]) -> Result<usize, Refusal>
         Ok((position, wire_type, size)) => {
             let start = name_at(position);
             let end = start + size;
-            open_at(m, true, t, position, wire_type, &card[start..end])
+            let name = &card[start..end];
+            let said = Card {
+                position,
+                wire_type,
+                name,
+            };
+            open_at(m, true, t, said)
         }
     }
 }
@@ -298,9 +281,7 @@ fn first_alike(m: &[u8], layout: TableLayout, wire_type: u8, name: &[u8]) -> Opt
 {
     let mut at = layout.names;
     for i in 0..layout.columns {
-        let Ok((start, end)) = scan::read_span(m, at, format::UNLIMITED) else {
-            return None;
-        };
+        let (start, end) = scan::read_span(m, at, format::UNLIMITED).ok()?;
         if scan::byte_at(m, layout.types + i) == wire_type && same_bytes(&m[start..end], name) {
             return Some(i);
         }
@@ -310,44 +291,37 @@ fn first_alike(m: &[u8], layout: TableLayout, wire_type: u8, name: &[u8]) -> Opt
 }
 
 // That a card doesn't fit for a reason, with where its type and name stand.
-fn stale(m: &[u8], layout: TableLayout, reason: Reason, wire_type: u8, name: &[u8]) -> Fit
+fn stale(m: &[u8], layout: TableLayout, reason: Reason, card: Card) -> Fit
     requires { Laid m.now layout }
-    ensures { (w : Laid m.now layout) → fit_told result ≡ some (reason, stands_at w.tab wire_type name.now) }
+    ensures { (w : Laid m.now layout) → fit_told result ≡ some (reason, stands_at w.tab card.entry.wire_type card.entry.name.now) }
 {
-    Fit::Stale(reason, first_alike(m, layout, wire_type, name))
+    Fit::Stale(reason, first_alike(m, layout, card.wire_type, card.name))
 }
 
-// How a card that says this fits a table.
-fn fit_in(m: &[u8], layout: TableLayout, position: usize, wire_type: u8, name: &[u8]) -> Fit
+// How a card fits a table.
+fn fit_in(m: &[u8], layout: TableLayout, card: Card) -> Fit
     requires { Laid m.now layout }
-    ensures { (w : Laid m.now layout) → fit_told result ≡ fit_of w.tab (a_card position wire_type name.now) }
+    ensures { (w : Laid m.now layout) → fit_told result ≡ fit_of w.tab (said card.entry) }
 {
-    if layout.columns <= position {
-        return stale(m, layout, Reason::Past, wire_type, name);
+    if layout.columns <= card.position {
+        return stale(m, layout, Reason::Past, card);
     }
-    let column = query::column_at(m, layout.types, layout.names, position);
-    if is_alike(m, column, wire_type, name) {
+    let column = query::column_at(m, layout.types, layout.names, card.position);
+    if is_alike(m, column, card.wire_type, card.name) {
         return Fit::Fits;
     }
-    if column.wire_type == wire_type {
-        return stale(m, layout, Reason::OtherName, wire_type, name);
+    if column.wire_type == card.wire_type {
+        return stale(m, layout, Reason::OtherName, card);
     }
-    stale(m, layout, Reason::OtherType, wire_type, name)
+    stale(m, layout, Reason::OtherType, card)
 }
 
 // How it fits table t of a response with its round trip or without.
-fn fit_at(
-    m: &[u8],
-    timed: bool,
-    t: usize,
-    position: usize,
-    wire_type: u8,
-    name: &[u8],
-) -> Result<Fit, Refusal>
-    ensures { told_fit result ≡ of_table timed m.now t (λ at b. ok (fit_of b (a_card position wire_type name.now))) }
+fn fit_at(m: &[u8], timed: bool, t: usize, card: Card) -> Result<Fit, Refusal>
+    ensures { told_fit result ≡ of_table timed m.now t (λ at b. ok (fit_of b (said card.entry))) }
 {
     let layout = query::find_table(m, timed, t)?;
-    Ok(fit_in(m, layout, position, wire_type, name))
+    Ok(fit_in(m, layout, card))
 }
 
 // Whether a card fits table t, exactly if opening it there would open a column; and if not why, and where a column of its type and name stands now.
@@ -359,7 +333,13 @@ pub fn card_fit(m: &[u8], t: usize, card: &[u8]) -> Result<Fit, Refusal>
         Ok((position, wire_type, size)) => {
             let start = name_at(position);
             let end = start + size;
-            fit_at(m, true, t, position, wire_type, &card[start..end])
+            let name = &card[start..end];
+            let said = Card {
+                position,
+                wire_type,
+                name,
+            };
+            fit_at(m, true, t, said)
         }
     }
 }
@@ -391,31 +371,25 @@ fn write_front(out: &mut [u8], kind: Kind, position: usize)
 }
 
 // Writes a card of a kind to the start of a buffer that has room for it.
-fn write_card(out: &mut [u8], kind: Kind, position: usize, wire_type: u8, name: &[u8])
-    requires { (kind.width ≤ 8) × (card_size kind ≤ length out.old) × (length name.now ≤ most_name) }
-    ensures { out.new ≡ bytes_in kind (a_card position wire_type name.now) ++ drop (card_size kind) out.old }
+fn write_card(out: &mut [u8], kind: Kind, card: Card)
+    requires { (card_size kind ≤ length out.old) × (length card.name.now ≤ most_name) }
+    ensures { out.new ≡ bytes_in kind (said card.entry) ++ drop (card_size kind) out.old }
 {
-    write_front(out, kind, position);
-    write_rest(&mut out[POSITION + kind.width..], wire_type, name);
+    write_front(out, kind, card.position);
+    write_rest(&mut out[POSITION + kind.width..], card.wire_type, card.name);
 }
 
 // Makes the card of a column whose name's length stands at a place, if the name is short enough and there is room.
-fn put_card(
-    out: &mut [u8],
-    place: usize,
-    position: usize,
-    wire_type: u8,
-    name: &[u8],
-) -> Result<usize, Refusal>
-    ensures { Made (bind (short_named place (a_card position wire_type name.now)) (room_for (length out.old))) result out.old out.new }
+fn put_card(out: &mut [u8], place: usize, card: Card) -> Result<usize, Refusal>
+    ensures { Made (bind (short_named place (said card.entry)) (room_for (length out.old))) result out.old out.new }
 {
-    if MOST_NAME < name.len() {
+    if MOST_NAME < card.name.len() {
         return Err(Refusal {
             fault: Fault::Limit,
             place,
         });
     }
-    let kind = kind_of(position);
+    let kind = kind_of(card.position);
     let size = size_of(kind);
     if out.len() < size {
         return Err(Refusal {
@@ -423,8 +397,8 @@ fn put_card(
             place: size,
         });
     }
-    write_card(out, kind, position, wire_type, name);
-    Ok(position)
+    write_card(out, kind, card);
+    Ok(card.position)
 }
 
 // Makes the card of the first column of a name in table t, at the start of the buffer, and says the column's position.
@@ -432,11 +406,10 @@ pub fn make_card(m: &[u8], t: usize, name: &[u8], out: &mut [u8]) -> Result<usiz
     ensures { Made (ask_made m.now t name.now (length out.old)) result out.old out.new }
 {
     let (position, column) = query::named_column(m, t, name)?;
-    put_card(
-        out,
-        column.name - LENGTH_SIZE,
+    let card = Card {
         position,
-        column.wire_type,
+        wire_type: column.wire_type,
         name,
-    )
+    };
+    put_card(out, column.name - LENGTH_SIZE, card)
 }

@@ -3,7 +3,7 @@
 // A read or a write that fails ends it with an error.
 #![tactic(auto)]
 
-ghost use Rattle.std.specs.Prelude.{◌≤◌, length};
+ghost use Rattle.std.specs.Prelude.{◌≤◌, length, IfSome};
 
 use format::Refusal;
 use reply::Head;
@@ -60,11 +60,7 @@ fn chart_area(rt: &impl Print, body: &[u8], start: usize) -> io::Result<()> {
 // ---- What each row's area is.
 
 fn row_count(reply: &[u8]) -> usize {
-    let answer = query::table(reply, 0);
-    match answer {
-        Ok(layout) => layout.rows,
-        Err(_) => 0,
-    }
+    query::table(reply, 0).map_or(0, |layout| layout.rows)
 }
 
 fn print_rows(rt: &impl Print, reply: &[u8], column: usize, rows: usize) -> io::Result<()> {
@@ -173,11 +169,7 @@ fn print_holes(rt: &impl Print, body: &[u8]) -> io::Result<()> {
 }
 
 fn ring_count(body: &[u8]) -> usize {
-    let answer = areas::rings(body);
-    match answer {
-        Ok(n) => n,
-        Err(_) => 0,
-    }
+    areas::rings(body).unwrap_or(0)
 }
 
 fn print_ring(rt: &impl Print, body: &[u8], ring: usize) -> io::Result<()> {
@@ -212,8 +204,10 @@ fn print_bits(rt: &impl Print, bits: Result<(u64, u64, u64), Refusal>) -> io::Re
 // Turns the holes in a copy, and passes that on. The message that the body is lent from stays as it came.
 fn turn_and_pass_on(rt: &impl Print, body: &[u8]) -> io::Result<()> {
     let mut copy = [0u8; ROOM];
-    let size = copy_into(body, &mut copy);
-    pass_on_turned(rt, &mut copy[0..size], body)
+    let Some(size) = copy_into(body, &mut copy) else {
+        return Ok(());
+    };
+    pass_on_turned(rt, &mut copy[..size], body)
 }
 
 fn pass_on_turned(rt: &impl Print, copy: &mut [u8], first: &[u8]) -> io::Result<()> {
@@ -223,15 +217,15 @@ fn pass_on_turned(rt: &impl Print, copy: &mut [u8], first: &[u8]) -> io::Result<
     Ok(())
 }
 
-// Copies all bytes if they fit, and none if they don't. Answers how many.
-fn copy_into(from: &[u8], to: &mut [u8]) -> usize
-    ensures { result ≤ length to.new }
+// Copies all bytes and answers how many, or copies none where they don't fit.
+fn copy_into(from: &[u8], to: &mut [u8]) -> Option<usize>
+    ensures { IfSome result (λ size. size ≤ length to.new) }
 {
     if to.len() < from.len() {
-        return 0;
+        return None;
     }
     to[..from.len()].copy_from_slice(from);
-    from.len()
+    Some(from.len())
 }
 
 // Turns the holes, and says how many rings the body has, or why it's refused. Answers whether they were turned.
@@ -264,15 +258,10 @@ fn written<'a>(
     answer: Result<usize, Refusal>,
 ) -> io::Result<&'a [u8]> {
     match answer {
-        Ok(n) => {
-            if out.len() < n {
-                return Ok(&out[0..0]);
-            }
-            Ok(&out[0..n])
-        }
+        Ok(n) => Ok(out.get(..n).unwrap_or(&out[..0])),
         Err(refusal) => {
             refuse(rt, refusal)?;
-            Ok(&out[0..0])
+            Ok(&out[..0])
         }
     }
 }
@@ -293,8 +282,10 @@ fn read_back(rt: &impl Print, reply: &[u8], first: &[u8]) -> io::Result<()> {
 // Turns the holes once more, which restores the body.
 fn turn_back(rt: &impl Print, turned: &[u8], first: &[u8]) -> io::Result<()> {
     let mut copy = [0u8; ROOM];
-    let size = copy_into(turned, &mut copy);
-    restore(rt, &mut copy[0..size], first)
+    let Some(size) = copy_into(turned, &mut copy) else {
+        return Ok(());
+    };
+    restore(rt, &mut copy[..size], first)
 }
 
 fn restore(rt: &impl Print, copy: &mut [u8], first: &[u8]) -> io::Result<()> {
@@ -346,11 +337,7 @@ fn finish_reply(out: &mut [u8], types: &[u8; write::COLUMNS], step: Outcome) -> 
 
 // The second of two steps, or the first where that was refused.
 fn after(first: Outcome, second: Outcome) -> Outcome {
-    let answer = first.answer;
-    if let Err(_) = answer {
-        return first;
-    }
-    second
+    if first.answer.is_err() { first } else { second }
 }
 
 // ---- The area, written anew by steps from what is read of it.
@@ -369,7 +356,7 @@ fn write_area(out: &mut [u8], body: &[u8]) -> outline::Outcome {
 }
 
 fn finish_area(out: &mut [u8], step: outline::Outcome, body: &[u8]) -> outline::Outcome {
-    let kept = area_block(query::part_at(body, areas::kept(body)));
+    let kept = block(query::part_at(body, areas::kept(body)));
     then(step, outline::finish(out, step.state, &kept))
 }
 
@@ -406,7 +393,7 @@ fn close_ring(
     body: &[u8],
     ring: usize,
 ) -> outline::Outcome {
-    let kept = ring_block(query::part_at(body, areas::ring_kept(body, ring)));
+    let kept = block(query::part_at(body, areas::ring_kept(body, ring)));
     then(step, outline::close_ring(out, step.state, &kept))
 }
 
@@ -437,22 +424,12 @@ fn put_vertex(
 
 // The second of two steps of an area, or the first where that was refused.
 fn then(first: outline::Outcome, second: outline::Outcome) -> outline::Outcome {
-    let answer = first.answer;
-    if let Err(_) = answer {
-        return first;
-    }
-    second
+    if first.answer.is_err() { first } else { second }
 }
 
-// Kept bytes as the steps take them: a block for a ring, and one for an area.
-fn ring_block(kept: &[u8]) -> [u8; format::RING_KEPT] {
-    let mut block = [0u8; format::RING_KEPT];
-    copy_into(kept, &mut block);
-    block
-}
-
-fn area_block(kept: &[u8]) -> [u8; format::AREA_KEPT] {
-    let mut block = [0u8; format::AREA_KEPT];
+// Kept bytes as the steps take them: a block for a ring or for an area.
+fn block<const N: usize>(kept: &[u8]) -> [u8; N] {
+    let mut block = [0u8; N];
     copy_into(kept, &mut block);
     block
 }

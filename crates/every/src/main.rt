@@ -142,12 +142,10 @@ fn login_request(rt: &impl Print) -> io::Result<bool> {
         b"harbour",
         b"a hash of 32 bytes, as SHA-256's",
     );
-    report(
-        rt,
-        "login request accepted",
-        frame_in(rt, &buffer, answer)?,
-        true,
-    )
+    let Some(frame) = frame_in(rt, &buffer, answer)? else {
+        return Ok(false);
+    };
+    report(rt, "login request accepted", frame, true)
 }
 
 fn login_response(rt: &impl Print) -> io::Result<bool> {
@@ -163,12 +161,10 @@ fn login_response(rt: &impl Print) -> io::Result<bool> {
         0x0a00_0001,
         b"6.0 harbour",
     );
-    report(
-        rt,
-        "login response accepted",
-        frame_in(rt, &buffer, answer)?,
-        true,
-    )
+    let Some(frame) = frame_in(rt, &buffer, answer)? else {
+        return Ok(false);
+    };
+    report(rt, "login response accepted", frame, true)
 }
 
 fn invocation(rt: &impl Print) -> io::Result<bool> {
@@ -176,7 +172,9 @@ fn invocation(rt: &impl Print) -> io::Result<bool> {
     buffer[0] = 3;
     let step = write_call(&mut buffer[1..]);
     let answer = step.answer;
-    let frame = frame_in(rt, &buffer, answer)?;
+    let Some(frame) = frame_in(rt, &buffer, answer)? else {
+        return Ok(false);
+    };
     report(
         rt,
         "invocation accepted, parameters as written",
@@ -190,10 +188,9 @@ fn response(rt: &impl Print) -> io::Result<bool> {
     let mut draft = [0u8; ROOM];
     let step = write_draft(&mut draft[1..]);
     let answer = step.answer;
-    let frame = frame_in(rt, &draft, answer)?;
-    if frame.len() == 0 {
+    let Some(frame) = frame_in(rt, &draft, answer)? else {
         return Ok(false);
-    }
+    };
     response_from(rt, message_in(frame))
 }
 
@@ -202,7 +199,9 @@ fn response_from(rt: &impl Print, draft: &[u8]) -> io::Result<bool> {
     buffer[0] = 4;
     let step = write_reply(&mut buffer[1..], draft);
     let answer = step.answer;
-    let frame = frame_in(rt, &buffer, answer)?;
+    let Some(frame) = frame_in(rt, &buffer, answer)? else {
+        return Ok(false);
+    };
     report(
         rt,
         "response accepted, cells as written",
@@ -213,42 +212,33 @@ fn response_from(rt: &impl Print, draft: &[u8]) -> io::Result<bool> {
 
 // ---- What is printed.
 
-// The byte of kind and the message behind it, by the answer of its last step. After a refusal that is printed, and this is empty.
+// The byte of kind and the message behind it, by the answer of its last step. A refusal is printed.
 fn frame_in<'a>(
     rt: &impl Print,
     buffer: &'a [u8; ROOM],
     answer: Result<usize, Refusal>,
-) -> io::Result<&'a [u8]> {
-    let whole: &[u8] = buffer;
+) -> io::Result<Option<&'a [u8]>> {
     match answer {
-        Ok(n) => {
-            if whole.len() <= n {
-                return Ok(&whole[0..0]);
-            }
-            Ok(&whole[0..n + 1])
-        }
+        Ok(n) => Ok(buffer.get(..=n)),
         Err(refusal) => {
             listing::print_refusal(rt, refusal)?;
-            Ok(&whole[0..0])
+            Ok(None)
         }
     }
 }
 
 // The message behind the byte of kind.
 fn message_in(frame: &[u8]) -> &[u8] {
-    if frame.len() == 0 {
-        return &frame[0..0];
-    }
-    &frame[1..]
+    frame.split_first().map_or(frame, |(_, m)| m)
 }
 
 // Prints the verdict on a message that was read back: the one given, where it is accepted and its values are those that were written, and then
 // its bytes and its field list. Answers whether it is so.
 fn report(rt: &impl Print, fine: &str, frame: &[u8], equal: bool) -> io::Result<bool> {
-    if frame.len() == 0 {
+    let Some((kind, m)) = frame.split_first() else {
         return Ok(false);
-    }
-    let verdict = message::accept(frame[0], &frame[1..]);
+    };
+    let verdict = message::accept(*kind, m);
     if let Err(refusal) = verdict {
         listing::print_refusal(rt, refusal)?;
         return Ok(false);
@@ -258,7 +248,7 @@ fn report(rt: &impl Print, fine: &str, frame: &[u8], equal: bool) -> io::Result<
         return Ok(false);
     }
     rt.println(fine)?;
-    print_bytes(rt, &frame[1..])?;
+    print_bytes(rt, m)?;
     let _ = listing::print(rt, frame)?;
     Ok(true)
 }
@@ -275,11 +265,7 @@ fn print_bytes(rt: &impl Print, bytes: &[u8]) -> io::Result<()> {
 
 // The second of two steps, or the first where that was refused.
 fn after(first: Outcome, second: Outcome) -> Outcome {
-    let answer = first.answer;
-    if let Err(_) = answer {
-        return first;
-    }
-    second
+    if first.answer.is_err() { first } else { second }
 }
 
 // A call with a parameter of each type, and arrays.
@@ -309,17 +295,9 @@ fn put_each(out: &mut [u8], before: Outcome) -> Outcome {
 // A parameter of a column's type, with its value.
 fn put_param(out: &mut [u8], step: Outcome, c: usize) -> Outcome {
     let st = step.state;
-    match c {
-        STRING_COLUMN => after(step, call::body_param(out, st, format::STRING, Some(&TEXT))),
-        VARBINARY_COLUMN => after(
-            step,
-            call::body_param(out, st, format::VARBINARY, Some(&BYTES)),
-        ),
-        GEOGRAPHY_COLUMN => after(
-            step,
-            call::body_param(out, st, format::GEOGRAPHY, Some(&SHAPE)),
-        ),
-        _ => {
+    match text(c) {
+        Some((wire_type, s)) => after(step, call::body_param(out, st, wire_type, Some(s))),
+        None => {
             let v = value(c);
             after(
                 step,
@@ -470,32 +448,12 @@ fn put_cell(
     c: usize,
 ) -> Outcome {
     let st = step.state;
-    match c {
-        STRING_COLUMN => after(
+    match text(c) {
+        Some((wire_type, s)) => after(
             step,
-            rows::body_cell(out, st, types, format::STRING, text_or_null(null, &TEXT)),
+            rows::body_cell(out, st, types, wire_type, text_or_null(null, s)),
         ),
-        VARBINARY_COLUMN => after(
-            step,
-            rows::body_cell(
-                out,
-                st,
-                types,
-                format::VARBINARY,
-                text_or_null(null, &BYTES),
-            ),
-        ),
-        GEOGRAPHY_COLUMN => after(
-            step,
-            rows::body_cell(
-                out,
-                st,
-                types,
-                format::GEOGRAPHY,
-                text_or_null(null, &SHAPE),
-            ),
-        ),
-        _ => {
+        None => {
             let v = value_or_null(null, c);
             after(
                 step,
@@ -541,20 +499,13 @@ fn copy_cell(
 
 // ---- What is written.
 
-// The type of a column.
-fn column(c: usize) -> u8 {
+// A column's value of no fixed size: its wire type and its bytes; none where the size is fixed.
+fn text(c: usize) -> Option<(u8, &'static [u8])> {
     match c {
-        0 => format::TINYINT,
-        1 => format::SMALLINT,
-        2 => format::INTEGER,
-        3 => format::BIGINT,
-        4 => format::FLOAT,
-        5 => format::STRING,
-        6 => format::TIMESTAMP,
-        7 => format::DECIMAL,
-        8 => format::VARBINARY,
-        9 => format::POINT,
-        _ => format::GEOGRAPHY,
+        STRING_COLUMN => Some((format::STRING, &TEXT)),
+        VARBINARY_COLUMN => Some((format::VARBINARY, &BYTES)),
+        GEOGRAPHY_COLUMN => Some((format::GEOGRAPHY, &SHAPE)),
+        _ => None,
     }
 }
 
@@ -578,23 +529,21 @@ fn value(c: usize) -> Bits {
 
 // The same, or what stands in the row of nulls: a null decimal, a null point, a NaN whose bits are kept, and zeros.
 fn value_or_null(null: bool, c: usize) -> Bits {
+    let v = value(c);
     if !null {
-        return value(c);
+        return v;
     }
     match c {
         4 => fixed(format::FLOAT, 0, 0xfff0_0000_0000_0001),
-        7 => fixed(format::DECIMAL, 0x8000_0000_0000_0000, 0),
+        DECIMAL_COLUMN => fixed(format::DECIMAL, 0x8000_0000_0000_0000, 0),
         POINT_COLUMN => fixed(format::POINT, format::DEGREES_360, format::DEGREES_360),
-        _ => fixed(column(c), 0, 0),
+        _ => fixed(v.wire_type, 0, 0),
     }
 }
 
 // The same of a text or binary value.
 fn text_or_null(null: bool, s: &[u8]) -> Option<&[u8]> {
-    if null {
-        return None;
-    }
-    Some(s)
+    (!null).then_some(s)
 }
 
 fn fixed(wire_type: u8, upper: u64, lower: u64) -> Bits {
@@ -624,11 +573,9 @@ fn each_is(m: &[u8]) -> bool {
 fn parameter_is(m: &[u8], c: usize) -> bool
     requires { c < 11 }
 {
-    match c {
-        STRING_COLUMN => parameter_text(m, c + 1, Some(&TEXT)),
-        VARBINARY_COLUMN => parameter_text(m, c + 1, Some(&BYTES)),
-        GEOGRAPHY_COLUMN => parameter_text(m, c + 1, Some(&SHAPE)),
-        _ => argument_is(query::parameter(m, c + 1), value(c)),
+    match text(c) {
+        Some((_, s)) => parameter_text(m, c + 1, Some(s)),
+        None => argument_is(query::parameter(m, c + 1), value(c)),
     }
 }
 
@@ -640,10 +587,7 @@ fn argument_is(answer: Result<Argument, Refusal>, v: Bits) -> bool {
 }
 
 fn is_null(answer: Result<Argument, Refusal>) -> bool {
-    match answer {
-        Ok(Argument::Null) => true,
-        _ => false,
-    }
+    matches!(answer, Ok(Argument::Null))
 }
 
 // Whether the arrays are those of `put_arrays`.
@@ -682,13 +626,7 @@ fn cells_are(m: &[u8]) -> bool {
 }
 
 fn shows_null_point(answer: Result<show::Cell, Refusal>) -> bool {
-    let Ok(cell) = answer else {
-        return false;
-    };
-    match cell {
-        Cell::NullPoint => true,
-        _ => false,
-    }
+    matches!(answer, Ok(Cell::NullPoint))
 }
 
 // Whether a row's cells are the columns' values, or nulls.
@@ -697,11 +635,9 @@ fn row_is(m: &[u8], row: usize, null: bool) -> bool {
 }
 
 fn is_at(m: &[u8], row: usize, null: bool, c: usize) -> bool {
-    match c {
-        STRING_COLUMN => cell_text(m, row, c, text_or_null(null, &TEXT)),
-        VARBINARY_COLUMN => cell_text(m, row, c, text_or_null(null, &BYTES)),
-        GEOGRAPHY_COLUMN => cell_text(m, row, c, text_or_null(null, &SHAPE)),
-        _ => shows(query::cell(m, 0, row, c), value_or_null(null, c)),
+    match text(c) {
+        Some((_, s)) => cell_text(m, row, c, text_or_null(null, s)),
+        None => shows(query::cell(m, 0, row, c), value_or_null(null, c)),
     }
 }
 
@@ -714,8 +650,7 @@ fn shows(answer: Result<show::Cell, Refusal>, v: Bits) -> bool {
 }
 
 fn cell_is(cell: Cell, v: Bits) -> bool {
-    let raw = show::raw_of(cell);
-    let Raw::Bits(wire_type, upper, lower) = raw else {
+    let Raw::Bits(wire_type, upper, lower) = show::raw_of(cell) else {
         return false;
     };
     wire_type == v.wire_type && upper == v.upper && lower == v.lower

@@ -112,50 +112,29 @@ fn print_now(rt: &impl Print, place: Option<usize>) -> io::Result<()> {
 
 // Prints the engine's limit, and whose bytes it was read from.
 fn print_limit(rt: &impl Print, reply: &[u8], column: usize) -> io::Result<()> {
-    let row = engine_row(reply);
-    let answer = cell_of(reply, row, column);
-    let Ok(cell) = answer else {
+    let Some(row) = engine_row(reply) else {
         return rt.println("no such engine");
     };
-    if let Cell::Decimal(_, lower) = cell {
+    let answer = cell_of(reply, row, column);
+    if let Ok(Cell::Decimal(_, lower)) = answer {
         print!(rt; "limit {lower} x 10^-12,")?;
     }
     print!(rt; " column {column}, row {row}")?;
     print_place(rt, reply, row, column)
 }
 
-// The row of the engine, or how many rows there are if none is its.
-fn engine_row(reply: &[u8]) -> usize {
-    let rows = row_count(reply);
-    let found = find_in(reply, b"ENGINE_ID");
-    match found {
-        Ok(column) => first_row(reply, column, rows),
-        Err(_) => rows,
-    }
-}
-
-fn first_row(reply: &[u8], column: usize, rows: usize) -> usize {
-    (0..rows)
-        .find(|row| is_engine(cell_of(reply, *row, column)))
-        .unwrap_or(rows)
+// The row of the engine, if one is its.
+fn engine_row(reply: &[u8]) -> Option<usize> {
+    let column = find_in(reply, b"ENGINE_ID").ok()?;
+    (0..row_count(reply)).find(|row| is_engine(cell_of(reply, *row, column)))
 }
 
 fn row_count(reply: &[u8]) -> usize {
-    let answer = layout_of(reply);
-    match answer {
-        Ok(layout) => layout.rows,
-        Err(_) => 0,
-    }
+    layout_of(reply).map_or(0, |layout| layout.rows)
 }
 
 fn is_engine(answer: Result<show::Cell, Refusal>) -> bool {
-    let Ok(cell) = answer else {
-        return false;
-    };
-    match cell {
-        Cell::Integer(n) => n == ENGINE,
-        _ => false,
-    }
+    matches!(answer, Ok(Cell::Integer(ENGINE)))
 }
 
 // ---- The questions to a reply's table, each by a reader over it.

@@ -45,14 +45,13 @@ pub fn print(rt: &impl Print, input: &[u8]) -> io::Result<Result<(), Refusal>>
 fn judge(input: &[u8]) -> Result<(), Refusal>
     ensures { told result ≡ listing_of input.now }
 {
-    if input.len() == 0 {
+    let Some((kind, m)) = input.split_first() else {
         return Err(refusal_at_0(Fault::WireType));
-    }
-    let kind = input[0];
+    };
     if input.len() <= MOST_INPUT {
-        return message::accept(kind, &input[1..]);
+        return message::accept(*kind, m);
     }
-    if is_kind(kind) {
+    if is_kind(*kind) {
         return Err(refusal_at_0(Fault::Limit));
     }
     Err(refusal_at_0(Fault::WireType))
@@ -83,13 +82,11 @@ pub fn print_refusal(rt: &impl Print, refusal: Refusal) -> io::Result<u8>
 
 // Window after window, until one isn't full. A field has at least one byte, so the list is no longer than the message.
 fn print_fields(rt: &impl Print, input: &[u8]) -> io::Result<()> {
-    if input.len() == 0 {
+    let Some((kind, m)) = input.split_first() else {
         return Ok(());
-    }
-    let kind = input[0];
-    let m = &input[1..];
+    };
     for first in (0..=m.len()).step_by(WINDOW) {
-        if !print_window(rt, kind, m, first)? {
+        if !print_window(rt, *kind, m, first)? {
             break;
         }
     }

@@ -32,11 +32,11 @@ fn judge_next<R: Read>(rt: &impl Print, input: &mut R) -> io::Result<bool> {
 }
 
 fn judge(rt: &impl Print, frame: &[u8]) -> io::Result<bool> {
-    if frame.len() == 0 {
+    let Some((kind, m)) = frame.split_first() else {
         rt.println("broken")?;
         return Ok(false);
-    }
-    let verdict = message::accept(frame[0], &frame[1..]);
+    };
+    let verdict = message::accept(*kind, m);
     match verdict {
         Ok(()) => {
             rt.println("accepted")?;

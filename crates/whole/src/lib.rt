@@ -250,11 +250,9 @@ fn ask_cells(
     requires { Opened (seen st types.now) size first }
     ensures { result ≡ shown_answer (answers_from bytes.now cells.now (seen st types.now) size 0 first) }
 {
-    // as a slice, so that its length is known from here on
-    let lent: &[u8] = types;
     let mut row = write::in_table(st, Stage::Row, first, st.position, 0, st.rows + 1);
-    for k in 0..cells.len() / 2 {
-        let n = ask_cell(row, types, cells[2 * k], cells[2 * k + 1], bytes, size)?;
+    for cell in cells.chunks_exact(2) {
+        let n = ask_cell(row, types, cell[0], cell[1], bytes, size)?;
         row = write::in_table(
             row,
             Stage::Row,

@@ -21,11 +21,11 @@ fit_in-requires c =
 pub returns-in_err-layout : goal.returns-in_err-layout
 returns-in_err-layout c =
     let a = c.args in
-    ap told_fit (handed_on c.from_residual.ensures) ∙ not_found (response_layout a.timed) tables_of (table_at a.timed) a.m.now a.t layout_of (λ at b. ok (fit_of b (a_card a.position a.wire_type a.name.now))) (sym (ap told c.in_err-layout.was) ∙ c.find_table.ensures)
+    ap told_fit (handed_on c.from_residual.ensures) ∙ not_found (response_layout a.timed) tables_of (table_at a.timed) a.m.now a.t layout_of (λ at b. ok (fit_of b (a_card a.card.position a.card.wire_type a.card.name.now))) (sym (ap told c.in_err-layout.was) ∙ c.find_table.ensures)
 
 pub returns : goal.returns
 returns c =
     let a = c.args in
     let all = bytes_all a.m.now (λ k. omega (arith, c.type_inv.m k)) in
     let o = opened a.timed a.m.now all a.t (sym (ap told c.in_ok-layout.was) ∙ c.find_table.ensures) in
-    ap ok (c.fit_in.ensures (laid o)) ∙ sym (asked o (λ at b. ok (fit_of b (a_card a.position a.wire_type a.name.now))))
+    ap ok (c.fit_in.ensures (laid o)) ∙ sym (asked o (λ at b. ok (fit_of b (a_card a.card.position a.card.wire_type a.card.name.now))))

@@ -10,8 +10,8 @@ overflow_add-end c =
     let a = c.args in
     omega (arith, c.name_at-start.ensures, name_fits a.m.now a.t a.card.now opened (form_is _ c.read_card.ensures c.in-Ok.is))
 
-pub slice_bounds-open_at-end : goal.slice_bounds-open_at-end
-slice_bounds-open_at-end c =
+pub slice_bounds-name-end : goal.slice_bounds-name-end
+slice_bounds-name-end c =
     let a = c.args in
     omega (arith, c.name_at-start.ensures, name_fits a.m.now a.t a.card.now opened (form_is _ c.read_card.ensures c.in-Ok.is))
 

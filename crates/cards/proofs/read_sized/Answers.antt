@@ -13,7 +13,7 @@ pub returns-then-not-is_held : goal.returns-then-not-is_held
 returns-then-not-is_held c =
     let a = c.args in
     let whole = c.if-card-size.false ∙ c.size_of-size.ensures in
-    let position = position_read a.kind a.card.now _ c.requires whole c.number_at-position.ensures in
+    let position = position_read a.kind a.card.now _ whole c.number_at-position.ensures in
     let held = ap (holds a.kind) (sym position) ∙ sym c.is_held.ensures ∙ not-true _ c.if-not-is_held.true-raw in
     ap Err c.wrong-then-not-is_held.ensures ∙ sym (ap shown_form (not_held a.card.now a.kind whole held))
 
@@ -21,7 +21,7 @@ pub returns : goal.returns
 returns c =
     let a = c.args in
     let whole = c.if-card-size.false ∙ c.size_of-size.ensures in
-    let position = position_read a.kind a.card.now _ c.requires whole c.number_at-position.ensures in
+    let position = position_read a.kind a.card.now _ whole c.number_at-position.ensures in
     let held = ap (holds a.kind) (sym position) ∙ sym c.is_held.ensures ∙ not-false _ c.if-not-is_held.false-raw in
     let at = type_place a.kind in
     c.read_rest.ensures

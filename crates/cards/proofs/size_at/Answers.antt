@@ -1,11 +1,8 @@
 -- `cards::size_at` meets its contract: the size of the kind that the position has. Assumes nothing.
 use mathlib.Core.Path.{◌∙◌, ap}
 use Rattle.cards.specs.Card.{card_size}
-use Rattle.cards.proofs.Forms.{kind_narrow, few_bytes}
+use Rattle.cards.proofs.Forms.{few_bytes}
 use Rattle.cards.proofs.size_at.Goals as goal
-
-pub size_of-requires : goal.size_of-requires
-size_of-requires c = rw c.kind_of.ensures (kind_narrow c.args.position)
 
 pub returns : goal.returns
 returns c =

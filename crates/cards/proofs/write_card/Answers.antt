@@ -9,6 +9,6 @@ use Rattle.cards.proofs.write_card.Goals as goal
 pub returns : goal.returns
 returns c =
     let a = c.args in
-    front_two a.out.now (front_bytes a.kind a.position) (rest_bytes (a_card a.position a.wire_type a.name.now)) _ _ (type_place a.kind) rest_size
-    (omega (arith, length-num_bytes a.kind.width a.position)) (rest_size_lem (a_card a.position a.wire_type a.name.now) c.requires.2) c.requires.1
+    front_two a.out.now (front_bytes a.kind a.card.position) (rest_bytes (a_card a.card.position a.card.wire_type a.card.name.now)) _ _ (type_place a.kind) rest_size
+    (omega (arith, length-num_bytes a.kind.width a.card.position)) (rest_size_lem (a_card a.card.position a.card.wire_type a.card.name.now) c.requires.1) c.requires.0
     c.write_front.ensures c.write_rest.ensures

@@ -1,7 +1,0 @@
--- `cards::padded` meets its contract: past the end stands the default. Assumes nothing.
-use mathlib.Core.Path.{sym}
-use lib.ListN.{get_or-eq_default}
-use Rattle.cards.proofs.padded.Goals as goal
-
-pub returns-else-k-s : goal.returns-else-k-s
-returns-else-k-s c = sym (get_or-eq_default c.args.s.now 0 c.if-k-s.false)
