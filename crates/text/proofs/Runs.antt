@@ -8,7 +8,7 @@ use lib.Seq.{drop-cons, drop-drop, get_or-drop}
 use lib.Dec.{ltb}
 use native.Mathlib.Omega.{arith}
 use borrow.Author.Tests.{lt-ltb, le-ltb, ltb-true, ltb-false}
-use Rattle.format.specs.declared.Fault.TheVariants.{Text}
+use Rattle.format.specs.declared.Fault.TheVariants.{Name, Text}
 use Rattle.format.specs.Result.{pick}
 use Rattle.format.specs.Format.{Verdict, fine, bad}
 use Rattle.format.specs.Value.{ascii_from}
@@ -58,6 +58,9 @@ module _ (from : ℕ → List ℕ → Verdict) (low : (k a : ℕ) (bs : List ℕ
 -- names
 pub ascii_low : (k a : ℕ) (bs : List ℕ) → a < 128 → ascii_from k (a ∷ bs) ≡ ascii_from (k + 1) bs
 ascii_low k a bs h = rw (lt-ltb a 128 h)
+
+pub ascii_stop : (b : List ℕ) (i : ℕ) → i < length b → 127 < get_or b i 0 → ascii_from i (drop i b) ≡ bad Name i
+ascii_stop b i h high = rw (drop-cons b i 0, le-ltb (get_or b i 0) 128 (omega arith))
 
 pub ascii_done : (b : List ℕ) (i : ℕ) → length b ≤ i → ascii_from i (drop i b) ≡ fine
 ascii_done b i h = let none : drop i b ≡ [] = drop_of_length-le b h in rw none
