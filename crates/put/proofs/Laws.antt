@@ -16,7 +16,7 @@ use Rattle.format.specs.Result.{pick}
 use Rattle.format.specs.Number.{num_bytes, null4}
 use Rattle.format.specs.Value.{width_of, t_tinyint, t_smallint, t_integer, t_bigint, t_float, t_timestamp, t_decimal, t_point}
 use Rattle.format.proofs.Numbers.{length-num_bytes}
-use Rattle.put.specs.Put.{put, sized}
+use Rattle.put.specs.Put.{put, optional, sized}
 
 back : (n a : ℕ) → a ≤ n → a + (n - a) ≡ n
 back n a l = omega arith
@@ -103,6 +103,17 @@ wrote_more xs n k i rest ys p w =
       so_far = rw s (ap (λ (zs : List ℕ). set zs (i - 1) (rest % 256)) w.so_far ∙ store_before xs i (rest % 256) (num_bytes (k - i) n ++ drop k xs) p (le_trans h r)
           ∙ ap (λ (m : ℕ). take (i - 1) xs ++ (m % 256 ∷ (num_bytes (k - i) n ++ drop k xs))) w.left);
     }
+
+pub wrote_length : (xs : List ℕ) (n k i rest : ℕ) (ys : List ℕ) → Wrote xs n k i rest ys → length ys ≡ length xs
+wrote_length xs n k i rest ys w =
+    let a = length-append (take i xs) (num_bytes (k - i) n ++ drop k xs) in
+    let b = length-append (num_bytes (k - i) n) (drop k xs) in
+    let c = length-num_bytes (k - i) n in
+    let d = length-take-le i xs (le_trans w.inside w.room) in
+    let e = length-drop k xs in
+    let h : i ≤ k = w.inside in
+    let r : k ≤ length xs = w.room in
+    omega (arith, ap length w.so_far)
 
 -- four bytes, stored one after the other, are a number's
 pub four_stored : (xs : List ℕ) (n : ℕ) → 4 ≤ length xs → set (set (set (set xs 0 (n / 16777216 % 256)) 1 (n / 65536 % 256)) 2 (n / 256 % 256)) 3 (n % 256) ≡ num_bytes 4 n ++ drop 4 xs
@@ -268,3 +279,7 @@ sized_some bs = length-append (num_bytes 4 (length bs)) bs ∙ ap (λ (m : ℕ).
 -- bounds, so that sums in the code fit
 pub width_most : (t : ℕ) → width_of t ≤ 16
 width_most = widths (λ w. w ≤ 16) (lit≤ tt) (lit≤ tt) (lit≤ tt) (lit≤ tt) (lit≤ tt) (lit≤ tt)
+
+pub sized_most : (null : Bool) (bs : List ℕ) → length (sized (optional null bs)) ≤ 4 + length bs
+sized_most true bs = omega (arith, sized_null)
+sized_most false bs = omega (arith, sized_some bs)
