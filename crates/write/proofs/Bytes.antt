@@ -1,5 +1,5 @@
 -- The bytes of values that have no fault, and how faults of texts are put together.
-use Prim.Native.Nat.{ℕ, ◌≤◌}
+use Prim.Native.Nat.{ℕ, ◌≤◌, ◌<◌}
 use mathlib.Core.Path.{◌≡◌, refl, sym, ap}
 use mathlib.Core.Bool.{Bool, true, not}
 use mathlib.Core.List.{List, [], ◌∷◌, ◌++◌}
@@ -7,7 +7,7 @@ use mathlib.Core.Option.{Option, some, none}
 use lib.ListN.{length}
 use lib.Dec.{leb, eqb}
 use native.Mathlib.Omega.{arith}
-use borrow.Author.Tests.{ne_eqb, le-leb, leb-true}
+use borrow.Author.Tests.{ne_eqb, le-leb, lt-leb, leb-true}
 use Rattle.format.specs.declared.Fault.{Fault}
 use Rattle.format.specs.declared.Fault.TheVariants.{Limit, Text}
 use Rattle.format.specs.Number.{num_bytes}
@@ -46,6 +46,11 @@ fault_found {rule} {from} {f} finds p bs = go (from bs) refl
 -- a text that isn't too long has one where it is torn
 pub text_short : (p : ℕ) (bs : List ℕ) → length bs ≤ most_bytes → text_fault utf8 p bs ≡ test (is_none (shown_at (utf8_from 0 0 bs))) Text p
 text_short p bs few = rw (le-leb (length bs) most_bytes few) (fault_found finds_texts p bs)
+
+-- a text that is too long
+module _ (p : ℕ) (bs : List ℕ) where
+  pub text_long : most_bytes < length bs → text_fault utf8 p bs ≡ bad Limit p
+  text_long h = rw (lt-leb (length bs) most_bytes h)
 
 -- a geography's bytes are counted, and then that there are some
 pub geography_fault : (p : ℕ) (bs : List ℕ) → text_fault not_empty p bs ≡ also (text_fault anything p bs) (placed p (not_empty bs))
