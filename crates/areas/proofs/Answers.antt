@@ -35,3 +35,7 @@ module _ (from sought : ℕ) where
 pub survey_go : (sought : ℕ) (r : Res Polygon) {a : Result Seen Refusal} {s : Seen} → a ≡ shown_survey sought r → a ≡ Ok s → (p : Polygon) × (r ≡ ok p) × (s ≡ survey_of sought p)
 survey_go sought (ok p) e told = (p, refl, cc)
 survey_go sought (no f p) e told = absurd (let z : ◌≡◌ {A = ℕ} 0 1 = cc in omega arith)
+
+pub survey_halt : (sought : ℕ) (r : Res Polygon) {a : Result Seen Refusal} {x : Refusal} → a ≡ shown_survey sought r → a ≡ Err x → r ≡ no x.fault x.place
+survey_halt sought (ok p) e told = absurd (let z : ◌≡◌ {A = ℕ} 0 1 = cc in omega arith)
+survey_halt sought (no f p) e told = cc

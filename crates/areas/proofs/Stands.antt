@@ -6,13 +6,13 @@ use lib.Seq.{take-length}
 use Rattle.format.specs.declared.Fault.{Fault}
 use Rattle.format.specs.declared.Fault.TheVariants.{Negative, Geography, PastEnd}
 use Rattle.format.specs.declared.Refusal.{Refusal}
-use Rattle.format.specs.Result.{Res, ok, no as refused, told}
+use Rattle.format.specs.Result.{Res, ok, no as refused, bind, told}
 use Rattle.format.specs.Number.{num_at, Bytes}
 use Rattle.format.specs.Format.{Format, number, block, ruled, into, both, nothing, each}
 use Rattle.format.specs.Message.{first, second, third}
 use Rattle.format.specs.Geography.{Vertex, Ring, Polygon, vertex, at_least, fewest_vertices, ring, ringed, polygon, ring_kept, body_kept, read_polygon}
 use Rattle.format.proofs.Numbers.{length-num_bytes}
-use Rattle.format.proofs.Results.{ok_same, bound}
+use Rattle.format.proofs.Results.{ok_same, no_ok, bound}
 use Rattle.format.proofs.Laws.{lawful_number}
 use Rattle.format.proofs.Lists.{All, each→all}
 use Rattle.format.proofs.Geography.{body→encodes}
@@ -23,7 +23,7 @@ use Rattle.places.proofs.Stands.{stands_read, stands_fits, stands_at_lem, stands
 use Rattle.places.proofs.Lists.{total, length-total, stands_entry, entry_in, entry_past}
 use Rattle.places.proofs.Layouts.{length-number}
 use Rattle.areas.specs.declared.RingLayout.{RingLayout}
-use Rattle.areas.specs.Answers.{ring_state, vertex_at, layout_at, ask_ring, ask_vertex, ask_ring_kept, told_bits, ring_in, bits_in}
+use Rattle.areas.specs.Answers.{ring_state, vertex_at, of_ring, layout_at, ask_ring, ask_vertex, ask_ring_kept, told_bits, ring_in, bits_in}
 use Rattle.areas.proofs.Rounds.{after_count, after_mark}
 use Rattle.areas.proofs.Surveys.{ring_place, after_head}
 
@@ -194,6 +194,25 @@ module _ {b : List ℕ} {n : ℕ} {l : RingLayout} (f : Found b n l) where
 
   pub vertex_past : (v : ℕ) → l.vertices ≤ v → ask_vertex b n v ≡ refused PastEnd 0
   vertex_past v h = rw (f.accepted, f.is) (entry_past f.ring_of.vertices v (rw (← found_count) h))
+
+-- one that isn't there is refused to whoever asks for it
+module _ {A : Type 0} (ask : ℕ → Ring → Res A) (b : List ℕ) (n : ℕ) {f : Fault} {k : ℕ} where
+  none_in : (p : Polygon) (r : Res Ring) → bind r (λ x. ok (layout_at (ring_state p n) x)) ≡ refused f k → bind r (ask (ring_state p n)) ≡ refused f k
+  none_in p (ok x) e = absurd (no_ok (sym e))
+  none_in p (refused g q) e = ap₂ (λ (h : Fault) (i : ℕ). refused h i) (cc) (cc)
+
+  none_of : (r : Res Polygon) → bind r (λ p. bind (entry p.rings n) (λ x. ok (layout_at (ring_state p n) x))) ≡ refused f k → bind r (λ p. bind (entry p.rings n) (ask (ring_state p n))) ≡ refused f k
+  none_of (ok p) e = none_in p (entry p.rings n) e
+  none_of (refused g q) e = ap₂ (λ (h : Fault) (i : ℕ). refused h i) (cc) (cc)
+
+  ring_none : ask_ring b n ≡ refused f k → of_ring b n ask ≡ refused f k
+  ring_none e = none_of (read_polygon b) e
+
+pub kept_none : (b : List ℕ) (n : ℕ) {f : Fault} {k : ℕ} → ask_ring b n ≡ refused f k → ask_ring_kept b n ≡ refused f k
+kept_none b n = ring_none (λ at r. ok (some (vertex_at at r (length r.vertices), ring_kept))) b n
+
+pub vertex_none : (b : List ℕ) (n v : ℕ) {f : Fault} {k : ℕ} → ask_ring b n ≡ refused f k → ask_vertex b n v ≡ refused f k
+vertex_none b n v = ring_none (λ at r. entry r.vertices v) b n
 
 -- the refusal past the end
 pub past_told : {A : Type 0} {r : Refusal} → (r.fault ≡ PastEnd) × (r.place ≡ 0) → ◌≡◌ {A = Res A} (refused r.fault r.place) (refused PastEnd 0)
