@@ -248,14 +248,18 @@ module _ (bs : List ℕ) where
     unfolding card_form
     no_kind n = rw (ne_eqb _ _ other, ne_eqb _ _ n)
 
-  module _ (k : Kind) (size : length bs ≡ card_size k) where
-    pub not_held : holds k (position_in k bs) ≡ false → sized k bs ≡ no CardForm position_place
-    unfolding card_body
-    not_held h = rw (eq-eqb _ _ size, h)
+  module _ (k : Kind) where
+    pub other_size : (length bs ≡ card_size k → ⊥) → sized k bs ≡ no CardForm (min (length bs) (card_size k))
+    other_size n = rw (ne_eqb _ _ n)
 
-    pub is_held : holds k (position_in k bs) ≡ true → sized k bs ≡ card_rest (type_place k) (position_in k bs) (drop (type_place k) bs)
-    unfolding card_body
-    is_held h = rw (eq-eqb _ _ size, h)
+    module _ (size : length bs ≡ card_size k) where
+      pub not_held : holds k (position_in k bs) ≡ false → sized k bs ≡ no CardForm position_place
+      unfolding card_body
+      not_held h = rw (eq-eqb _ _ size, h)
+
+      pub is_held : holds k (position_in k bs) ≡ true → sized k bs ≡ card_rest (type_place k) (position_in k bs) (drop (type_place k) bs)
+      unfolding card_body
+      is_held h = rw (eq-eqb _ _ size, h)
 
 module _ (at p : ℕ) (bs : List ℕ) where
   pub no_column : is_column (get_or bs 0 0) ≡ false → card_rest at p bs ≡ no CardForm at

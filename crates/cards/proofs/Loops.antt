@@ -1,5 +1,5 @@
 -- One turn of each loop, over a card's name and over two names at once; and the parts of a card that is written.
-use Prim.Native.Nat.{ℕ, ◌+◌, ◌-◌, ◌<◌, ◌≤◌}
+use Prim.Native.Nat.{ℕ, zero, suc, ◌+◌, ◌-◌, ◌<◌, ◌≤◌}
 use mathlib.Core.Path.{◌≡◌, refl, sym, ◌∙◌, ap, ap₂}
 use mathlib.Core.Bool.{Bool, true, false}
 use mathlib.Core.List.{List, [], ◌∷◌, ◌++◌}
@@ -18,7 +18,7 @@ use Rattle.query.proofs.Ends.{EqualFrom, equal_from_end}
 use Rattle.query.proofs.Names.{same_yes, same_no}
 use Rattle.std.proofs.lemmas.List.{append_assoc, take_at, drop_at, drop-drop}
 use borrow.Rule.Slice.PartMut.{put_mid}
-use Rattle.cards.specs.Card.{a_card, rest_size, position_place, type_place, front_bytes, rest_bytes, most_name, name_byte, wrong_from}
+use Rattle.cards.specs.Card.{Card, a_card, rest_size, position_place, type_place, front_bytes, rest_bytes, most_name, name_byte, wrong_from}
 use Rattle.cards.specs.declared.kind.Kind.{Kind}
 use Rattle.cards.specs.Shown.{shown_wrong}
 
@@ -90,3 +90,18 @@ front_put [] k position h = absurd (omega arith)
 front_put (b ∷ out) k position h =
     let size : position_place + length (num_bytes k.width position) ≡ type_place k = omega (arith, length-num_bytes k.width position) in
     ap (λ (n : ℕ). k.number ∷ (num_bytes k.width position ++ drop n (b ∷ out))) size
+
+-- byte j of some bytes and the zeros after them
+pub zeros_after : (bs : List ℕ) (n j : ℕ) → get_or (bs ++ replicate n 0) j 0 ≡ get_or bs j 0
+zeros_after [] zero j = refl
+zeros_after [] (suc n) zero = refl
+zeros_after [] (suc n) (suc j) = zeros_after [] n j
+zeros_after (b ∷ bs) n zero = refl
+zeros_after (b ∷ bs) n (suc j) = zeros_after bs n j
+
+pub byte_after : (c : Card) (k : ℕ) → 2 ≤ k → get_or (rest_bytes c) k 0 ≡ get_or c.name (k - 2) 0
+byte_after c zero h = absurd (omega arith)
+byte_after c (suc zero) h = absurd (omega arith)
+byte_after c (suc (suc j)) h =
+    let back : suc (suc j) - 2 ≡ j = omega arith in
+    rw back (zeros_after c.name (most_name - length c.name) j)
