@@ -25,6 +25,10 @@ use Rattle.columns.specs.Short.{name_fine}
 use Rattle.columns.proofs.Metadata.{columns_length, types_same}
 
 -- what the code found, and what it says
+pub check_is : (x : Result Unit Refusal) (v : Verdict) → verdict_of x ≡ v → x ≡ check_of v
+check_is (Ok u) v e = ap check_of e
+check_is (Err r) v e = ap check_of e
+
 said : (v : Verdict) → verdict_of (check_of v) ≡ v
 said fine = refl
 said (bad f p) = refl
