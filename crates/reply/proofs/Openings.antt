@@ -1,5 +1,6 @@
 -- A response's fields before its table count: the parts that the code writes are the plan's bytes, and its tests give the plan's answer.
 use Prim.Native.Nat.{ℕ, ◌+◌, ◌*◌, ◌≤◌, ◌%◌}
+use native.Mathlib.Nat.{zero-add}
 use native.Mathlib.Omega.{arith}
 use mathlib.Core.Path.{◌≡◌, refl, sym, ap, ap₂, ◌∙◌}
 use mathlib.Core.Bool.{Bool, true, false}
@@ -7,7 +8,7 @@ use mathlib.Core.List.{List, [], ◌++◌, append_assoc}
 use mathlib.Core.Option.{Option, some, none}
 use lib.ListN.{length, length-append}
 use lib.Dec.{leb, eqb}
-use Rattle.std.specs.Prelude.{Result, Err}
+use Rattle.std.specs.Prelude.{Result, Ok, Err}
 use Rattle.format.specs.declared.Fault.TheVariants.{Version, Flags}
 use Rattle.format.specs.declared.Refusal.{Refusal}
 use Rattle.format.specs.Result.{pick}
@@ -27,7 +28,7 @@ use Rattle.write.specs.Shown.{zero, seen, shown_answer, Stepped}
 use Rattle.steps.proofs.Back.{also_fine}
 use Rattle.steps.proofs.Reply.{head, begin_bytes_lem}
 use Rattle.write.proofs.Bytes.{text_few}
-use Rattle.write.proofs.Taken.{answered, step_refused}
+use Rattle.write.proofs.Taken.{answered, step_refused, step_accepted}
 use Rattle.reply.specs.declared.Head.{Head}
 use Rattle.reply.specs.Opening.{opening_of, begin_fault, let_in, status_part, app_part, exception_part, begin_size, front_bytes, middle_bytes, end_bytes, begin_bytes}
 
@@ -132,6 +133,17 @@ module _ (h : Head) (client : List ℕ) (status app : Option (List ℕ)) (except
       → a ≡ shown_answer (answer_of (plan (begin_reply h.version (opening_of h client status app exception)) (seen zero []) size) size)
   unfolding opening_fault
   begin_answer e = answered (plan (begin_reply h.version (opening_of h client status app exception)) (seen zero []) size) size e refl refl (λ u w. (refl, sym (begin_length h client status app exception eight)))
+
+-- where a begin that is taken ends
+pub record Whole (n sum size : ℕ) : Type 0 where
+  pub is : n ≡ sum
+  pub room : n ≤ size
+
+pub begin_ends : (h : Head) (client : List ℕ) (status app : Option (List ℕ)) (exception b : List ℕ) {a : Result ℕ Refusal} {n : ℕ} → length client ≡ 8
+    → a ≡ shown_answer (answer_at true (begin_fault h status app exception) true 0 (begin_size h status app exception) (length b)) → a ≡ Ok n → Whole n (begin_size h status app exception) (length b)
+begin_ends h client status app exception b eight e f =
+    let t = step_accepted (begin_reply h.version (opening_of h client status app exception)) zero b [] (begin_answer h client status app exception (length b) eight e) f in
+    record { is = t.reached ∙ zero-add _ ∙ begin_length h client status app exception eight; room = t.fits }
 
 -- a begin that is refused gives back that nothing is open
 pub begin_refused : (s : Step) (b : List ℕ) {none : Code} {a : Result ℕ Refusal} {x : Refusal} → none ≡ zero → a ≡ shown_answer (answer_of (plan s (seen zero []) (length b)) (length b)) → a ≡ Err x
