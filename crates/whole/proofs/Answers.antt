@@ -28,6 +28,7 @@ use Rattle.steps.proofs.Sound.{Around, around, at_stage_lem}
 use Rattle.write.specs.declared.State.{State as Code}
 use Rattle.write.specs.Shown.{seen, types_in}
 use Rattle.write.specs.Shared.{tabled, count_in}
+use Rattle.rows.proofs.Cells.{cell_counts}
 use Rattle.whole.specs.Rows.{value_in, cell_step, steps_from}
 use Rattle.whole.specs.Asked.{asked, type_now, answers, in_row, row_answer, rest_answer, answers_from, opens, Opened, EndOf, PastAll, Sure}
 
@@ -194,6 +195,14 @@ tabled_seen st types n at cells rows h =
 
 pub tabled_few : (st : Code) (n at cells rows : ℕ) → st.columns ≤ most_columns → (tabled st Row n at cells rows).columns ≤ most_columns
 tabled_few st n at cells rows h = rw (le-leb st.columns most_columns h) h
+
+-- a cell that is taken is one of the most columns
+pub asked_counts : (bytes ns : List ℕ) (st : Code) (types : List ℕ) (size k : ℕ) {n : ℕ} → asked (cell_of bytes ns (seen st types) k) (seen st types) size ≡ ok n → st.inner_count + 1 ≤ most_columns
+asked_counts bytes ns st types size k {n} e = go (value_in bytes (type_now (seen st types)) (get_or ns (2 * k) 0) (get_or ns (2 * k + 1) 0)) e
+  where
+    go : (v : Option Value) → asked (cell_step (type_now (seen st types)) v) (seen st types) size ≡ ok n → st.inner_count + 1 ≤ most_columns
+    go none e = absurd (no_ok e)
+    go (some v) e = let t = type_now (seen st types) in cell_counts st types size t v (answer_ok (plan (cell t v) (seen st types) size) size n e)
 
 -- cells that are passed, one after the other, where the types that are lent are those of the columns
 module _ (bytes ns types : List ℕ) (from end : ℕ) where
