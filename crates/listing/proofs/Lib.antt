@@ -1,2 +1,3 @@
--- The proofs: numbers as text.
+-- The proofs: counts of digits, and numbers as text.
+pub mod Powers
 pub mod Spelled

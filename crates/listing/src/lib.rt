@@ -74,7 +74,7 @@ pub fn print_refusal(rt: &impl Print, refusal: Refusal) -> io::Result<u8>
     ensures { IfOk result (λ number. number ≡ number_of refusal.fault) }
 {
     let fault = refusal.fault;
-    let number = u8::from(fault);
+    let number = format::number_of(fault);
     let place = refusal.place;
     println!(rt; "refused {number} {place}")?;
     Ok(number)

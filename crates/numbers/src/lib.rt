@@ -40,7 +40,7 @@ pub fn refused(refusal: Refusal) -> u64
 {
     let fault = refusal.fault;
     let place = refusal.place;
-    above(place) + u8::from(fault) as u64
+    above(place) + format::number_of(fault) as u64
 }
 
 // The answer of a call that has no state, packed.

@@ -16,7 +16,14 @@ use Rattle.show.specs.declared.Cell.{Cell}
 use Rattle.show.specs.Cells.{cell_of, fixed_cell, plain_cell, body_cell}
 use Rattle.places.specs.Stands.{Stands}
 use Rattle.places.proofs.Values.{body_stands}
-use Rattle.query.specs.Answers.{part_of, span_in}
+use Rattle.std.specs.Prelude.{Ok, Err, Some, None}
+use Rattle.query.specs.Answers.{Part, part_of, span_in, told_part}
+
+-- an answer that tells no part tells the empty one
+pub no_span : (span : Part) → ((start size : ℕ) → span ≡ Ok (Some (start, size)) → ⊥) → span_in (told_part span) ≡ (0, 0)
+no_span (Ok (Some (start, size))) other = absurd (other start size refl)
+no_span (Ok None) other = refl
+no_span (Err r) other = refl
 
 -- what a cell gives as a part
 record Gives (p : ℕ) (cell : Cell) (r : Res (Option (ℕ × ℕ))) : Type 0 where
