@@ -16,7 +16,7 @@ use Rattle.put.specs.Put.{put}
 use Rattle.query.specs.Answers.{same}
 use Rattle.query.proofs.Ends.{EqualFrom, equal_from_end}
 use Rattle.query.proofs.Names.{same_yes, same_no}
-use Rattle.std.proofs.lemmas.List.{append_assoc, take_at, drop_at, drop-drop}
+use Rattle.std.proofs.lemmas.List.{append_assoc, take_at, drop_at, drop-drop, drop-append-le, drop-replicate, length-replicate}
 use borrow.Rule.Slice.PartMut.{put_mid}
 use Rattle.cards.specs.Card.{Card, a_card, rest_size, position_place, type_place, front_bytes, rest_bytes, most_name, name_byte, wrong_from}
 use Rattle.cards.specs.declared.kind.Kind.{Kind}
@@ -82,6 +82,20 @@ rest_put (a ∷ b ∷ os) name zs t k m n room few e f g z =
     ∙ ap₂ (λ (xs ys : List ℕ). xs ++ (zs ++ ys)) before after
     ∙ ap (λ (l : List ℕ). front ++ (l ++ drop most_name os)) (z ∙ ap (λ (j : ℕ). replicate j 0) (g ∙ f))
     ∙ ap (λ (l : List ℕ). t ∷ length name ∷ l) (sym (append_assoc name (replicate (most_name - length name) 0) (drop most_name os)))
+
+-- the same where the room of the longest name is filled with zeros, and the name put into it
+pub name_put : (out name zs : List ℕ) (t m n : ℕ) → rest_size ≤ length out → length name ≤ most_name → m ≡ most_name → n ≡ m → zs ≡ replicate n 0
+    → put (put_mid 2 m (set (set out 0 t) 1 (length name)) zs) 2 name ≡ rest_bytes (a_card 0 t name) ++ drop rest_size out
+unfolding put
+name_put [] name zs t m n room few e f z = absurd (omega arith)
+name_put (a ∷ []) name zs t m n room few e f z = absurd (omega arith)
+name_put (a ∷ b ∷ os) name zs t m n room few e f z =
+    let l = length name in
+    let whole : zs ++ drop m os ≡ replicate most_name 0 ++ drop most_name os = ap₂ (λ (xs : List ℕ) (k : ℕ). xs ++ drop k os) (z ∙ ap (λ (k : ℕ). replicate k 0) (f ∙ e)) e in
+    let left : drop l (replicate most_name 0 ++ drop most_name os) ≡ replicate (most_name - l) 0 ++ drop most_name os =
+    drop-append-le l (replicate most_name 0) (drop most_name os) (simp length-replicate few) ∙ ap (λ (xs : List ℕ). xs ++ drop most_name os) (drop-replicate l most_name 0) in
+    ap (λ (xs : List ℕ). t ∷ l ∷ (name ++ xs)) (sym (drop-drop l 2 (t ∷ l ∷ (zs ++ drop m os))) ∙ ap (drop l) whole ∙ left)
+    ∙ ap (λ (xs : List ℕ). t ∷ l ∷ xs) (sym (append_assoc name (replicate (most_name - l) 0) (drop most_name os)))
 
 -- a card's front: its position is put behind its first byte, and then that byte
 pub front_put : (out : List ℕ) (k : Kind) (position : ℕ) → type_place k ≤ length out → set (put out position_place (num_bytes k.width position)) 0 k.number ≡ front_bytes k position ++ drop (type_place k) out

@@ -354,11 +354,11 @@ fn write_rest(out: &mut [u8], wire_type: u8, name: &[u8])
     requires { (rest_size ≤ length out.old) × (length name.now ≤ most_name) }
     ensures { out.new ≡ rest_bytes (a_card 0 wire_type name.now) ++ drop rest_size out.old }
 {
-    let end = NAME + name.len();
     out[TYPE] = wire_type;
     out[LENGTH] = name.len() as u8;
-    out[NAME..end].copy_from_slice(name);
-    out[end..REST].fill(0);
+    // the room of the longest name, whose size is fixed, and then the name by `put`: for a size that isn't known the compiler would ask for memset and memmove
+    out[NAME..REST].fill(0);
+    put::bytes_at(out, NAME, name);
 }
 
 // Writes the kind of a card and its position, to the start of a buffer that has room for them.
